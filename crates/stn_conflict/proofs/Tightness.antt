@@ -1,7 +1,6 @@
-use Rattle.std.proofs.Common.{◌≡◌, ℕ, true, ◌<◌, List, length, take, sym, subst, ap, ◌∙◌, arith}
+use Rattle.std.proofs.Common.{◌≡◌, ℕ, ◌<◌, List, length, take, sym, subst, ap, ◌∙◌, arith}
 use Rattle.std.specs.Prelude.{ℤ, pos, ◌+ℤ◌, ◌-ℤ◌, ◌≤ℤ◌}
 use Rattle.std.specs.List.{All}
-use lib.Signed.{le_z}
 use Rattle.std.proofs.{lemmas.Int.ints, lemmas.List.get_or-take, lemmas.List.Elements.All-take}
 use Rattle.stn_net.specs.{Difference.Difference, Schedule.Meets, Schedule.IsSchedule}
 use Rattle.stn_net.proofs.Tightest.{tightest_unique}

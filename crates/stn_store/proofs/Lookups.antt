@@ -1,7 +1,7 @@
 -- What stands under a name, entry by entry.
 use Rattle.std.proofs.Common.{◌≡◌, ℕ, ◌+◌, ◌<◌, Bool, true, false, List, [], ◌∷◌, ◌++◌, length, map, take, get_or, Option, Some, None, refl, sym, ap, ◌∙◌}
 use Rattle.std.specs.{Bool.then_some, Option.option_or, Str.bytes_eq}
-use Rattle.std.proofs.lemmas.List.{take_more}
+use Rattle.std.proofs.lemmas.List.{take_more, map_push}
 use Rattle.stn_store.specs.{Memory.entry_of, Store.Entry, Store.bytes_under, declared.memory.NamedBytes.NamedBytes}
 
 or_none : {X : Type 0} (o : Option X) → option_or o None ≡ o
@@ -11,10 +11,6 @@ or_none (Some x) = refl
 or_assoc : {X : Type 0} (a b c : Option X) → option_or (option_or a b) c ≡ option_or a (option_or b c)
 or_assoc None b c = refl
 or_assoc (Some x) b c = refl
-
-map_more : {X Y : Type 0} (f : X → Y) (xs : List X) (x : X) → map f (xs ++ x ∷ []) ≡ map f xs ++ f x ∷ []
-map_more f [] x = refl
-map_more f (y ∷ xs) x = ap (λ rest. f y ∷ rest) (map_more f xs x)
 
 -- the last entry comes first
 under_more : (entries : List Entry) (entry : Entry) (name : List ℕ)
@@ -30,7 +26,7 @@ under_next : {A : Type 0} (all : List (NamedBytes A)) (place : ℕ) (one : Named
     ≡ option_or (then_some (bytes_eq (entry_of one).name name) (entry_of one).bytes) (bytes_under (map entry_of (take place all)) name)
 under_next all place one name within at =
     ap (λ some. bytes_under (map entry_of some) name) (take_more all place one within ∙ ap (λ here. take place all ++ here ∷ []) (sym at))
-    ∙ ap (λ entries. bytes_under entries name) (map_more entry_of (take place all) one)
+    ∙ ap (λ entries. bytes_under entries name) (map_push entry_of (take place all) one)
     ∙ under_more (map entry_of (take place all)) (entry_of one) name
 
 -- it stands under the name, or what was found before does

@@ -1,5 +1,5 @@
 -- Which fault an answer is, and what it counts.
-use Rattle.std.proofs.Common.{◌≡◌, ℕ, ◌+◌, ◌-◌, ◌^◌, ◌<◌, Bool, true, false, min, Result, Err, refl, sym, ap, ◌∙◌, arith}
+use Rattle.std.proofs.Common.{◌≡◌, Bool, true, false, Result, Err, refl, sym, ap, ◌∙◌}
 use Rattle.std.proofs.lemmas.Bool.{false≢true}
 use Rattle.stn_device.proofs.Known.{fault_or}
 use Rattle.stn_lift.specs.declared.fault.BaseFault.{BaseFault}
@@ -8,10 +8,6 @@ use Rattle.stn_site.specs.declared.faults.ReplicaFault.{ReplicaFault}
 use Rattle.stn_site.specs.declared.faults.ReplicaFault.TheVariants as replica
 use Rattle.stn_store.specs.{Log.Faults.of_base, Log.Faults.of_replica, declared.log.fault.LoadFault.LoadFault}
 use Rattle.stn_store.specs.declared.log.fault.LoadFault.TheVariants.{Read, Bound}
-
--- one more call failed
-pub fails_more : (first old new : ℕ) → new ≡ min (old + 1) (2 ^ 64 - 1) → old ≡ first → first < 2 ^ 64 - 1 → first < new
-fails_more first old new counts kept few = omega (arith, counts, kept, few)
 
 -- whether reading failed or went on too long, and no frame was refused
 abbrev pub is_cut_off : LoadFault → Bool

@@ -1,7 +1,8 @@
 -- Bytes have one meaning as a log.
-use Rattle.std.proofs.Common.{◌≡◌, ℕ, Bool, List, [], ◌∷◌, ◌++◌, length, Option, Some, None, Result, Ok, Err, inl, refl, sym, ap, subst, ◌∙◌, ⊎_elim, arith, append_assoc}
+use Rattle.std.proofs.Common.{◌≡◌, ℕ, Bool, List, [], ◌∷◌, ◌++◌, length, Option, Some, Result, Ok, Err, inl, refl, sym, ap, subst, ◌∙◌, ⊎_elim, arith, append_assoc}
 use Rattle.std.specs.{Prelude.option_map, List.flat_map, List.AllByRecursion}
 use Rattle.std.proofs.lemmas.Bool.{false≢true}
+use Rattle.std.proofs.lemmas.Option.{same_Some, none-some}
 use Rattle.stn_wire.specs.{Frame.FrameContent, Frame.spelling, Frame.IsFrame, Front.Front, Front.whole, Front.faulty, Front.unfinished, Front.IsFront, declared.fault.WireFault.WireFault}
 use Rattle.stn_wire.proofs.Fronts.{whole_spelled}
 use Rattle.stn_store.specs.{Log.Log, Log.LogSoFar, Log.taken, Log.all_taken, Log.all_taken_by, Log.IsEnding, Log.IsAnswer, Log.IsRest, declared.log.fault.LoadFault.LoadFault}
@@ -18,12 +19,6 @@ apart fault e = absurd cc
 
 one_fault : (f g : WireFault) → faulty f ≡ faulty g → f ≡ g
 one_fault f g e = cc
-
-one_some : {X : Type 0} (x y : X) → Some x ≡ Some y → x ≡ y
-one_some x y e = cc
-
-not_none : {X : Type 0} (x : X) → Some x ≡ None → ⊥
-not_none x e = absurd cc
 
 module _ (fronts : (bytes : List ℕ) (a b : Front) → IsFront bytes a → IsFront bytes b → a ≡ b)
     (spellings : (f g : FrameContent) (x y : List ℕ) → IsFrame f → IsFrame g → spelling f ++ x ≡ spelling g ++ y → (f ≡ g) × (x ≡ y)) where
@@ -47,9 +42,9 @@ module _ (fronts : (bytes : List ℕ) (a b : Front) → IsFront bytes a → IsFr
 
   -- a whole log is no other answer
   whole_alone : (more : Bool) (log : Option LogSoFar) (behind : List ℕ) (one : Log) (meaning : Result Log LoadFault) → IsEnding more behind log (Ok one) → IsEnding more behind log meaning → Ok one ≡ meaning
-  whole_alone more log behind one (Ok other) p q = ap Ok (one_some one other (sym p.2 ∙ q.2))
+  whole_alone more log behind one (Ok other) p q = ap Ok (same_Some one other (sym p.2 ∙ q.2))
   whole_alone more log behind one (Err (Frame fault)) p q = absurd (apart fault (fronts behind (faulty fault) unfinished q (nothing behind p.1)))
-  whole_alone more log behind one (Err LogForm) p q = absurd (⊎_elim (λ none. not_none one (sym p.2 ∙ ap (option_map (λ (begun : LogSoFar). begun.log)) none)) (λ some. omega (arith, some, ap length p.1)) q.2)
+  whole_alone more log behind one (Err LogForm) p q = absurd (⊎_elim (λ none. none-some one (sym (sym p.2 ∙ ap (option_map (λ (begun : LogSoFar). begun.log)) none))) (λ some. omega (arith, some, ap length p.1)) q.2)
   whole_alone more log behind one (Err Bound) p q = absurd (false≢true (sym p.0 ∙ q.0))
   whole_alone more log behind one (Err Read) p q = absurd q
   whole_alone more log behind one (Err (Base fault)) p q = absurd q

@@ -1,7 +1,7 @@
 -- A log that is read frame by frame.
-use Rattle.std.proofs.Common.{◌≡◌, ℕ, ◌+◌, ◌-◌, ◌<◌, ◌≤◌, Bool, true, false, ltb, List, [], ◌∷◌, ◌++◌, length, take, Option, Some, None, Result, Ok, Err, IfSome, inl, inr, refl, sym, ap, subst, ◌∙◌, arith, append_assoc, append-nil, length-append}
+use Rattle.std.proofs.Common.{◌≡◌, ℕ, ◌+◌, ◌-◌, ◌<◌, ◌≤◌, Bool, true, false, List, [], ◌∷◌, ◌++◌, length, take, Option, Some, None, Result, Ok, Err, IfSome, inl, inr, refl, sym, ap, subst, ◌∙◌, arith, append_assoc, append-nil, length-append}
 use Rattle.std.specs.{Prelude.nat_lt, Prelude.is_some, Prelude.option_map, Io.KnownBytes.Consumes, Io.KnownBytes.IsAtEnd, List.flat_map, List.AllByRecursion}
-use Rattle.std.proofs.{KnownBytes.Consumes-nil, KnownBytes.Consumes-trans, Math.Seq.take-append-add, lemmas.List.take_all, lemmas.List.take_at, lemmas.Bool.false≢true, lemmas.Bool.Decides.nat_tests, lemmas.Grind.flat_map-append}
+use Rattle.std.proofs.{KnownBytes.Consumes-nil, KnownBytes.Consumes-trans, Math.Seq.take-append-add, lemmas.List.take_all, lemmas.List.take_at, lemmas.Bool.false≢true, lemmas.Bool.le-ltb, lemmas.Bool.lt-ltb, lemmas.Grind.flat_map-append}
 use Rattle.stn_device.specs.Bytes.{most_bytes, ConsumesAtMost}
 use Rattle.stn_time.proofs.Each.{each_pushed}
 use Rattle.stn_device.specs.declared.whole.ReadFault.{ReadFault}
@@ -11,12 +11,6 @@ use Rattle.stn_device.specs.declared.whole.ReadFault.TheVariants as stream
 use Rattle.stn_store.specs.{Log.Faults.of_stream, Log.Opening.opened_so_far, Log.Opening.closed_log, Log.Opening.IsRefused, declared.log.reading.Opened.Opened, declared.log.fault.LoadFault.LoadFault}
 use Rattle.stn_store.specs.Log.{Log, LogSoFar, log_held, taken, all_taken, all_taken_by, meaning_of, IsEnding, IsAnswer, IsRest, IsDecided, IsOpen}
 use Rattle.stn_store.specs.declared.log.fault.LoadFault.TheVariants.{Read, Bound, Frame, LogForm, Base, Take, Memory}
-
-is_more : (most n : ℕ) → most < n → ltb most n ≡ true
-is_more most n lt = grind (arith, nat_tests)
-
-not_more : (most n : ℕ) → n ≤ most → ltb most n ≡ false
-not_more most n le = grind (arith, nat_tests)
 
 -- a read that failed
 pub stream_read : (fault : ReadFault) → of_stream fault ≡ Read → fault ≡ stream.Read
@@ -155,7 +149,7 @@ module _ (before after : Option (List ℕ)) (log : Option LogSoFar) (rest : List
   ends : count ≤ 16777216 → IsAtEnd after → (meaning : Result Log LoadFault) → IsEnding false rest log meaning → IsDecided before after meaning
   ends few end meaning ending =
       let long : length p.bytes ≤ most_bytes = omega (arith, few, p.many) in
-      let more : nat_lt most_bytes (length p.bytes) ≡ false = not_more most_bytes (length p.bytes) long in
+      let more : nat_lt most_bytes (length p.bytes) ≡ false = le-ltb most_bytes (length p.bytes) long in
       let all : take most_bytes p.bytes ≡ given ++ rest = take_all most_bytes p.bytes long ∙ p.cut in (
         p.bytes,
         p.consumed,
@@ -229,7 +223,7 @@ module _ (before after : Option (List ℕ)) (log : Option LogSoFar) (rest : List
     inr (λ extra.
         let cut : p.bytes ≡ (given ++ left) ++ byte ∷ [] = p.cut ∙ (ap (λ l. given ++ l) e ∙ sym (append_assoc given left (byte ∷ []))) in
         let full : length (given ++ left) ≡ most_bytes = omega (arith, many, p.many, ap length cut, length-append (given ++ left) (byte ∷ [])) in
-        let more : nat_lt most_bytes (length (p.bytes ++ extra)) ≡ true = is_more most_bytes (length (p.bytes ++ extra)) (omega (arith, many, p.many, length-append p.bytes extra)) in
+        let more : nat_lt most_bytes (length (p.bytes ++ extra)) ≡ true = lt-ltb most_bytes (length (p.bytes ++ extra)) (omega (arith, many, p.many, length-append p.bytes extra)) in
         let looked : take most_bytes (p.bytes ++ extra) ≡ given ++ left =
         ap (λ l. take most_bytes (l ++ extra)) cut
         ∙ (ap (take most_bytes) (append_assoc (given ++ left) (byte ∷ []) extra) ∙ take_at (given ++ left) ((byte ∷ []) ++ extra) most_bytes full) in

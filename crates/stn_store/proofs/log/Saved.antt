@@ -1,9 +1,9 @@
 -- What is saved says what a site holds.
-use Rattle.std.proofs.Common.{◌≡◌, ℕ, ◌+◌, ◌≤◌, Bool, false, ltb, List, [], ◌∷◌, ◌++◌, length, Option, Some, None, Result, Ok, refl, sym, ap, subst, ◌∙◌, arith, append-nil, length-append}
+use Rattle.std.proofs.Common.{◌≡◌, ℕ, ◌+◌, ◌≤◌, Bool, false, List, [], ◌∷◌, ◌++◌, length, Option, Some, None, Result, Ok, refl, sym, ap, subst, ◌∙◌, arith, append-nil, length-append}
 use Rattle.std.specs.{Prelude.map, Prelude.nat_lt, Prelude.find, Bool.then_some, Set.distinct_count, FinMap.FinMap, FinMap.entries-from_sorted}
 use Rattle.stn_records.specs.{Record.same_records, Id.SiteCounter, Id.id_cmp, Id.lesser_of, declared.record.Record.Record, Maps.differ, Maps.dispute, Maps.with_entries}
 use Rattle.std.specs.FinMap as fin
-use Rattle.std.proofs.{lemmas.List.take_all, lemmas.Bool.Decides.nat_tests}
+use Rattle.std.proofs.{lemmas.List.take_all, lemmas.Bool.le-ltb}
 use Rattle.stn_device.specs.Bytes.{most_bytes}
 use Rattle.stn_lift.specs.PlanSource.{PlanSource, events_of, base_of}
 use Rattle.stn_records.specs.Content.{most_known, Content, same_ids, with_ids, replaced_ids, known_ids, known_count, known_in_either, no_content, dispute_contents, joined_contents, IsSound}
@@ -52,15 +52,12 @@ nothing_disputed state = λ i. lesser_of (none_disputed same_records state.addit
 known_alone : (state : Content) → known_in_either no_content state ≡ known_count state
 known_alone state = ap (λ (ids : List SiteCounter). distinct_count same_ids (ids ++ known_ids state)) none_known
 
-not_more : (n most : ℕ) → n ≤ most → ltb most n ≡ false
-not_more n most le = grind (arith, nat_tests)
-
 pub nothing_against : (log : Log) (state : Content) → log.state ≡ no_content → RecordsName (events_of log.source) state → IsSound state → take_refusal (holding_state log.source log.state) state ≡ None
 nothing_against log state empty named sound =
     let agreed : dispute_contents log.state state ≡ None = ap (λ (s : Content). dispute_contents s state) empty ∙ nothing_disputed state in
     let few : known_in_either log.state state ≡ known_count state = ap (λ (s : Content). known_in_either s state) empty ∙ known_alone state in
     agreed_take (holding_state log.source log.state) state named agreed
-    ∙ ap (λ (b : Bool). then_some b Full) (not_more (known_in_either log.state state) most_known (omega (arith, few, sound.limited)))
+    ∙ ap (λ (b : Bool). then_some b Full) (le-ltb most_known (known_in_either log.state state) (omega (arith, few, sound.limited)))
 
 -- ---- the two frames of a log
 
@@ -84,7 +81,7 @@ saved_log log first second based named sound =
     ap (λ (o : Option ReplicaFault). joined New o begun log.state) (nothing_against begun log.state refl named sound) ∙ (λ i. Ok (so_far New (record { source = log.source; state = joined_alone log.state i }))) in
     let all : all_taken None (h ∷ r ∷ []) ≡ Ok (Some (so_far New log)) =
     ap (all_taken_by (λ next. all_taken next (r ∷ []))) opens ∙ ap (all_taken_by (λ next. all_taken next [])) takes in
-    let more : nat_lt most_bytes (length text) ≡ false = not_more (length text) most_bytes long in
+    let more : nat_lt most_bytes (length text) ≡ false = le-ltb most_bytes (length text) long in
     record {
       said = record {
         frames = h ∷ r ∷ [];

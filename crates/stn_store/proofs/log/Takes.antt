@@ -2,6 +2,7 @@
 use Rattle.std.proofs.Common.{◌≡◌, true, not, Option, Some, None, Ok, refl, sym, ap, subst, ◌∙◌}
 use Rattle.std.specs.Prelude.{unwrap_or, is_some}
 use Rattle.std.proofs.lemmas.Bool.{false≢true}
+use Rattle.std.proofs.lemmas.Option.{same_Some}
 use Rattle.stn_text.specs.Faults.{Fails}
 use Rattle.stn_lift.specs.{PlanSource.PlanSource, PlanSource.base_of, PlanSource.is_memory, declared.fault.BaseFault.BaseFault}
 use Rattle.stn_lift.specs.declared.fault.BaseFault.TheVariants as base
@@ -46,12 +47,9 @@ none_there : {X : Type 0} (o : Option X) → not (is_some o) ≡ true → o ≡ 
 none_there None e = refl
 none_there (Some x) e = absurd (false≢true e)
 
-same_some : {X : Type 0} (x y : X) → Some x ≡ Some y → x ≡ y
-same_some x y e = cc
-
 pub state_taken : (version : Version) (old new : Held) (state : Content) → take_refusal old state ≡ None → Leaves old (took state) new → taken_in version (log_held old) state ≡ Ok (so_far version (log_held new))
 state_taken version old new state none leaves =
     let there : is_some (join_contents old.state state) ≡ true = ap is_some leaves.state in
     let agreed = none_there (dispute_contents old.state state) (sym (contents_dispute old.state state) ∙ there) in
-    let same = same_some new.state (joined_contents old.state state) (sym leaves.state ∙ contents_undisputed old.state state agreed) in
+    let same = same_Some new.state (joined_contents old.state state) (sym leaves.state ∙ contents_undisputed old.state state agreed) in
     ap (λ (r : Option ReplicaFault). joined version r (log_held old) state) none ∙ (λ i. Ok (so_far version (record { source = sym leaves.source i; state = sym same i })))

@@ -1,4 +1,4 @@
-use Rattle.std.proofs.Common.{◌≡◌, ℕ, Some, ◌+◌, ◌<◌, ◌≤◌, ◌∷◌, ◌++◌, [], None, length, take, refl, sym, ap, ◌∙◌, arith}
+use Rattle.std.proofs.Common.{◌≡◌, ℕ, Some, ◌<◌, ◌≤◌, ◌∷◌, ◌++◌, [], None, length, take, refl, sym, ap, ◌∙◌, arith}
 use Rattle.std.proofs.{lemmas.Bool.false≢true, lemmas.List.get_or_read, lemmas.List.take_more, lemmas.List.take_all}
 use Rattle.std.specs.Prelude.{slice_index_or}
 use Rattle.stn_conflict.specs.{declared.levels.Walk.Walk, declared.links.Link.Link, declared.links.Side.TheVariants.Upper, Arcs.arc_of, Relaxation.row_of, Search.event_at, Search.level_at, Search.LeadsOn}

@@ -6,8 +6,8 @@ use Rattle.stn_wire.specs.{Stream.Held.Stream, Stream.pending, Stream.wire_fault
 use Rattle.stn_wire.proofs.Streams.{measure_falls}
 use Rattle.stn_device.specs.declared.whole.ReadFault.TheVariants as stream
 use Rattle.stn_store.specs.{Log.Faults.of_stream, declared.log.fault.LoadFault.TheVariants.Read}
-use Rattle.stn_device.proofs.Known.{fault_or, not_err}
-use Rattle.stn_store.proofs.log.Answered.{fails_more, not_read, not_bound}
+use Rattle.stn_device.proofs.Known.{fails_more, fault_or, not_err}
+use Rattle.stn_store.proofs.log.Answered.{not_read, not_bound}
 use Rattle.stn_store.proofs.log.Progress.{begun, read_on, used_within, next_held, refuses, shows_fault, closed, cuts, stream_fails, stream_open, stream_used, stream_bound, stream_read}
 use Rattle.stn_store.proofs.log.reading.read_frames.Goals as goal
 

@@ -4,8 +4,7 @@ use Rattle.std.specs.Io.KnownBytes.{Appends}
 use Rattle.stn_device.specs.{Bytes.AppendsPart, Counted.counted_device}
 use Rattle.stn_store.specs.Log.{Log, log_held, log_text, IsLog}
 use Rattle.stn_device.specs.declared.whole.OutputFault.TheVariants.{Write, Memory}
-use Rattle.stn_device.proofs.Known.{fault_or, not_err}
-use Rattle.stn_store.proofs.log.Answered.{fails_more}
+use Rattle.stn_device.proofs.Known.{fails_more, fault_or, not_err}
 use Rattle.stn_store.proofs.log.Saved.{same_log}
 use Rattle.stn_store.proofs.log.writing.save.Goals as goal
 
