@@ -1,6 +1,5 @@
-use Rattle.std.proofs.Common.{pos, ◌-ℤ◌, to_z, of_z, w64, arith}
+use Rattle.std.proofs.Common.{pos, ◌-ℤ◌, ◌≤ℤ◌, to_z, of_z, w64, arith}
 use Rattle.std.proofs.lemmas.Int.{ints}
-use Rattle.stn_conflict.proofs.Tightness.{le_z_tells}
 use Rattle.stn_loosen.proofs.making.Making.shows.Goals as goal
 
 pub returns-then-get-span : goal.returns-then-get-span
@@ -14,5 +13,6 @@ returns-then-get-span g c =
       ),
       λ shown.
           let below = shown.1 in
-          le_z_tells (to_z w64 (of_z w64 c.args.span.now.lo)) (to_z w64 (of_z w64 (pos 0 -ℤ to_z w64 (of_z w64 c.get-then-get-span.result)))) (omega (arith, ints, below, c.get-then-get-span.ensures.value, c.get-then-get-span.ensures.within.0, c.get-then-get-span.ensures.within.1, reach.lo_least, reach.lo_most)),
+          let less : to_z w64 (of_z w64 c.args.span.now.lo) ≤ℤ to_z w64 (of_z w64 (pos 0 -ℤ to_z w64 (of_z w64 c.get-then-get-span.result))) = omega (arith, ints, below, c.get-then-get-span.ensures.value, c.get-then-get-span.ensures.within.0, c.get-then-get-span.ensures.within.1, reach.lo_least, reach.lo_most) in
+          grind (arith, ints, less),
     )
