@@ -1,8 +1,6 @@
 -- Texts that grow piece by piece.
-use Rattle.std.proofs.Common.{◌≡◌, ℕ, List, ◌++◌, cond, Result, Ok, Err, OnOk, ap, sym, true≢false, ◌∙◌, append_assoc}
+use Rattle.std.proofs.Common.{◌≡◌, ℕ, List, ◌++◌, codes, cond, Result, Ok, Err, OnOk, ap, sym, true≢false, ◌∙◌, append_assoc}
 use Rattle.std.specs.{Prelude.is_ok, Prelude.MatchResult, Result.IsOk, Result.IsErr}
-use Rattle.std.proofs.lemmas.Result.{on_ok_weaker, IfOk-equal}
-use Rattle.stn_site.proofs.Printing.{appended_ok}
 
 -- one piece more
 pub then : (front seen piece : List ℕ) {middle end : List ℕ} → middle ≡ front ++ seen → end ≡ middle ++ piece → end ≡ front ++ (seen ++ piece)
@@ -11,7 +9,8 @@ then front seen piece first second = second ∙ ap (λ text. text ++ piece) firs
 -- the last piece, which is appended whole or not at all
 pub last : {T E : Type 0} (result : Result T E) (front seen piece : List ℕ) {middle end : List ℕ} → middle ≡ front ++ seen
     → end ≡ cond (is_ok result) (middle ++ piece) middle → OnOk result (end ≡ front ++ (seen ++ piece))
-last result front seen piece {middle = middle} {end = end} first second = on_ok_weaker result (λ grown. then front seen piece first grown) (appended_ok result end middle piece second)
+last (Ok value) front seen piece first second = then front seen piece first second
+last (Err fault) front seen piece first second = tt
 
 -- what holds where a write to memory succeeded
 pub in_memory : {T E F : Type 0} (P : Type 0) (result : Result T E) (written : Result T F) → MatchResult result (λ _. IsOk written) (λ _. IsErr written) → OnOk written P → OnOk result P
@@ -27,9 +26,30 @@ on_ok P (Err fault) was holds = absurd (true≢false (sym was))
 -- one piece more, if it could be appended
 pub further : {T E : Type 0} (result : Result T E) (front seen piece text end : List ℕ) {middle : List ℕ} → middle ≡ front ++ seen
     → OnOk result (end ≡ middle ++ piece) → front ++ (seen ++ piece) ≡ front ++ text → OnOk result (end ≡ front ++ text)
-further result front seen piece text end first second same = on_ok_weaker result (λ grown. then front seen piece first grown ∙ same) second
+further (Ok value) front seen piece text end first second same = then front seen piece first second ∙ same
+further (Err fault) front seen piece text end first second same = tt
 
 -- a text that was written to memory, in one piece
 pub written : {T E F : Type 0} (result : Result T E) (write : Result T F) (end text other : List ℕ) → MatchResult result (λ _. IsOk write) (λ _. IsErr write)
     → OnOk write (end ≡ text) → text ≡ other → OnOk result (end ≡ other)
-written result write end text other was holds same = in_memory (end ≡ other) result write was (IfOk-equal write end text other holds same)
+written (Ok value) (Ok other) end text whole was holds same = holds ∙ same
+written (Ok value) (Err fault) end text whole was holds same = absurd (true≢false (sym was))
+written (Err fault) write end text whole was holds same = tt
+
+-- the pieces of a bar, in one text
+pub bar_joined : (front fill earliest top end past height : List ℕ)
+    → front ++ (codes "<path fill='" ++ ((fill ++ (codes "' d='M" ++ (earliest ++ (codes " " ++ (top ++ (codes "H" ++ (end ++ (codes "h" ++ (past ++ (codes "e-2v" ++ height)))))))))) ++ (codes "H" ++ (earliest ++ codes "z'/>\n"))))
+    ≡ front ++ (codes "<path fill='" ++ fill ++ codes "' d='M" ++ earliest ++ codes " " ++ top ++ codes "H" ++ end ++ codes "h" ++ past ++ codes "e-2v" ++ height ++ codes "H" ++ earliest ++ codes "z'/>\n")
+bar_joined front fill earliest top end past height = simp append_assoc
+
+-- those of the words beside it
+pub ends_joined : (front left base window cut : List ℕ)
+    → front ++ (codes "<text x='" ++ (left ++ (codes "' y='" ++ (base ++ codes "'>"))) ++ window ++ (cut ++ codes "</text>\n"))
+    ≡ front ++ (codes "<text x='" ++ left ++ codes "' y='" ++ base ++ codes "'>" ++ window ++ cut ++ codes "</text>\n")
+ends_joined front left base window cut = simp append_assoc
+
+-- those of a text of several lines
+pub lines_joined : (front base left lines : List ℕ)
+    → front ++ (codes "<text y='" ++ (base ++ (codes "'><tspan x='" ++ (left ++ codes "'>"))) ++ lines)
+    ≡ front ++ (codes "<text y='" ++ base ++ codes "'><tspan x='" ++ left ++ codes "'>" ++ lines)
+lines_joined front base left lines = simp append_assoc
