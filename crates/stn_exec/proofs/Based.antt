@@ -7,7 +7,7 @@ use Rattle.stn_time.specs.Time.{horizon}
 use Rattle.stn_pddl.specs.Tree.Names.{is_same_word}
 use Rattle.stn_net.specs.Event.{most_steps}
 use Rattle.stn_pddl.specs.{declared.fault.DomainFault.DomainFault, Schemas.ActionSchema, Domains.domain_of, Domains.action_named, Sound.IsSound}
-use Rattle.stn_pddl.proofs.SoundActions.{domain-sound, domain-short}
+use Rattle.stn_pddl.proofs.SoundActions.{domain-sound, domain-short, found-sound}
 use Rattle.stn_lift.specs.{declared.plan.fault.PlanFault.PlanFault, Plan.Lines.lines_of, declared.fault.LiftFault.LiftFault, Timelines.IsTimed, declared.fault.BaseFault.BaseFault, Failures.base_failure, Failures.lift_failure}
 use Rattle.stn_lift.specs.declared.plan.fault.PlanFault.TheVariants.{TooLong, TooManySteps}
 use Rattle.stn_lift.specs.Plan.Steps.{most_text, PlannedStep, IsTimely, IsPlan, steps_of, limited, plan_of}
@@ -61,15 +61,6 @@ with_action_timed number step action one timely sound is =
         let same : activity step action ≡ one = cc in
         subst IsTimed same (record { time = timely.time; duration = sound.duration; last = not_past (step.time +ℤ action.duration) e })
 
--- the action that is found is sound
-found_sound : (test : ActionSchema → Bool) (actions : List ActionSchema) (action : ActionSchema) → AllByRecursion IsSound actions → find test actions ≡ Some action → IsSound action
-found_sound test [] action all is = cc
-found_sound test (first ∷ actions) action all is = by (found_sound test actions action all.1) (test first) is
-  where
-    by : (find test actions ≡ Some action → IsSound action) → (t : Bool) → cond t (Some first) (find test actions) ≡ Some action → IsSound action
-    by later true h = let same : first ≡ action = cc in subst IsSound same all.0
-    by later false h = later h
-
 activity_timed : (actions : List ActionSchema) (number : ℕ) (step : PlannedStep) (one : Activity) → AllByRecursion IsSound actions → IsTimely step
     → activity_of actions number step ≡ Ok one → IsTimed one
 unfolding activity_of action_named
@@ -77,7 +68,7 @@ activity_timed actions number step one all timely is = by (find (λ action. is_s
   where
     by : (found : Option ActionSchema) → find (λ action. is_same_word step.action action.name) actions ≡ found → with_found number step found ≡ Ok one → IsTimed one
     by None e h = cc
-    by (Some action) e h = with_action_timed number step action one timely (found_sound (λ action. is_same_word step.action action.name) actions action all e) h
+    by (Some action) e h = with_action_timed number step action one timely (found-sound (λ action. is_same_word step.action action.name) actions action all e) h
 
 all_timed : (actions : List ActionSchema) (before : ℕ) (steps : List PlannedStep) (found : List Activity) → AllByRecursion IsSound actions → All IsTimely steps
     → activities actions before steps ≡ Ok found → AllByRecursion IsTimed found

@@ -15,9 +15,6 @@ whole (Some bytes) (Some more) script consumed ended = consumed ∙ ap (λ left.
 pub counts_more : (before after : ℕ) → after ≡ min (before + 1) (2 ^ 64 - 1) → before < 2 ^ 64 - 1 → before < after
 counts_more before after counted few = omega arith
 
-pub ok_not_err : {T E : Type 0} {value : T} {fault : E} → Ok value ≢ Err fault
-ok_not_err e = cc
-
 pub on_ok : {T E P : Type 0} (result : Result T E) → P → OnOk result P
 on_ok (Ok value) is = is
 on_ok (Err fault) is = tt

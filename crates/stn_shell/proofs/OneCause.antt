@@ -3,6 +3,7 @@ use Rattle.std.proofs.Common.{◌≡◌, inl, inr, ℕ, ◌+◌, Bool, true, fal
 use Rattle.std.proofs.lemmas.Bool.{false≢true}
 use Rattle.std.proofs.lemmas.Option.{same_Some}
 use Rattle.std.specs.Borrow.{Bor}
+use Rattle.stn_device.proofs.Known.{not_err}
 use Rattle.stn_net.specs.Difference.{Difference}
 use Rattle.stn_lift.specs.PlanSource.{PlanSource, bare, files}
 use Rattle.stn_lift.specs.Failures.{base_failure}
@@ -43,9 +44,6 @@ IsOne Names = (cause other : Option Failure) → Names cause → Names other →
 one_error : {X E : Type 0} (f g : E) → (let none : Result X E = Err f in none) ≡ Err g → f ≡ g
 one_error f g e = cc
 
-no_error : {X E : Type 0} (x : X) (f : E) → (let given : Result X E = Ok x in given) ≡ Err f → ⊥
-no_error x f e = absurd cc
-
 with_words : {X : Type 0} (read : Result X Failure) (Goes : X → Option Failure → Type 0) → ((said : X) → IsOne (Goes said)) → IsOne (WithWords read Goes)
 with_words (Err failure) Goes one cause other p q = p ∙ sym q
 with_words (Ok said) Goes one cause other p q = one said cause other p q
@@ -53,8 +51,8 @@ with_words (Ok said) Goes one cause other p q = one said cause other p q
 one_base : (source : PlanSource) (Goes : Option Failure → Type 0) → IsOne Goes → IsOne (WithBase source Goes)
 one_base source Goes one cause other (inl p) (inl q) =
     p.2 ∙ (ap (λ (fault : BaseFault). Some (base_failure fault)) (one_error p.0 q.0 (sym p.1 ∙ q.1)) ∙ sym q.2)
-one_base source Goes one cause other (inl p) (inr q) = absurd (no_error source p.0 (sym q.0 ∙ p.1))
-one_base source Goes one cause other (inr p) (inl q) = absurd (no_error source q.0 (sym p.0 ∙ q.1))
+one_base source Goes one cause other (inl p) (inr q) = absurd (not_err source p.0 (sym q.0 ∙ p.1))
+one_base source Goes one cause other (inr p) (inl q) = absurd (not_err source q.0 (sym p.0 ∙ q.1))
 one_base source Goes one cause other (inr p) (inr q) = one cause other p.1 q.1
 
 -- what a site holds, whatever its work
@@ -99,7 +97,7 @@ module _ (entries : List Entry) (name : List ℕ) where
 
     not_both : (site : ℕ) (failure : Failure) (held : Held) → IsUnopened (Some entries) name failure → Opens (Some entries) name site held → ⊥
     not_both site failure held (inl p) q = none_there q.said.bytes p.0 q.said.there
-    not_both site failure held (inr p) q = no_error (log_held held) p.0 (one_meaning (Ok (log_held held)) (Err p.0) q.said p.1)
+    not_both site failure held (inr p) q = not_err (log_held held) p.0 (one_meaning (Ok (log_held held)) (Err p.0) q.said p.1)
 
     abbrev idle_of : ℕ → Result Log LoadFault → Held → Held
     idle_of site (Ok log) other = record { site = site; source = log.source; state = log.state; steps = 0 }

@@ -3,7 +3,8 @@ use Rattle.std.proofs.KnownBytes.{Keeps-refl}
 use Rattle.stn_device.specs.Counted.{counted_device, failure_count}
 use Rattle.stn_exec.specs.{Running.IsRun, Script.script_outcome}
 use Rattle.stn_exec.proofs.Scripts.{part-nil, IfSome-all}
-use Rattle.stn_exec.proofs.Runs.{counts_more, ok_not_err, on_ok, ran_whole, part_written, count_kept}
+use Rattle.stn_site.proofs.Values.{ok_not_err}
+use Rattle.stn_exec.proofs.Runs.{counts_more, on_ok, ran_whole, part_written, count_kept}
 use Rattle.stn_exec.proofs.script.run.Goals as goal
 
 pub returns-in-Ok : goal.returns-in-Ok
