@@ -30,13 +30,13 @@ const WORKS: Trial = Trial {
 
 // What a run answered and wrote, and whether what was to be refused was refused.
 #[derive(Drop)]
-struct Attempt {
+struct TrialRun {
     answer: Result<Ran, RunFault>,
     text: Vec<u8>,
     refused: bool,
 }
 
-fn attempt(alloc: Global, script: &[u8], trial: Trial) -> Attempt {
+fn attempt(alloc: Global, script: &[u8], trial: Trial) -> TrialRun {
     let heap = Refusing::new(alloc, 0);
     let mut input = Counted::new(PieceReader {
         rest: script,
@@ -53,7 +53,7 @@ fn attempt(alloc: Global, script: &[u8], trial: Trial) -> Attempt {
     heap.refuse(trial.memory);
     let answer = run(&heap, &mut input, &mut output);
     let failed = input.failures() + output.failures() > 0;
-    Attempt {
+    TrialRun {
         answer,
         text: output.into_inner().held,
         refused: failed || trial.memory != 0 && !heap.is_waiting(),
@@ -61,12 +61,12 @@ fn attempt(alloc: Global, script: &[u8], trial: Trial) -> Attempt {
 }
 
 // Whether the run answered as with memory and devices that work.
-fn is_right(worked: &Worked, run: &Attempt) -> bool {
+fn is_right(worked: &Worked, run: &TrialRun) -> bool {
     run.answer == worked.answer && run.text.as_slice() == worked.text
 }
 
 // Whether a run of which a call was refused said so, and wrote no more than the beginning of what it writes else.
-fn says(worked: &Worked, run: &Attempt, fault: RunFault) -> bool {
+fn says(worked: &Worked, run: &TrialRun, fault: RunFault) -> bool {
     run.answer == Err(fault) && worked.text.starts_with(&run.text)
 }
 
@@ -91,7 +91,7 @@ fn trial_of(fault: RunFault, number: u64) -> Trial {
 
 // What comes of the run, of which a call that is answered with this fault may have been refused. A request for memory that is made in
 // advance may be refused without harm: then all is as ever.
-fn outcome_of(worked: &Worked, run: &Attempt, fault: RunFault) -> Outcome {
+fn outcome_of(worked: &Worked, run: &TrialRun, fault: RunFault) -> Outcome {
     let right = is_right(worked, run);
     let answered = says(worked, run, fault) || fault == RunFault::Memory && right;
     Outcome::of(run.refused, if run.refused { answered } else { right })
