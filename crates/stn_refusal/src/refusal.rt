@@ -1,11 +1,11 @@
-ghost use Rattle.std.specs.Prelude.{◌≡◌, ◌++◌, OnOk};
+ghost use Rattle.std.specs.Prelude.{◌≡◌, ◌++◌, OnOk, OnErr, take, vec_len};
 ghost use Rattle.stn_refusal.specs.Refusals as spec;
 ghost use Rattle.stn_refusal.specs.Printed.{place_text, refusal_text};
 
 use crate::code::Code;
 use itoa::Buffer;
 use std::alloc::Allocator;
-use stn_text::{Memory, append_decimal, print_event, print_id};
+use stn_text::{Memory, all_or_nothing, append_decimal, print_event, print_id};
 
 /// What a refusal names.
 #[derive(Clone, Copy, Debug, PartialEq, Eq)]
@@ -66,19 +66,31 @@ impl Refusal {
         }
     }
 
-    /// Appends the printed line: `refused <code>`, and what the refusal names.
+    /// Appends the printed line: `refused <code>`, and what the refusal names. If memory runs out, it appends nothing.
     pub fn print<A: Allocator>(self, out: &mut Vec<u8, A>) -> Result<(), Memory>
-        ensures { OnOk result (out.new.items ≡ out.old.items ++ refusal_text self) }
+        ensures printed { OnOk result (out.new.items ≡ out.old.items ++ refusal_text self) }
+        ensures kept { OnErr result (out.new.items ≡ out.old.items) }
     {
-        append_decimal(out, b"refused ", u16::from(self.code))?;
-        append_place(out, self.place)?;
-        out.extend_from_slice(b"\n")
+        let before = out.len();
+        let outcome = append_refusal(out, self);
+        all_or_nothing(out, before, outcome)
     }
 }
 
-// Appends what a refusal names.
+// Appends the printed line. If memory runs out, a part of it may stand there.
+fn append_refusal<A: Allocator>(out: &mut Vec<u8, A>, refusal: Refusal) -> Result<(), Memory>
+    ensures printed { OnOk result (out.new.items ≡ out.old.items ++ refusal_text refusal) }
+    ensures behind { take (vec_len out.old) out.new.items ≡ out.old.items }
+{
+    append_decimal(out, b"refused ", u16::from(refusal.code))?;
+    append_place(out, refusal.place)?;
+    out.extend_from_slice(b"\n")
+}
+
+// Appends what a refusal names. If memory runs out, a part of it may stand there.
 fn append_place<A: Allocator>(out: &mut Vec<u8, A>, place: Place) -> Result<(), Memory>
-    ensures { OnOk result (out.new.items ≡ out.old.items ++ place_text place) }
+    ensures printed { OnOk result (out.new.items ≡ out.old.items ++ place_text place) }
+    ensures behind { take (vec_len out.old) out.new.items ≡ out.old.items }
 {
     match place {
         Place::Nowhere => Ok(()),

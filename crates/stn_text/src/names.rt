@@ -4,6 +4,7 @@ ghost use Rattle.std.specs.Prelude.{◌≡◌, ◌++◌, OnOk, OnErr};
 ghost use Rattle.stn_text.specs.Names.{event_text, id_text};
 
 use crate::Memory;
+use crate::appending::all_or_nothing;
 use crate::numbers::append_decimal;
 use std::alloc::Allocator;
 
@@ -31,8 +32,5 @@ pub fn print_id<A: Allocator>(site: u8, counter: u16, out: &mut Vec<u8, A>) -> R
     let length = out.len();
     append_decimal(out, b"", u16::from(site))?;
     let appended = append_decimal(out, b".", counter);
-    if appended.is_err() {
-        out.truncate(length);
-    }
-    appended
+    all_or_nothing(out, length, appended)
 }

@@ -7,6 +7,7 @@ use crate::Memory;
 use crate::millis::Ms;
 use itoa::Buffer;
 use std::alloc::Allocator;
+use stn_text::all_or_nothing;
 
 impl Ms {
     /// Appends the printed form: `-` for a negative time, the whole seconds without leading zeros, a point and exactly
@@ -31,10 +32,7 @@ pub fn print_millis<A: Allocator>(millis: i64, out: &mut Vec<u8, A>) -> Result<(
 {
     let before = out.len();
     let outcome = append_printed(millis, out);
-    if outcome.is_err() {
-        out.truncate(before);
-    }
-    outcome
+    all_or_nothing(out, before, outcome)
 }
 
 // Lack of memory may leave a part of the printed form.

@@ -1,8 +1,10 @@
 use Rattle.std.proofs.Common.{◌++◌, ap, ◌∙◌, decimal}
 use Rattle.std.proofs.{lemmas.List.append_assoc, lemmas.Result.IfOk-equal}
+use Rattle.stn_text.proofs.Whole.{appended_whole}
 use Rattle.stn_text.proofs.names.print_id.Goals as goal
 
-pub returns-else-is_err-clause-printed : goal.returns-else-is_err-clause-printed
-returns-else-is_err-clause-printed g c =
+pub returns-clause-printed : goal.returns-clause-printed
+returns-clause-printed g c =
     let site = c.in_ok-append_decimal.ensures.appended ∙ ap (λ n. c.args.out.now.items ++ decimal n) c.from.ensures in
-    IfOk-equal _ _ _ _ c.append_decimal-appended.ensures.appended (rw site (simp append_assoc))
+    appended_whole _ _ _ _ _ c.all_or_nothing.ensures.same c.all_or_nothing.ensures.all
+    (IfOk-equal _ _ _ _ c.append_decimal-appended.ensures.appended (rw site (simp append_assoc)))
