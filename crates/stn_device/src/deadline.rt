@@ -93,7 +93,8 @@ pub trait TimedStream: Timer {
     fn finish(&mut self) -> io::Result<()>
         ensures told { OnOk result (IsEnded (ended self.new)) }
         ensures untold { OnErr result (ended self.new ≡ ended self.old) }
-        ensures bytes { Keeps (contents self.old) (contents self.new) };
+        ensures bytes { Keeps (contents self.old) (contents self.new) }
+        ensures passes { PassesAtMost (Self.time self.old) (Self.time self.new) 0 };
 }
 
 /// A reader and a writer over a stream, whose calls are over by a deadline and fail after it. The stream may fail long before. A call
@@ -182,7 +183,13 @@ impl<S: TimedStream> Write for UntilDeadline<S> {
 impl<S: TimedStream> Finish for UntilDeadline<S> {
     ghost ended = { λ until. S.ended (timed_stream until) };
 
-    fn finish(&mut self) -> io::Result<()> {
+    fn finish(&mut self) -> io::Result<()>
+        ensures told { OnOk result (IsEnded (S.ended (timed_stream self.new))) }
+        ensures untold { OnErr result (S.ended (timed_stream self.new) ≡ S.ended (timed_stream self.old)) }
+        ensures bytes { Keeps (S.contents (timed_stream self.old)) (S.contents (timed_stream self.new)) }
+        ensures passes { PassesAtMost (S.time (timed_stream self.old)) (S.time (timed_stream self.new)) 0 }
+        ensures stays { deadline_of self.new ≡ deadline_of self.old }
+    {
         self.stream.finish()
     }
 }

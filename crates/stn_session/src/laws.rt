@@ -1,4 +1,5 @@
-ghost use Rattle.std.specs.Prelude.{◌≡◌, ℕ, List};
+ghost use Rattle.std.specs.Prelude.{◌≡◌, ◌<◌, ◌^◌, ℕ, List};
+ghost use Rattle.std.specs.List.{AllByRecursion};
 ghost use Rattle.stn_session.specs.Session.{Session};
 ghost use Rattle.stn_session.specs.Serving.{IsSession};
 ghost use Rattle.stn_session.specs.declared.session.End.{End};
@@ -14,3 +15,9 @@ pub fn one_session()
     one_front();
     one_spelling();
 }
+
+/// The law that no bytes are without a session: it cannot be that they end it in no way.
+pub fn some_session()
+    ensures { (first : Session) → (bytes : List ℕ) → AllByRecursion (λ byte. byte < 2 ^ 8) bytes
+        → ¬ ((end : End) → (last : Session) → ¬ IsSession first bytes end last) }
+{}

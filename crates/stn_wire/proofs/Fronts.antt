@@ -157,7 +157,7 @@ no_body bytes small none all lasting known = (
       none (frame, 4 + announced bytes, whole_read bytes frame (4 + announced bytes) small wanted all is.said (ap (λ n. take n (drop 4 bytes)) behind ∙ same)),
 )
 
-abbrev ShowsNone : List ℕ → Type 0
+abbrev pub ShowsNone : List ℕ → Type 0
 ShowsNone bytes = IsFront bytes unfinished ⊎ ((fault : WireFault) × IsFront bytes (faulty fault))
 
 of_kind : (bytes : List ℕ) → ((i : ℕ) → get_or bytes i 0 < 256) → ¬ BeginsFrame bytes → 5 ≤ length bytes → IsLength (announced bytes) → IsKind (get_or bytes 4 0) → ShowsNone bytes

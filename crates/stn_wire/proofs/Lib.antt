@@ -8,3 +8,4 @@ pub mod Sources
 pub mod OldSides
 pub mod OneFeeding
 pub mod Streams
+pub mod Cuts

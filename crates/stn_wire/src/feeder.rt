@@ -1,8 +1,8 @@
-ghost use Rattle.std.specs.Prelude.{◌≡◌, ◌-◌, ◌<◌, ◌↔◌, [], ◌++◌, take, length, min, Option, Some, None, Err, IsTrue, IfOk, OnErr};
-ghost use Rattle.stn_wire.specs.Feeder.{holding, IsFed, IsMissing};
+ghost use Rattle.std.specs.Prelude.{◌≡◌, ◌-◌, ◌<◌, ◌↔◌, [], ◌++◌, take, length, min, IsTrue, IfOk, OnErr};
+ghost use Rattle.stn_wire.specs.Feeder.{holding, IsMissing};
+ghost use Rattle.stn_wire.specs.Feeding.{Leaves};
 ghost use Rattle.stn_wire.specs.Reading.{IsFrameTaken};
 ghost use Rattle.stn_wire.specs.Front.{IsFront, unfinished};
-ghost use Rattle.stn_wire.specs.declared.fault.WireFault.{WireFault as Fault};
 
 use crate::fault::WireFault;
 use crate::fields::four_of;
@@ -69,8 +69,7 @@ impl<A: Allocator + Copy> Feeder<A> {
     /// Faults: those of `decode`, over what is held and the piece. After `Length`, `Kind` and `Body`
     /// each later call answers the same; after `Memory` no byte was taken.
     pub fn feed(&mut self, piece: &[u8]) -> Result<Fed<A>, WireFault>
-        ensures fed { self.old.broken ≡ None → IsFed self.old.held piece.now result self.new }
-        ensures broken { (fault : Fault) → self.old.broken ≡ Some fault → (result ≡ Err fault) × (self.new ≡ self.old) }
+        ensures { Leaves self.old (record { piece = piece.now; answer = result }) self.new }
     {
         if let Some(fault) = self.broken {
             return Err(fault);
