@@ -12,3 +12,4 @@ pub mod FewBounds
 pub mod LiftedBase
 pub mod PlannedTimes
 pub mod StepFacts
+pub mod FromCauses

@@ -3,7 +3,7 @@
 
 pub use base::{Base, lift};
 pub use fault::{BaseFault, LiftFault};
-pub use laws::{interference_by_atoms, planned_times};
+pub use laws::{interference_by_atoms, lift_faults_by_cause, plan_faults_by_cause, planned_times};
 pub use plan::{Plan, PlanFault, Step};
 pub use source::Source;
 

@@ -1,5 +1,5 @@
 -- The first line with a fault gives the fault of the text.
-use Rattle.std.proofs.Common.{◌≡◌, ℕ, ℤ, Bool, true, false, cond, nat_lt, ◌||◌, length, List, [], ◌∷◌, ◌++◌, Option, Some, None, Result, Ok, Err, IsOk, refl, subst, ap, ◌∙◌}
+use Rattle.std.proofs.Common.{◌≡◌, ℕ, ℤ, Bool, true, false, cond, nat_lt, ◌≤◌, ◌||◌, length, List, [], ◌∷◌, ◌++◌, Option, Some, None, Result, Ok, Err, IsOk, refl, subst, ap, ◌∙◌}
 use Rattle.std.specs.{Int.is_negative, Option.option_to_list, Option.option_map_or}
 use Rattle.std.proofs.lemmas.List.Elements.{All-nil, All-cons}
 use Rattle.stn_time.specs.{declared.reading.TimeFault.TimeFault, TimeOf.time_of}
@@ -124,14 +124,14 @@ unfolding steps_of
 steps_of-first [] fault e = cc
 steps_of-first (line ∷ lines) fault e = first_of_lines line lines fault (line_step line) refl e (steps_of-first lines fault)
 
--- a fault of the lines has its cause
-pub lines_fault : (fault : PlanFault) (text : List ℕ) → Fails is_memory fault (steps_of (lines_of text)) → IsCause text fault
-lines_fault TooLong text e = absurd (steps_of-first (lines_of text) TooLong e).its_number
-lines_fault (Syntax line) text e = steps_of-first (lines_of text) (Syntax line) e
-lines_fault (Number line) text e = steps_of-first (lines_of text) (Number line) e
-lines_fault (Negative line) text e = steps_of-first (lines_of text) (Negative line) e
-lines_fault TooManySteps text e = absurd (steps_of-first (lines_of text) TooManySteps e).its_number
-lines_fault Memory text e = tt
+-- a fault of the lines of a text that is short enough has its cause
+pub lines_fault : (fault : PlanFault) (text : List ℕ) → length text ≤ most_text → Fails is_memory fault (steps_of (lines_of text)) → IsCause text fault
+lines_fault TooLong text short e = absurd (steps_of-first (lines_of text) TooLong e).its_number
+lines_fault (Syntax line) text short e = (short, steps_of-first (lines_of text) (Syntax line) e)
+lines_fault (Number line) text short e = (short, steps_of-first (lines_of text) (Number line) e)
+lines_fault (Negative line) text short e = (short, steps_of-first (lines_of text) (Negative line) e)
+lines_fault TooManySteps text short e = absurd (steps_of-first (lines_of text) TooManySteps e).its_number
+lines_fault Memory text short e = tt
 
 -- a fault of the lines is the fault of a text that is short enough
 pub plan_fault : (fault : PlanFault) (text : List ℕ) → nat_lt most_text (length text) ≡ false → Fails is_memory fault (steps_of (lines_of text)) → Fails is_memory fault (plan_of text)

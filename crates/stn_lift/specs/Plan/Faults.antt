@@ -1,5 +1,5 @@
 -- Why a text is refused, in the words of its lines.
-use Rattle.std.specs.Prelude.{◌≡◌, ℕ, ◌<◌, List, ◌∷◌, ◌++◌, length, All, Ok, Err, IsOk}
+use Rattle.std.specs.Prelude.{◌≡◌, ℕ, ◌<◌, ◌≤◌, List, ◌∷◌, ◌++◌, length, All, Ok, Err, IsOk}
 use Rattle.stn_lift.specs.{declared.plan.fault.PlanFault.PlanFault, Plan.Lines.lines_of, Plan.Steps.PlannedStep, Plan.Steps.most_text, Plan.Steps.most_steps, Plan.Steps.line_step, Plan.Steps.steps_of}
 use Rattle.stn_lift.specs.declared.plan.fault.PlanFault.TheVariants.{TooLong, Syntax, Number, Negative, TooManySteps, Memory}
 
@@ -28,9 +28,9 @@ pub record HasTooManySteps (lines : List (ℕ × List ℕ)) : Type 0 where
   pub found : steps_of lines ≡ Ok steps
   pub many : most_steps < length steps
 
--- the cause that a fault has
+-- the cause that a fault has: a text that is too long has no other
 abbrev pub IsCause : List ℕ → PlanFault → Type 0
 IsCause text TooLong = most_text < length text
-IsCause text TooManySteps = HasTooManySteps (lines_of text)
+IsCause text TooManySteps = (length text ≤ most_text) × HasTooManySteps (lines_of text)
 IsCause text Memory = Unit {0}
-IsCause text fault = IsFirstFault (lines_of text) fault
+IsCause text fault = (length text ≤ most_text) × IsFirstFault (lines_of text) fault

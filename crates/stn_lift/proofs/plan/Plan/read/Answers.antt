@@ -19,7 +19,7 @@ returns-in_err-steps g c =
     rw (returned.1, returned.2) (record {
       given = plan_fault c.in_err-steps.field-0.0 text (sym c.if-is_too_long.ensures) fails;
       text = tt;
-      cause = lines_fault c.in_err-steps.field-0.0 text fails;
+      cause = lines_fault c.in_err-steps.field-0.0 text (grind (arith, nat_tests)) fails;
     })
 
 pub returns-then-len-from : goal.returns-then-len-from
@@ -31,7 +31,7 @@ returns-then-len-from g c =
     record {
       given = plan_of-many text steps (sym c.if-is_too_long.ensures) many found;
       text = tt;
-      cause = record { steps = steps; found = found; many = many };
+      cause = (grind (arith, nat_tests), record { steps = steps; found = found; many = many });
     }
 
 pub invariant_of-result : goal.invariant_of-result

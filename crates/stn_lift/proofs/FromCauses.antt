@@ -1,0 +1,120 @@
+-- The cause of a fault gives the fault: of the text of a plan, and of the steps of a plan in a domain.
+use Rattle.std.proofs.Common.{◌≡◌, ◌<◌, ◌≤◌, ◌+◌, ℕ, Bool, true, false, cond, nat_lt, List, [], ◌∷◌, ◌++◌, length, Option, Result, Ok, Err, IsOk, refl, sym, ap, subst, ◌∙◌, arith, All}
+use Rattle.std.specs.Option.{option_to_list}
+use Rattle.std.proofs.lemmas.Bool.{lt-ltb, le-ltb, ltb-true, ltb-false}
+use Rattle.std.proofs.lemmas.List.Elements.{All-head, All-tail}
+use Rattle.stn_text.specs.Faults.{◌>>=◌, Unless}
+use Rattle.stn_pddl.specs.Schemas.{ActionSchema}
+use Rattle.stn_lift.specs.{declared.plan.fault.PlanFault.PlanFault, declared.fault.LiftFault.LiftFault, Plan.Lines.lines_of}
+use Rattle.stn_lift.specs.declared.plan.fault.PlanFault.TheVariants as plan
+use Rattle.stn_lift.specs.declared.fault.LiftFault.TheVariants as lifting
+use Rattle.stn_lift.specs.Plan.Steps as read
+use Rattle.stn_lift.specs.Plan.Steps.{PlannedStep, most_text, most_steps, line_step, steps_of, limited, plan_of}
+use Rattle.stn_lift.specs.Plan.Faults.{IsFirstFault, IsCause as IsPlanCause}
+use Rattle.stn_lift.specs.Activities as lifted
+use Rattle.stn_lift.specs.Activities.{Activity, activity_of, activities, IsFirstRefused, IsCause as IsLiftCause}
+use Rattle.stn_lift.proofs.StepFacts.{plan_of-many}
+use Rattle.stn_lift.proofs.plan.FaultFacts.{lines_fault}
+use Rattle.stn_lift.proofs.Steps.{cause_of}
+
+-- after lines without a fault
+lines_then : (earlier later : List (ℕ × List ℕ)) (fault : PlanFault) → All (λ line. IsOk (line_step line)) earlier → steps_of later ≡ Err fault
+    → steps_of (earlier ++ later) ≡ Err fault
+unfolding steps_of
+lines_then [] later fault none is = is
+lines_then (line ∷ earlier) later fault none is =
+    by (line_step line) (All-head (λ line. IsOk (line_step line)) line earlier none) (lines_then earlier later fault (All-tail (λ line. IsOk (line_step line)) line earlier none) is)
+  where
+    by : (first : Result (Option PlannedStep) PlanFault) → IsOk first → steps_of (earlier ++ later) ≡ Err fault
+        → (first >>= λ step. steps_of (earlier ++ later) >>= λ steps. Ok (option_to_list step ++ steps)) ≡ Err fault
+    by (Ok step) ok is = ap (λ r. r >>= λ steps. Ok (option_to_list step ++ steps)) is
+    by (Err given) ok is = cc
+
+first_line : (line : ℕ × List ℕ) (lines : List (ℕ × List ℕ)) (fault : PlanFault) → line_step line ≡ Err fault → steps_of (line ∷ lines) ≡ Err fault
+unfolding steps_of
+first_line line lines fault is = ap (λ r. r >>= λ step. steps_of lines >>= λ steps. Ok (option_to_list step ++ steps)) is
+
+module _ (text : List ℕ) where
+  short_text : (fault : PlanFault) → length text ≤ most_text → steps_of (lines_of text) ≡ Err fault → plan_of text ≡ Err fault
+  unfolding plan_of
+  short_text fault short is = let fits : nat_lt most_text (length text) ≡ false = le-ltb _ _ short in rw (fits, is) refl
+
+  by_line : (fault : PlanFault) → (length text ≤ most_text) × IsFirstFault (lines_of text) fault → plan_of text ≡ Err fault
+  by_line fault (short, is) =
+      short_text fault short (ap steps_of is.whole ∙ lines_then is.earlier (is.line ∷ is.later) fault is.none_before (first_line is.line is.later fault is.its_fault))
+
+  by_length : most_text < length text → plan_of text ≡ Err plan.TooLong
+  unfolding plan_of
+  by_length long = let many : nat_lt most_text (length text) ≡ true = lt-ltb _ _ long in rw many refl
+
+  pub plan_fault_of : (fault : PlanFault) → read.is_memory fault ≡ false → IsPlanCause text fault → plan_of text ≡ Err fault
+  plan_fault_of plan.TooLong some is = by_length is
+  plan_fault_of (plan.Syntax line) some is = by_line _ is
+  plan_fault_of (plan.Number line) some is = by_line _ is
+  plan_fault_of (plan.Negative line) some is = by_line _ is
+  plan_fault_of plan.TooManySteps some (short, is) = plan_of-many text is.steps (le-ltb _ _ short) is.many is.found
+  plan_fault_of plan.Memory some is = cc
+
+  -- of lines without a fault
+  many_steps : (fault : PlanFault) → length text ≤ most_text → (steps : List PlannedStep) → steps_of (lines_of text) ≡ Ok steps
+      → (many : Bool) → nat_lt most_steps (length steps) ≡ many → cond many (Err plan.TooManySteps) (Ok steps) ≡ Err fault → IsPlanCause text fault
+  many_steps fault short steps found true many is =
+      let same : plan.TooManySteps ≡ fault = cc in
+      subst (IsPlanCause text) same (short, record { steps = steps; found = found; many = ltb-true _ _ many })
+  many_steps fault short steps found false many is = cc
+
+  -- of a text that is short enough
+  of_lines : (fault : PlanFault) → read.is_memory fault ≡ false → length text ≤ most_text → (found : Result (List PlannedStep) PlanFault) → steps_of (lines_of text) ≡ found
+      → (found >>= limited) ≡ Err fault → IsPlanCause text fault
+  unfolding limited
+  of_lines fault some short (Ok steps) found is = many_steps fault short steps found (nat_lt most_steps (length steps)) refl is
+  of_lines fault some short (Err given) found is =
+      let same : given ≡ fault = cc in
+      lines_fault fault text short (subst (λ memory. Unless memory (steps_of (lines_of text) ≡ Err fault)) (sym some) (found ∙ ap Err same))
+
+  pub plan_cause_for : (fault : PlanFault) → read.is_memory fault ≡ false → plan_of text ≡ Err fault → IsPlanCause text fault
+  unfolding plan_of
+  plan_cause_for fault some is = by (nat_lt most_text (length text)) refl is
+    where
+      by : (long : Bool) → nat_lt most_text (length text) ≡ long → cond long (Err plan.TooLong) (steps_of (lines_of text) >>= limited) ≡ Err fault → IsPlanCause text fault
+      by true long is = let same : plan.TooLong ≡ fault = cc in subst (IsPlanCause text) same (ltb-true _ _ long)
+      by false long is = of_lines fault some (ltb-false _ _ long) (steps_of (lines_of text)) refl is
+
+-- after steps that are not refused
+steps_then : (actions : List ActionSchema) (before : ℕ) (earlier later : List PlannedStep) (fault : LiftFault) → IsOk (activities actions before earlier)
+    → activities actions (before + length earlier) later ≡ Err fault → activities actions before (earlier ++ later) ≡ Err fault
+unfolding activities
+steps_then actions before [] later fault none is = subst (λ n. activities actions n later ≡ Err fault) (omega arith) is
+steps_then actions before (step ∷ earlier) later fault none is =
+    by (activity_of actions (before + 1) step) none (steps_then actions (before + 1) earlier later fault) (subst (λ n. activities actions n later ≡ Err fault) (omega arith) is)
+  where
+    ok_behind : (one : Activity) (others : Result (List Activity) LiftFault) → IsOk (others >>= λ found. Ok (one ∷ found)) → IsOk others
+    ok_behind one (Ok found) ok = refl
+    ok_behind one (Err given) ok = cc
+
+    by : (first : Result Activity LiftFault) → IsOk (first >>= λ one. activities actions (before + 1) earlier >>= λ others. Ok (one ∷ others))
+        → (IsOk (activities actions (before + 1) earlier) → activities actions (before + 1 + length earlier) later ≡ Err fault → activities actions (before + 1) (earlier ++ later) ≡ Err fault)
+        → activities actions (before + 1 + length earlier) later ≡ Err fault
+        → (first >>= λ one. activities actions (before + 1) (earlier ++ later) >>= λ others. Ok (one ∷ others)) ≡ Err fault
+    by (Ok one) ok behind is = ap (λ r. r >>= λ others. Ok (one ∷ others)) (behind (ok_behind one (activities actions (before + 1) earlier) ok) is)
+    by (Err given) ok behind is = cc
+
+first_step : (actions : List ActionSchema) (before : ℕ) (step : PlannedStep) (steps : List PlannedStep) (fault : LiftFault) → activity_of actions (before + 1) step ≡ Err fault
+    → activities actions before (step ∷ steps) ≡ Err fault
+unfolding activities
+first_step actions before step steps fault is = ap (λ r. r >>= λ first. activities actions (before + 1) steps >>= λ others. Ok (first ∷ others)) is
+
+module _ (actions : List ActionSchema) (steps : List PlannedStep) where
+  by_step : (fault : LiftFault) → IsFirstRefused actions steps fault → activities actions 0 steps ≡ Err fault
+  by_step fault is =
+      ap (activities actions 0) is.whole ∙ steps_then actions 0 is.earlier (is.step ∷ is.later) fault is.none_before (subst (λ n. activities actions n (is.step ∷ is.later) ≡ Err fault) (omega arith) (first_step actions (length is.earlier) is.step is.later fault is.refused))
+
+  pub lift_fault_of : (fault : LiftFault) → lifted.is_memory fault ≡ false → IsLiftCause actions steps fault → activities actions 0 steps ≡ Err fault
+  lift_fault_of (lifting.UnknownAction step) some is = by_step _ is
+  lift_fault_of (lifting.Arity step) some is = by_step _ is
+  lift_fault_of (lifting.DurationDiffers step) some is = by_step _ is
+  lift_fault_of (lifting.PastHorizon step) some is = by_step _ is
+  lift_fault_of lifting.Memory some is = cc
+
+  pub lift_cause_for : (fault : LiftFault) → lifted.is_memory fault ≡ false → activities actions 0 steps ≡ Err fault → IsLiftCause actions steps fault
+  lift_cause_for fault some is = cause_of actions steps fault (subst (λ memory. Unless memory (activities actions 0 steps ≡ Err fault)) (sym some) is)
