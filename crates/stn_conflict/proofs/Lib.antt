@@ -12,3 +12,4 @@ pub mod Relaxing
 pub mod Searches
 pub mod Found
 pub mod Turned
+pub mod SoonestTimes

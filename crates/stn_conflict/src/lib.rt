@@ -9,6 +9,7 @@ pub use links::{
 pub use network::Network;
 pub use reach::distances;
 pub use search::cycle;
+pub use times::{earliest, latest, soonest};
 pub use ways::both_ways;
 
 mod levels;
@@ -19,4 +20,5 @@ mod outgoing;
 mod reach;
 mod relaxation;
 mod search;
+mod times;
 mod ways;

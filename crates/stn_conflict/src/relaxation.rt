@@ -24,7 +24,7 @@ use stn_time::{HORIZON, Memory, Ms};
 #[derive(Clone, Copy)]
 struct NoSchedule;
 
-fn horizon() -> Ms
+pub(crate) fn horizon() -> Ms
     ensures { result ≡ horizon }
 {
     Ms::new(HORIZON).unwrap()

@@ -3,52 +3,18 @@ use Rattle.std.specs.Prelude.{int_le, is_none, IfSome, IfNone}
 use Rattle.std.proofs.{lemmas.Bool.cases_lt, lemmas.Bool.false≢true, lemmas.Int.ints, lemmas.Int.by_lt_z}
 use Rattle.stn_net.specs.Difference.{Difference}
 use Rattle.stn_net.specs.{Matrix.Table.Table, Matrix.Table.far_of, Matrix.Tightest.IsExact}
-use Rattle.stn_net.specs.Windows.Dispatch.{IsLeft, IsReady, IsFirstReady, ComesFirst, HasTimeFrom, IsOverdue}
+use Rattle.stn_net.specs.Windows.Dispatch.{IsLeft, IsReady, IsFirstReady, ComesFirst}
 use Rattle.stn_net.specs.Windows.Leading.{earliest, Leads, NonePast, CanLead, IsFirstPast, IsLeastLeader, IsEarliestBelow, IsEarliestSoFar, earlier_of}
 use Rattle.stn_net.proofs.Readiness.{left_within, exact_triangle, exact_itself, ready_now, ready_can_lead, ready_none_past}
 
--- an event whose latest time comes before now takes no time from now on
-past_without_time : (bounds : List Difference) (table : Table) (now : ℤ) (event : ℕ) → IsExact bounds table → event ≤ table.events
-    → far_of table 0 event <ℤ now → ¬ HasTimeFrom bounds now event
-past_without_time bounds table now event exact within past some =
-    let late = (exact.far 0 event (omega arith) within).bound some.2.0 some.2.1 in
-    let origin = some.2.1.origin in
-    let later = some.1 in
-    let at = some.2.2 in
-    absurd (omega (arith, ints))
-
--- an event that takes no time from now on has its latest time before now
-past_from_none : (bounds : List Difference) (table : Table) (now : ℤ) (event : ℕ) → IsExact bounds table → event ≤ table.events
-    → ¬ HasTimeFrom bounds now event → far_of table 0 event <ℤ now
-past_from_none bounds table now event exact within none =
-    let late = (exact.far 0 event (omega arith) within).attained in
-    let origin = late.1.origin in
-    let attains = late.2 in
-    by_lt_z (far_of table 0 event) now (λ before. before) (λ later. absurd (none (far_of table 0 event, later, (late.0, late.1, omega (arith, ints)))))
-
--- where an event's latest time has passed, the least such event is overdue
-pub past_is_overdue : (bounds : List Difference) (table : Table) (done : List Bool) (now : ℤ) (event : ℕ) → IsExact bounds table → length done ≡ table.events + 1
-    → IsFirstPast (far_of table) done now event → IsOverdue bounds done now event
-past_is_overdue bounds table done now event exact one_each past =
-    let within : event ≤ table.events = omega (arith, left_within done event past.left) in
-    record {
-      none = λ time other later ready.
-          let before = ready_none_past bounds table done other time exact one_each ready event past.left in
-          let late = past.past in
-          absurd (omega (arith, ints));
-      left = past.left;
-      past = past_without_time bounds table now event exact within past.past;
-      least = λ other left none. past.first other left (past_from_none bounds table now other exact (omega (arith, left_within done other left)) none);
-    }
-
 -- what a look for the first event whose latest time has passed says where it finds none
-pub none_is_past : (far : ℕ → ℕ → ℤ) (done : List Bool) (time : ℤ) (found : Option ℕ) → is_none found ≡ true → IfNone found (NonePast far done time) → NonePast far done time
-none_is_past far done time None test none = none
-none_is_past far done time (Some event) test none = absurd (false≢true test)
+pub none_is_past : (latest : ℕ → ℤ) (done : List Bool) (time : ℤ) (found : Option ℕ) → is_none found ≡ true → IfNone found (NonePast latest done time) → NonePast latest done time
+none_is_past latest done time None test none = none
+none_is_past latest done time (Some event) test none = absurd (false≢true test)
 
 -- and where it finds one, nothing is ready then
 pub past_none_ready : (bounds : List Difference) (table : Table) (done : List Bool) (time : ℤ) (event : ℕ) (found : Option ℕ) → IsExact bounds table → length done ≡ table.events + 1
-    → is_none found ≡ false → IfSome found (IsFirstPast (far_of table) done time) → ¬ IsReady bounds done event time
+    → is_none found ≡ false → IfSome found (IsFirstPast (far_of table 0) done time) → ¬ IsReady bounds done event time
 past_none_ready bounds table done time event None exact one_each test past ready = false≢true (sym test)
 past_none_ready bounds table done time event (Some other) exact one_each test past ready =
     let before = ready_none_past bounds table done event time exact one_each ready other past.left in
@@ -57,7 +23,7 @@ past_none_ready bounds table done time event (Some other) exact one_each test pa
 
 -- the least event that can lead runs first, now
 pub leader_is_first : (bounds : List Difference) (table : Table) (done : List Bool) (now : ℤ) (run : ℤ × ℕ) → IsExact bounds table → length done ≡ table.events + 1
-    → NonePast (far_of table) done now → IsLeastLeader (far_of table) done now run → IsFirstReady bounds done now run.0 run.1
+    → NonePast (far_of table 0) done now → IsLeastLeader (far_of table) done now run → IsFirstReady bounds done now run.0 run.1
 leader_is_first bounds table done now run exact one_each none leader =
     let at = leader.at in
     rw at (record {
@@ -68,7 +34,7 @@ leader_is_first bounds table done now run exact one_each none leader =
 
 -- where no event can lead now, the first by earliest time runs first, at its earliest time
 pub earliest_is_first : (bounds : List Difference) (table : Table) (done : List Bool) (now : ℤ) (run : ℤ × ℕ) → IsExact bounds table → length done ≡ table.events + 1
-    → ((event : ℕ) → ¬ CanLead (far_of table) done now event) → IsEarliestBelow (far_of table) done (length done) run → IsFirstReady bounds done now run.0 run.1
+    → ((event : ℕ) → ¬ CanLead (far_of table) done now event) → IsEarliestBelow (earliest (far_of table)) done (length done) run → IsFirstReady bounds done now run.0 run.1
 earliest_is_first bounds table done now run exact one_each none first =
     let event = run.1 in
     let at = first.at in
@@ -80,7 +46,7 @@ earliest_is_first bounds table done now run exact one_each none first =
     let round = exact_triangle bounds table event other 0 exact within (omega arith) (omega arith) in
     omega (arith, ints) in
     let can : CanLead (far_of table) done run.0 event = record { left = first.left; come = omega (arith, ints); leads = leads } in
-    let in_time : NonePast (far_of table) done run.0 = λ other left.
+    let in_time : NonePast (far_of table 0) done run.0 = λ other left.
     let others = left_within done other left in
     let sooner = (first.first other others left).0 in
     let round = exact_triangle bounds table 0 other 0 exact (omega arith) (omega arith) (omega arith) in
@@ -104,9 +70,9 @@ earlier_takes : (run other : ℤ × ℕ) → other.0 <ℤ run.0 → earlier_of (
 earlier_takes run other before = let test : int_le run.0 other.0 ≡ false = grind (arith, ints) in rw test refl
 
 -- where no event below a number is left, one of that number is the first below the next
-first_of_all : (far : ℕ → ℕ → ℤ) (done : List Bool) (number event : ℕ) (time : ℤ) → event ≡ number → IsLeft done event → time ≡ earliest far event
-    → ((other : ℕ) → other < number → ¬ IsLeft done other) → IsEarliestBelow far done (number + 1) (time, event)
-first_of_all far done number event time same left at none = record {
+first_of_all : (times : ℕ → ℤ) (done : List Bool) (number event : ℕ) (time : ℤ) → event ≡ number → IsLeft done event → time ≡ times event
+    → ((other : ℕ) → other < number → ¬ IsLeft done other) → IsEarliestBelow times done (number + 1) (time, event)
+first_of_all times done number event time same left at none = record {
   left = left;
   at = at;
   below = omega arith;
@@ -118,9 +84,9 @@ first_of_all far done number event time same left at none = record {
 }
 
 -- a run that is the first below a number is the first below the next, where it comes before an event of that number that is left
-one_further : (far : ℕ → ℕ → ℤ) (done : List Bool) (number : ℕ) (run : ℤ × ℕ) → IsEarliestBelow far done number run
-    → (IsLeft done number → ComesFirst run.0 run.1 (earliest far number) number) → IsEarliestBelow far done (number + 1) run
-one_further far done number run first next = record {
+one_further : (times : ℕ → ℤ) (done : List Bool) (number : ℕ) (run : ℤ × ℕ) → IsEarliestBelow times done number run
+    → (IsLeft done number → ComesFirst run.0 run.1 (times number) number) → IsEarliestBelow times done (number + 1) run
+one_further times done number run first next = record {
   left = first.left;
   at = first.at;
   below = omega (arith, first.below);
@@ -132,15 +98,15 @@ one_further far done number run first next = record {
 }
 
 -- it stays the first, where the event of that number is no earlier
-first_stays : (far : ℕ → ℕ → ℤ) (done : List Bool) (number event : ℕ) (run : ℤ × ℕ) (time : ℤ) → event ≡ number → time ≡ earliest far event
-    → IsEarliestBelow far done number run → run.0 ≤ℤ time → IsEarliestBelow far done (number + 1) run
-first_stays far done number event run time same at first no_later =
-    one_further far done number run first (λ _. rw (← same) (omega (arith, ints), λ _. omega (arith, first.below)))
+first_stays : (times : ℕ → ℤ) (done : List Bool) (number event : ℕ) (run : ℤ × ℕ) (time : ℤ) → event ≡ number → time ≡ times event
+    → IsEarliestBelow times done number run → run.0 ≤ℤ time → IsEarliestBelow times done (number + 1) run
+first_stays times done number event run time same at first no_later =
+    one_further times done number run first (λ _. rw (← same) (omega (arith, ints), λ _. omega (arith, first.below)))
 
 -- and gives way, where that event is earlier
-first_gives_way : (far : ℕ → ℕ → ℤ) (done : List Bool) (number event : ℕ) (run : ℤ × ℕ) (time : ℤ) → event ≡ number → time ≡ earliest far event
-    → IsLeft done event → IsEarliestBelow far done number run → time <ℤ run.0 → IsEarliestBelow far done (number + 1) (time, event)
-first_gives_way far done number event run time same at left first before = record {
+first_gives_way : (times : ℕ → ℤ) (done : List Bool) (number event : ℕ) (run : ℤ × ℕ) (time : ℤ) → event ≡ number → time ≡ times event
+    → IsLeft done event → IsEarliestBelow times done number run → time <ℤ run.0 → IsEarliestBelow times done (number + 1) (time, event)
+first_gives_way times done number event run time same at left first before = record {
   left = left;
   at = at;
   below = omega arith;
@@ -152,23 +118,23 @@ first_gives_way far done number event run time same at left first before = recor
 }
 
 -- a look at one more event that is left: the earlier of the two runs comes first among those so far
-pub one_more_run : (far : ℕ → ℕ → ℤ) (done : List Bool) (number event : ℕ) (first : Option (ℤ × ℕ)) (time : ℤ) → event ≡ number → IsLeft done event → time ≡ earliest far event
-    → IsEarliestSoFar far done number first → IsEarliestBelow far done (number + 1) (earlier_of first (time, event))
-one_more_run far done number event None time same left at none = first_of_all far done number event time same left at none
-one_more_run far done number event (Some run) time same left at first =
+pub one_more_run : (times : ℕ → ℤ) (done : List Bool) (number event : ℕ) (first : Option (ℤ × ℕ)) (time : ℤ) → event ≡ number → IsLeft done event → time ≡ times event
+    → IsEarliestSoFar times done number first → IsEarliestBelow times done (number + 1) (earlier_of first (time, event))
+one_more_run times done number event None time same left at none = first_of_all times done number event time same left at none
+one_more_run times done number event (Some run) time same left at first =
     by_lt_z time run.0
-    (λ before. rw (earlier_takes run (time, event) before) (first_gives_way far done number event run time same at left first before))
-    (λ no_later. rw (earlier_keeps run (time, event) no_later) (first_stays far done number event run time same at first no_later))
+    (λ before. rw (earlier_takes run (time, event) before) (first_gives_way times done number event run time same at left first before))
+    (λ no_later. rw (earlier_keeps run (time, event) no_later) (first_stays times done number event run time same at first no_later))
 
 -- a look at one more event that is not left changes nothing
-pub same_first : (far : ℕ → ℕ → ℤ) (done : List Bool) (number event : ℕ) (first : Option (ℤ × ℕ)) → event ≡ number → ¬ IsLeft done event
-    → IsEarliestSoFar far done number first → IsEarliestSoFar far done (number + 1) first
-same_first far done number event None same not_left none = λ other within is_left.
+pub same_first : (times : ℕ → ℤ) (done : List Bool) (number event : ℕ) (first : Option (ℤ × ℕ)) → event ≡ number → ¬ IsLeft done event
+    → IsEarliestSoFar times done number first → IsEarliestSoFar times done (number + 1) first
+same_first times done number event None same not_left none = λ other within is_left.
     elim (cases_lt other number) [
       | inl before ↦ none other before is_left
       | inr here ↦ let is : other ≡ event = omega arith in not_left (rw (← is) is_left)
     ]
-same_first far done number event (Some run) same not_left first = one_further far done number run first (λ is_left. absurd (not_left (rw same is_left)))
+same_first times done number event (Some run) same not_left first = one_further times done number run first (λ is_left. absurd (not_left (rw same is_left)))
 
 -- no event below the next number can lead, where none below the number can and that of the number can't
 pub one_more_behind : (far : ℕ → ℕ → ℤ) (done : List Bool) (now : ℤ) (number event : ℕ) → event ≡ number → ¬ CanLead far done now event

@@ -6,6 +6,7 @@ pub mod Entries
 pub mod Passing
 pub mod WindowEnds
 pub mod Readiness
+pub mod Ends
 pub mod Coming
 pub mod OneAnswer
 pub mod Rehearsals
@@ -15,3 +16,4 @@ pub mod Told
 pub mod Fixed
 pub mod SomeNext
 pub mod SomeRehearsal
+pub mod Soonest

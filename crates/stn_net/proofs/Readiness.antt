@@ -29,7 +29,7 @@ exact_row bounds table x exact xs =
 
 -- an event that is left, whose earliest time has come, that leads, and before which no other has to run, is ready
 pub ready_now : (bounds : List Difference) (table : Table) (done : List Bool) (event : ℕ) (time : ℤ) → IsExact bounds table → length done ≡ table.events + 1
-    → CanLead (far_of table) done time event → NonePast (far_of table) done time → IsReady bounds done event time
+    → CanLead (far_of table) done time event → NonePast (far_of table 0) done time → IsReady bounds done event time
 ready_now bounds table done event time exact one_each can none =
     let within : event ≤ table.events = omega (arith, left_within done event can.left) in
     let itself = exact_itself bounds table event exact within in
@@ -69,7 +69,7 @@ ready_can_lead bounds table done event time exact one_each ready =
 
 -- and no event that is left has to run before its time
 pub ready_none_past : (bounds : List Difference) (table : Table) (done : List Bool) (event : ℕ) (time : ℤ) → IsExact bounds table → length done ≡ table.events + 1
-    → IsReady bounds done event time → NonePast (far_of table) done time
+    → IsReady bounds done event time → NonePast (far_of table 0) done time
 ready_none_past bounds table done event time exact one_each ready = λ other left.
     let others : other ≤ table.events = omega (arith, left_within done other left) in
     let origin = ready.possible.1.origin in

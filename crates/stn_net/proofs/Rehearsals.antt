@@ -80,10 +80,10 @@ pub overdue_cannot_wait : (bounds : List Difference) (done : List Bool) (now : �
 overdue_cannot_wait bounds done now event overdue wait =
     overdue.past (wait.0 event, wait.2 event overdue.left, (wait.0, wait.1, refl))
 
-abbrev one_or_none : Bool → ℕ
+abbrev pub one_or_none : Bool → ℕ
 one_or_none test = cond test 1 0
 
-abbrev runs_at : ℕ → ℤ × ℕ → ℕ
+abbrev pub runs_at : ℕ → ℤ × ℕ → ℕ
 runs_at event run = one_or_none (eqb run.1 event)
 
 -- each event that is left runs once in a rehearsal, and no other

@@ -5,14 +5,14 @@ use Rattle.stn_net.specs.Difference.{Difference}
 use Rattle.stn_net.specs.{Matrix.Table.Table, Matrix.Table.far_of, Matrix.Tightest.IsExact, declared.windows.answers.Next.Next, Windows.Dispatch.IsLeft, Windows.Dispatch.IsNext}
 use Rattle.stn_net.specs.declared.windows.answers.Next.TheVariants.{Run, AllDone, Overdue}
 use Rattle.stn_net.specs.Windows.Leading.{earliest, Leads, NonePast, CanLead, IsFirstPast, IsLeastLatest, IsLeastLeader, IsEarliestSoFar, earlier_of}
-use Rattle.stn_net.proofs.{Told.Told, Told.both_told, Told.less_told, Told.below_told, Told.false_told, Told.least_below, Readiness.left_within, Coming.past_is_overdue, Coming.leader_is_first, Coming.earliest_is_first, Coming.one_more_run, Coming.same_first}
+use Rattle.stn_net.proofs.{Told.Told, Told.both_told, Told.less_told, Told.below_told, Told.false_told, Told.least_below, Readiness.left_within, Ends.latest_of_exact, Ends.past_is_overdue, Coming.leader_is_first, Coming.earliest_is_first, Coming.one_more_run, Coming.same_first}
 
 pub left_told : (done : List Bool) (event : ℕ) → Told (IsLeft done event)
 left_told done event = both_told (0 < event) (get_or done event true ≡ false) (below_told 0 event) (false_told (get_or done event true))
 
 module _ (far : ℕ → ℕ → ℤ) (done : List Bool) where
   -- the least event that is left and whose latest time comes before now, or none
-  some_past : (now : ℤ) → ((event : ℕ) × IsFirstPast far done now event) ⊎ NonePast far done now
+  some_past : (now : ℤ) → ((event : ℕ) × IsFirstPast (far 0) done now event) ⊎ NonePast (far 0) done now
   some_past now =
       let P : ℕ → Type 0 = λ event. IsLeft done event × (far 0 event <ℤ now) in
       elim (least_below P (λ event. both_told (IsLeft done event) (far 0 event <ℤ now) (left_told done event) (less_told (far 0 event) now)) (length done)) [
@@ -64,7 +64,7 @@ module _ (far : ℕ → ℕ → ℤ) (done : List Bool) where
       ]
 
   -- the first of the events with numbers below the limit, by earliest time, or none
-  some_earliest : (limit : ℕ) → (first : Option (ℤ × ℕ)) × IsEarliestSoFar far done limit first
+  some_earliest : (limit : ℕ) → (first : Option (ℤ × ℕ)) × IsEarliestSoFar (earliest far) done limit first
   some_earliest zero = (None, λ event below. absurd (omega arith))
   some_earliest (suc event) =
       let (first, so_far) = some_earliest event in
@@ -72,13 +72,13 @@ module _ (far : ℕ → ℕ → ℤ) (done : List Bool) where
       elim (left_told done event) [
         | inl left ↦ (
           Some (earlier_of first (earliest far event, event)),
-          subst (λ limit. IsEarliestSoFar far done limit (Some (earlier_of first (earliest far event, event)))) e (one_more_run far done event event first (earliest far event) refl left refl so_far),
+          subst (λ limit. IsEarliestSoFar (earliest far) done limit (Some (earlier_of first (earliest far event, event)))) e (one_more_run (earliest far) done event event first (earliest far event) refl left refl so_far),
         )
-        | inr not_left ↦ (first, subst (λ limit. IsEarliestSoFar far done limit first) e (same_first far done event event first refl not_left so_far))
+        | inr not_left ↦ (first, subst (λ limit. IsEarliestSoFar (earliest far) done limit first) e (same_first (earliest far) done event event first refl not_left so_far))
       ]
 
   -- the least of the latest times of the events that are left, of which this is one
-  pub some_least_latest : (event : ℕ) → IsLeft done event → (time : ℤ) × IsLeastLatest far done time
+  pub some_least_latest : (event : ℕ) → IsLeft done event → (time : ℤ) × IsLeastLatest (far 0) done time
   some_least_latest event left =
       let (time, at, least) = below (length done) in
       (time, record { at = at; least = λ other is_left. least other (left_within done other is_left) is_left })
@@ -124,14 +124,14 @@ pub record AreFlagged (bounds : List Difference) (table : Table) (done : List Bo
 pub some_next : (bounds : List Difference) (table : Table) (done : List Bool) (now : ℤ) → AreFlagged bounds table done → (answer : Next) × IsNext bounds done now answer
 some_next bounds table done now are =
     elim (some_past (far_of table) done now) [
-      | inl (event, past) ↦ (Overdue event, past_is_overdue bounds table done now event are.exact are.one_each past)
+      | inl (event, past) ↦ (Overdue event, past_is_overdue bounds table.events (far_of table 0) done (latest_of_exact bounds table are.exact) are.one_each now event past)
       | inr none ↦ elim (some_leader (far_of table) done now) [
         | inl (run, leader) ↦ (Run run.0 run.1, leader_is_first bounds table done now run are.exact are.one_each none leader)
         | inr behind ↦ (let (first, so_far) = some_earliest (far_of table) done (length done) in by_first behind first so_far)
       ]
     ]
   where
-    by_first : ((event : ℕ) → ¬ CanLead (far_of table) done now event) → (first : Option (ℤ × ℕ)) → IsEarliestSoFar (far_of table) done (length done) first
+    by_first : ((event : ℕ) → ¬ CanLead (far_of table) done now event) → (first : Option (ℤ × ℕ)) → IsEarliestSoFar (earliest (far_of table)) done (length done) first
         → (answer : Next) × IsNext bounds done now answer
     by_first behind None none = (AllDone, λ event left. none event (left_within done event left) left)
     by_first behind (Some run) first = (Run run.0 run.1, earliest_is_first bounds table done now run are.exact are.one_each behind first)

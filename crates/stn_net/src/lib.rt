@@ -7,8 +7,8 @@ pub use event::{Event, MOST_EVENTS, MOST_STEPS};
 pub use matrix::Matrix;
 pub use schedule::first_broken;
 pub use windows::{
-    Next, RehearseFault, next, next_unique, ready, ready_times, rehearsal_unique, rehearse,
-    rehearsed_or_overdue, something_comes_next, window,
+    Next, RehearseFault, is_left, next, next_unique, overdue, ready, ready_times, rehearsal_unique,
+    rehearse, rehearsed_or_overdue, something_comes_next, soonest_next, soonest_runs, window,
 };
 
 mod bound;

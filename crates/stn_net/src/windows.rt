@@ -5,13 +5,15 @@
 //! counts for nothing.
 
 pub use answers::{Next, RehearseFault};
-pub use dispatch::{next, ready, ready_times};
+pub use dispatch::{is_left, next, ready, ready_times};
 pub use ends::window;
 pub use laws::{next_unique, rehearsal_unique, rehearsed_or_overdue, something_comes_next};
 pub use rehearsal::rehearse;
+pub use soonest::{overdue, soonest_next, soonest_runs};
 
 mod answers;
 mod dispatch;
 mod ends;
 mod laws;
 mod rehearsal;
+mod soonest;

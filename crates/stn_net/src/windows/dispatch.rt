@@ -53,7 +53,7 @@ fn least_latest<A: Allocator>(matrix: &Matrix<A>, done: &[bool], event: Event) -
     requires one_each { length done.now ≡ matrix.now.events + 1 }
     requires within { event ≤ matrix.now.events }
     requires left { IsLeft done.now event }
-    ensures { IsLeastLatest (far_of matrix.now) done.now result }
+    ensures { IsLeastLatest (far_of matrix.now 0) done.now result }
 {
     let mut least = matrix.far(Event::origin(), event);
     for number in 1..matrix.events() + 1 {
@@ -87,8 +87,8 @@ pub fn next<A: Allocator>(matrix: &Matrix<A>, done: &[bool], now: Ms) -> Next
 // The least event that is left and whose latest time comes before now.
 fn first_past<A: Allocator>(matrix: &Matrix<A>, done: &[bool], now: Ms) -> Option<Event>
     requires { length done.now ≡ matrix.now.events + 1 }
-    ensures past { IfSome result (IsFirstPast (far_of matrix.now) done.now now) }
-    ensures none { IfNone result (NonePast (far_of matrix.now) done.now now) }
+    ensures past { IfSome result (IsFirstPast (far_of matrix.now 0) done.now now) }
+    ensures none { IfNone result (NonePast (far_of matrix.now 0) done.now now) }
 {
     for number in 1..matrix.events() + 1 {
         let event = Event::new(number).unwrap();
@@ -152,8 +152,8 @@ fn leads<A: Allocator>(matrix: &Matrix<A>, done: &[bool], event: Event) -> bool
     true
 }
 
-// Whether the event is not the origin and is not done.
-fn is_left(done: &[bool], event: Event) -> bool
+/// Whether the event is not the origin and is not done.
+pub fn is_left(done: &[bool], event: Event) -> bool
     requires { event < length done.now }
     ensures { IsTrue result ↔ IsLeft done.now event }
 {
@@ -161,7 +161,7 @@ fn is_left(done: &[bool], event: Event) -> bool
 }
 
 // The run of the lesser time; the first, where both have one time.
-fn earlier_of(first: Option<(Ms, Event)>, run: (Ms, Event)) -> (Ms, Event)
+pub(crate) fn earlier_of(first: Option<(Ms, Event)>, run: (Ms, Event)) -> (Ms, Event)
     ensures { result ≡ earlier_of first run }
 {
     match first {

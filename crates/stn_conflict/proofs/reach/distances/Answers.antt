@@ -1,9 +1,9 @@
-use Rattle.std.proofs.Common.{ℕ, ◌+◌, List, refl, sym, arith}
+use Rattle.std.proofs.Common.{◌+◌, refl, sym, arith}
 use Rattle.std.proofs.lemmas.Bool.{false≢true}
 use Rattle.std.specs.Prelude.{◌++◌}
-use Rattle.stn_net.specs.{Difference.Difference, Schedule.HasSchedule}
-use Rattle.stn_conflict.specs.{declared.relaxation.Search.Search, Distances.AreDistancesFrom, Relaxation.AreDistances, Relaxation.HasTables}
-use Rattle.stn_conflict.proofs.{Relaxing.network_of, Turned.network_turned, Turned.has_turned, Turned.distances_of_turned, Turned.rows_turned}
+use Rattle.stn_net.specs.{Schedule.HasSchedule}
+use Rattle.stn_conflict.specs.{Distances.AreDistancesFrom}
+use Rattle.stn_conflict.proofs.{SoonestTimes.distances_of, Relaxing.network_of, Turned.network_turned, Turned.has_turned, Turned.distances_of_turned, Turned.rows_turned}
 use Rattle.stn_conflict.proofs.reach.distances.Goals as goal
 
 pub found-requires-clause-network : goal.found-requires-clause-network
@@ -25,11 +25,6 @@ returns-in_default-2-clause-none g c =
     let bounds = c.args.base.now ++ c.args.extra.now in
     let refused : ¬ HasSchedule c.new-back.result = rw c.in_default-2.is at c.in_ok-to.ensures in
     (λ e has. refused (rw c.new-back.ensures (has_turned bounds has)), λ e. refl)
-
--- the distances that a search has found
-distances_of : {A : Type 0} (bounds : List Difference) (events event : ℕ) (search : Search A) → HasTables (events + 1) search × AreDistances bounds event search.far.items
-    → AreDistancesFrom bounds events event search.far.items
-distances_of bounds events event search (tables, far) = record { long = tables.far; tightest = λ x xs. far.tightest x (omega (arith, tables.far)) }
 
 pub returns-clause-none : goal.returns-clause-none
 returns-clause-none g c =

@@ -40,12 +40,12 @@ loop-number-preserved g c =
           ] in
           rw w.first-is (record {
             none = one_more_behind far done now number event is behind c.loop-number.invariant.none;
-            first = rw w.earlier_of.ensures (one_more_run far done number event first w.neg-earliest.result is (c.is_left.ensures.0 w.if-is_left.true) time c.loop-number.invariant.first);
+            first = rw w.earlier_of.ensures (one_more_run (earliest far) done number event first w.neg-earliest.result is (c.is_left.ensures.0 w.if-is_left.true) time c.loop-number.invariant.first);
           })
       | else-is_left w ↦
           let not_left : ¬ IsLeft done event = λ left. let yes = c.is_left.ensures.1 left in let not = w.if-is_left.false in false≢true (cc) in
           rw w.first-is (record {
             none = one_more_behind far done now number event is (λ can. not_left can.left) c.loop-number.invariant.none;
-            first = same_first far done number event first is not_left c.loop-number.invariant.first;
+            first = same_first (earliest far) done number event first is not_left c.loop-number.invariant.first;
           })
     ]

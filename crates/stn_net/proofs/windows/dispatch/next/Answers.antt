@@ -1,9 +1,10 @@
 use Rattle.std.proofs.Common.{inl, inr}
-use Rattle.stn_net.proofs.Coming.{past_is_overdue, leader_is_first, earliest_is_first}
+use Rattle.stn_net.specs.Matrix.Table.{far_of}
+use Rattle.stn_net.proofs.{Ends.latest_of_exact, Ends.past_is_overdue, Coming.leader_is_first, Coming.earliest_is_first}
 use Rattle.stn_net.proofs.windows.dispatch.next.Goals as goal
 
 pub returns-in-Some-clause-next : goal.returns-in-Some-clause-next
-returns-in-Some-clause-next g c = λ bounds exact. past_is_overdue bounds c.args.matrix.now c.args.done.now c.args.now c.in-Some.event exact c.requires c.in-Some.ensures.past
+returns-in-Some-clause-next g c = λ bounds exact. past_is_overdue bounds c.args.matrix.now.events (far_of c.args.matrix.now 0) c.args.done.now (latest_of_exact bounds c.args.matrix.now exact) c.requires c.args.now c.in-Some.event c.in-Some.ensures.past
 
 pub returns-in-Some-first_run-clause-next : goal.returns-in-Some-first_run-clause-next
 returns-in-Some-first_run-clause-next g c = λ bounds exact.

@@ -6,7 +6,7 @@ use Rattle.stn_net.proofs.windows.dispatch.ready.Goals as goal
 
 pub returns-then-is_none : goal.returns-then-is_none
 returns-then-is_none g c = λ bounds exact.
-    let none = none_is_past (far_of c.args.matrix.now) c.args.done.now c.args.time c.first_past.result (search rules) c.first_past.ensures.none in (
+    let none = none_is_past (far_of c.args.matrix.now 0) c.args.done.now c.args.time c.first_past.result (search rules) c.first_past.ensures.none in (
       (λ leads. ready_now bounds c.args.matrix.now c.args.done.now c.args.event c.args.time exact c.requires.one_each (c.can_lead.ensures.0 leads) none),
       (λ ready. c.can_lead.ensures.1 (ready_can_lead bounds c.args.matrix.now c.args.done.now c.args.event c.args.time exact c.requires.one_each ready)),
     )

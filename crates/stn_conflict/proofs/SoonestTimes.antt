@@ -1,0 +1,51 @@
+-- The earliest, the latest and the soonest times that a search finds.
+use Rattle.std.proofs.Common.{◌≡◌, ℕ, ℤ, pos, ◌+◌, ◌≤◌, ◌≤ℤ◌, neg_ℤ, Bool, List, ◌++◌, length, map, sym, subst, append_assoc, arith}
+use Rattle.std.specs.Prelude.{Vec, All, Option, Some, None, MatchOption}
+use Rattle.std.proofs.{lemmas.Int.ints, lemmas.List.get_or-map, lemmas.List.Elements.All-append}
+use Rattle.stn_time.specs.Time.{horizon}
+use Rattle.stn_net.specs.{Difference.Difference, Difference.NamesEvents, Schedule.IsSchedule, Schedule.HasSchedule, Schedule.times_of}
+use Rattle.stn_net.specs.Windows.{Window.IsInWindow, Dispatch.IsLeft, Dispatch.CanWaitUntil, Leading.AreFloorsBelow, Soonest.AreEarliest, Soonest.AreLatest, Soonest.AreSoonest}
+use Rattle.stn_net.proofs.{Readiness.left_within, Ends.earliest_of_tightest, Ends.latest_of_tightest, Soonest.waits_above, Soonest.soonest_of_earliest}
+use Rattle.stn_conflict.specs.{declared.relaxation.Search.Search, Distances.AreDistancesFrom, Distances.AreDistancesTo, Relaxation.AreDistances, Relaxation.HasTables, Relaxation.IsNetwork}
+
+-- the distances that a search has found
+pub distances_of : {A : Type 0} (bounds : List Difference) (events event : ℕ) (search : Search A) → HasTables (events + 1) search × AreDistances bounds event search.far.items
+    → AreDistancesFrom bounds events event search.far.items
+distances_of bounds events event search (tables, far) = record { long = tables.far; tightest = λ x xs. far.tightest x (omega (arith, tables.far)) }
+
+-- how long after each event the origin can come at the most, with the signs changed: the earliest times
+pub earliest_opposite : (bounds : List Difference) (events : ℕ) (far : List ℤ) → AreDistancesTo bounds events 0 far → AreEarliest bounds events (times_of (map neg_ℤ far))
+earliest_opposite bounds events far d =
+    let are = earliest_of_tightest bounds events (times_of far) d.tightest in
+    let at : (event : ℕ) → event ≤ events → times_of (map neg_ℤ far) event ≡ neg_ℤ (times_of far event) = λ event within. get_or-map neg_ℤ far event (pos 0) (pos 0) (omega (arith, d.long)) in
+    record {
+      taken = λ event within. subst (IsInWindow bounds event) (sym (at event within)) (are.taken event within);
+      least = λ others schedule event within. subst (λ time. time ≤ℤ others event) (sym (at event within)) (are.least others schedule event within);
+    }
+
+-- how long after the origin each event can come at the most: the latest times
+pub found_latest : {A : Type 0} (bounds : List Difference) (events : ℕ) (found : Option (Vec ℤ A))
+    → MatchOption found (¬ HasSchedule bounds) (λ far. AreDistancesFrom bounds events 0 far.items)
+    → MatchOption found (¬ HasSchedule bounds) (λ times. (length times.items ≡ events + 1) × AreLatest bounds events (times_of times.items))
+found_latest bounds events None none = none
+found_latest bounds events (Some far) d = (d.long, latest_of_tightest bounds events (times_of far.items) d.tightest)
+
+module _ (base extra floors : List Difference) (events : ℕ) (done : List Bool) (now : ℤ) (network : IsNetwork events (base ++ extra)) (one_each : length done ≡ events + 1)
+    (named : All (NamesEvents events) floors) (are : AreFloorsBelow done now (length done) floors) where
+  by_horizon : (times : ℕ → ℤ) → IsSchedule (base ++ extra) times → (event : ℕ) → IsLeft done event → times event ≤ℤ horizon
+  by_horizon times schedule event left =
+      let origin = schedule.origin in
+      let near = network.apart times schedule 0 event (omega arith) (omega (arith, left_within done event left)) in
+      omega (arith, ints)
+
+  -- the earliest times of the bounds and the floors are the soonest of the bounds
+  pub found_soonest : {A : Type 0} (found : Option (Vec ℤ A))
+      → MatchOption found (¬ HasSchedule (base ++ (extra ++ floors))) (λ times. (length times.items ≡ events + 1) × AreEarliest (base ++ (extra ++ floors)) events (times_of times.items))
+      → MatchOption found (¬ CanWaitUntil (base ++ extra) done now) (λ times. (length times.items ≡ events + 1) × AreSoonest (base ++ extra) done now (times_of times.items))
+  found_soonest None none = λ can. none (subst HasSchedule (append_assoc base extra floors) ((waits_above (base ++ extra) floors done now are by_horizon).1 can))
+  found_soonest (Some times) (long, earliest) = (
+    long,
+    soonest_of_earliest (base ++ extra) floors done now are by_horizon events (times_of times.items) one_each
+        (All-append (NamesEvents events) (base ++ extra) floors network.named named)
+        (subst (λ bounds. AreEarliest bounds events (times_of times.items)) (sym (append_assoc base extra floors)) earliest),
+  )

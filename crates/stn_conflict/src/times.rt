@@ -1,0 +1,132 @@
+ghost use Rattle.std.specs.Prelude.{◌≡◌, ◌+◌, ◌≤◌, ◌++◌, neg_ℤ, ℤ, List, length, map, take, All, IfOk, OnOk, MatchOption};
+ghost use Rattle.stn_net.specs.Difference.{Difference, NamesEvents};
+ghost use Rattle.stn_net.specs.Event.{most_events};
+ghost use Rattle.stn_net.specs.Horizon.{horizon_bounds};
+ghost use Rattle.stn_net.specs.Schedule.{HasSchedule, times_of};
+ghost use Rattle.stn_net.specs.Windows.Dispatch.{CanWaitUntil};
+ghost use Rattle.stn_net.specs.Windows.Leading.{AreFloorsBelow};
+ghost use Rattle.stn_net.specs.Windows.Soonest.{AreEarliest, AreLatest, AreSoonest};
+ghost use Rattle.stn_conflict.specs.Distances.{AreDistancesFrom};
+ghost use Rattle.stn_conflict.specs.Relaxation.{IsNetwork};
+
+use crate::listed::{Direction, Listed};
+use crate::relaxation::{Search, horizon, outgoing_links};
+use std::alloc::Allocator;
+use stn_net::{Bound, Event, is_left};
+use stn_time::{Memory, Ms};
+
+/// The earliest times of the origin and of all events, by the bounds of `base` followed by those of
+/// `extra`; none exactly where these have no schedule. There are so many `events` beside the origin,
+/// `base` begins with their horizon bounds, and all bounds are about them. It fails only if memory
+/// runs out.
+pub fn earliest<A: Allocator + Copy>(
+    alloc: A,
+    events: u16,
+    base: &[Bound],
+    extra: &[Bound],
+) -> Result<Option<Vec<Ms, A>>, Memory>
+    requires few { events ≤ most_events }
+    requires begins { take events base.now ≡ horizon_bounds events }
+    requires base_named { All (NamesEvents events) base.now }
+    requires extra_named { All (NamesEvents events) extra.now }
+    ensures { IfOk result (λ found. MatchOption found (¬ HasSchedule (base.now ++ extra.now))
+        (λ times. (length times.items ≡ events + 1) × AreEarliest (base.now ++ extra.now) events (times_of times.items))) }
+{
+    let back = Listed::new(Direction::Backward, base, extra);
+    match from_origin(alloc, events, &back)? {
+        Some(far) => Ok(Some(opposite(alloc, &far)?)),
+        None => Ok(None),
+    }
+}
+
+/// The latest times of the origin and of all events, in the same way.
+pub fn latest<A: Allocator + Copy>(
+    alloc: A,
+    events: u16,
+    base: &[Bound],
+    extra: &[Bound],
+) -> Result<Option<Vec<Ms, A>>, Memory>
+    requires few { events ≤ most_events }
+    requires begins { take events base.now ≡ horizon_bounds events }
+    requires base_named { All (NamesEvents events) base.now }
+    requires extra_named { All (NamesEvents events) extra.now }
+    ensures { IfOk result (λ found. MatchOption found (¬ HasSchedule (base.now ++ extra.now))
+        (λ times. (length times.items ≡ events + 1) × AreLatest (base.now ++ extra.now) events (times_of times.items))) }
+{
+    let onward = Listed::new(Direction::Forward, base, extra);
+    from_origin(alloc, events, &onward)
+}
+
+/// The soonest times of all events from now on, where each event that is not done counts as left; none
+/// exactly where no schedule has every event that is left from now on.
+pub fn soonest<A: Allocator + Copy>(
+    alloc: A,
+    events: u16,
+    base: &[Bound],
+    extra: &[Bound],
+    done: &[bool],
+    now: Ms,
+) -> Result<Option<Vec<Ms, A>>, Memory>
+    requires few { events ≤ most_events }
+    requires begins { take events base.now ≡ horizon_bounds events }
+    requires base_named { All (NamesEvents events) base.now }
+    requires extra_named { All (NamesEvents events) extra.now }
+    requires one_each { length done.now ≡ events + 1 }
+    ensures { IfOk result (λ found. MatchOption found (¬ CanWaitUntil (base.now ++ extra.now) done.now now)
+        (λ times. (length times.items ≡ events + 1) × AreSoonest (base.now ++ extra.now) done.now now (times_of times.items))) }
+{
+    let mut above = Vec::from_slice(alloc, extra)?;
+    append_floors(events, done, now, &mut above)?;
+    earliest(alloc, events, base, &above)
+}
+
+// How long after the origin each event can come at the most; none exactly where the bounds have no
+// schedule.
+fn from_origin<A: Allocator + Copy>(
+    alloc: A,
+    events: u16,
+    bounds: &Listed<'_>,
+) -> Result<Option<Vec<Ms, A>>, Memory>
+    requires few { events ≤ most_events }
+    requires network { IsNetwork events bounds.now }
+    ensures { IfOk result (λ found. MatchOption found (¬ HasSchedule bounds.now)
+        (λ far. AreDistancesFrom bounds.now events 0 far.items)) }
+{
+    let outgoing = outgoing_links(alloc, events, bounds)?;
+    match Search::found(alloc, events, bounds, &outgoing, Event::origin())? {
+        Some(search) => Ok(Some(search.far)),
+        None => Ok(None),
+    }
+}
+
+// The times with their signs changed.
+fn opposite<A: Allocator>(alloc: A, times: &[Ms]) -> Result<Vec<Ms, A>, Memory>
+    ensures { IfOk result (λ turned. turned.items ≡ map neg_ℤ times.now) }
+{
+    let mut turned = Vec::new(alloc);
+    for time in times {
+        turned.push(-*time)?;
+    }
+    Ok(turned)
+}
+
+// Appends, for each event that is left, the bound that it comes at this time or later.
+fn append_floors<A: Allocator>(
+    events: u16,
+    done: &[bool],
+    now: Ms,
+    out: &mut Vec<Bound, A>,
+) -> Result<(), Memory>
+    requires few { events ≤ most_events }
+    requires one_each { length done.now ≡ events + 1 }
+    ensures { OnOk result ((floors : List Difference) × (out.new.items ≡ out.old.items ++ floors)
+        × AreFloorsBelow done.now now (length done.now) floors × All (NamesEvents events) floors) }
+{
+    for number in 1..events + 1 {
+        let event = Event::new(number).unwrap();
+        if is_left(done, event) {
+            out.push(Bound::new(events, Event::origin(), event, now, horizon()).unwrap())?;
+        }
+    }
+    Ok(())
+}

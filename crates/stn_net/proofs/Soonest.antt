@@ -1,0 +1,368 @@
+-- What the soonest times say of what comes next, of the rest of a plan, and of when an event may run.
+use Rattle.std.proofs.Common.{◌≡◌, ◌≢◌, inl, inr, ℕ, ℤ, pos, zero, suc, ◌+◌, ◌<◌, ◌≤◌, ◌+ℤ◌, ◌-ℤ◌, ◌≤ℤ◌, ◌<ℤ◌, ◌↔◌, Bool, true, false, eqb, List, [], ◌∷◌, ◌++◌, length, get_or, Ordering, Less, Equal, Greater, refl, sym, ap, subst, ◌∙◌, arith}
+use Rattle.std.specs.{Prelude.All, Prelude.Option, Prelude.Some, Prelude.None, Prelude.slice_set, Prelude.count_by, Prelude.MatchOption, List.AllPairs, List.Contains, Int.int_min, Int.int_max, Ordering.ord_max, Ordering.int_cmp, Ordering.nat_cmp, Ordering.is_lt, Ordering.ordering_then, Ordering.MatchOrdering}
+use Rattle.std.proofs.lemmas.Int.{ints, clamps}
+use Rattle.std.proofs.lemmas.Bool.{cases_eq, cases_lt, eq-eqb, ne_eqb, false≢true, Decides.nat_tests}
+use Rattle.std.proofs.lemmas.Cmp.{nat_cmp_total, int_cmp_total, on_total, then_total}
+use Rattle.std.proofs.lemmas.List.Sorted.{sorted_far, ranks_by, All-permutation, sum_by-IsPermutation}
+use Rattle.std.specs.{Cmp.IsTotalOrder, Cmp.ranks, Cmp.int_ranks, List.Sorted.IsSorted, List.Sorted.IsPermutation}
+use Rattle.std.proofs.lemmas.List.Elements.{All-tail, All-append, All-contains, All-push, All-nil, Contains-append_left, Contains-push}
+use Rattle.stn_time.proofs.Each.{All-right}
+use Rattle.std.proofs.lemmas.List.Sums.{sum_by-cons, sum_by_push}
+use Rattle.stn_time.specs.Time.{horizon}
+use Rattle.stn_net.specs.{Difference.Difference, Difference.NamesEvents, Schedule.IsSchedule, Schedule.HasSchedule, Schedule.Meets}
+use Rattle.stn_net.specs.Windows.{Dispatch.IsLeft, Dispatch.LeavesNoneBefore, Dispatch.IsReady, Dispatch.AreReadyTimes, Dispatch.ComesFirst, Dispatch.IsFirstReady, Dispatch.CanWaitUntil, Rehearsal.fixed_at, Rehearsal.IsRehearsal, Rehearsal.RunsEachOnce, Leading.floor_at, Leading.AreFloorsBelow, Leading.RunsBefore, Leading.AreRunsBelow, Leading.AreReadyAt, Leading.IsEarliestBelow, Leading.IsEarliestSoFar, Soonest.AreEarliest, Soonest.AreSoonest}
+use Rattle.stn_net.proofs.{Closure.schedule_before, Closure.schedule_last, Readiness.left_within, WindowEnds.lesser_schedule, ReadyTimes.later_of, Ends.earliest_schedule, Rehearsals.fixed_schedule, Rehearsals.left_before, Rehearsals.left_after, Rehearsals.one_or_none, Rehearsals.runs_at, SomeNext.left_told}
+
+module _ (bounds : List Difference) (done : List Bool) (now : ℤ) (times : ℕ → ℤ) (are : AreSoonest bounds done now times) where
+  -- an event that is left and comes first in the soonest times is ready then
+  first_is_ready : (event : ℕ) → IsLeft done event → ((other : ℕ) → IsLeft done other → times event ≤ℤ times other) → IsReady bounds done event (times event)
+  first_is_ready event left first = record { left = left; possible = (times, are.schedule, refl, first) }
+
+  -- whatever may run from now on comes no sooner
+  pub ready_no_sooner : (event : ℕ) (time : ℤ) → now ≤ℤ time → IsReady bounds done event time → times event ≤ℤ time
+  ready_no_sooner event time later ready =
+      let (others, schedule, at, waits) = ready.possible in
+      let least = are.least others schedule (λ other left. let after = waits other left in omega (arith, ints)) event ready.left in
+      omega (arith, ints)
+
+  -- so the first of those that are left, by its soonest time and then by number, comes next
+  pub soonest_is_first : (time : ℤ) (event : ℕ) → IsLeft done event → time ≡ times event → ((other : ℕ) → IsLeft done other → ComesFirst time event (times other) other)
+      → IsFirstReady bounds done now time event
+  soonest_is_first time event left at first = record {
+    ready = subst (IsReady bounds done event) (sym at) (first_is_ready event left (λ other is_left. let (before, _) = first other is_left in omega (arith, ints)));
+    later = (let after = are.waits event left in omega (arith, ints));
+    first = λ other_time other later ready.
+        let (before, less) = first other ready.left in
+        let sooner = ready_no_sooner other other_time later ready in
+        (omega (arith, ints), λ same. less (omega (arith, ints)));
+  }
+
+  -- once an event that comes first is fixed at its soonest time and done, the soonest times are the same
+  pub soonest_stay : (event : ℕ) → IsLeft done event → ((other : ℕ) → IsLeft done other → times event ≤ℤ times other)
+      → AreSoonest (bounds ++ fixed_at (times event) event ∷ []) (slice_set done event true) (times event) times
+  soonest_stay event left first = record {
+    schedule = fixed_schedule bounds times (times event) event are.schedule refl;
+    waits = λ other still. first other (left_before done event other left still).1;
+    least = λ others schedule waits other still.
+        let (low, high) = schedule_last bounds (fixed_at (times event) event) others schedule in
+        let origin = schedule.origin in
+        let after = are.waits event left in
+        are.least others (schedule_before bounds (fixed_at (times event) event ∷ []) others schedule)
+        (λ one is_left. elim (cases_eq one event) [
+          | inl same ↦ (let e : others one ≡ others event = ap others same in omega (arith, ints))
+          | inr differs ↦ (let later = waits one (left_after done event one is_left differs) in omega (arith, ints))
+        ])
+        other (left_before done event other left still).1;
+  }
+
+-- what counts in a list stands somewhere in it
+pub stands : {X : Type 0} (number : X → ℕ) (xs : List X) (n : ℕ) → 0 < count_by (λ x. eqb (number x) n) xs
+    → (place : ℕ) × (place < length xs) × ((d : X) → number (get_or xs place d) ≡ n)
+stands number [] n some = absurd (omega arith)
+stands {X} number (x ∷ xs) n some = by (eqb (number x) n) refl (λ later. stands number xs n later)
+  where
+    by : (same : Bool) → eqb (number x) n ≡ same
+        → (0 < count_by (λ y. eqb (number y) n) xs → (place : ℕ) × (place < length xs) × ((d : X) → number (get_or xs place d) ≡ n))
+        → (place : ℕ) × (place < length (x ∷ xs)) × ((d : X) → number (get_or (x ∷ xs) place d) ≡ n)
+    by true is behind = (0, omega arith, λ d. grind (arith, nat_tests))
+    by false is behind =
+        let later = behind (omega (arith, sum_by-cons (λ y. one_or_none (eqb (number y) n)) x xs, ap one_or_none is)) in
+        (suc later.0, omega (arith, later.1), λ d. later.2 d)
+
+-- the first comes before each
+first_before : (run : ℤ × ℕ) (runs : List (ℤ × ℕ)) (place : ℕ) (d : ℤ × ℕ) → AllPairs RunsBefore (run ∷ runs) → place < length (run ∷ runs) → RunsBefore run (get_or (run ∷ runs) place d)
+first_before run runs zero d order within = (omega (arith, ints), λ same. omega arith)
+first_before run runs (suc place) d order within = order 0 (suc place) d (omega arith) within
+
+-- the runs are those of all events that are left, each at its time, in their order
+pub record AreRuns (times : ℕ → ℤ) (done : List Bool) (runs : List (ℤ × ℕ)) : Type 0 where
+  pub at : All (λ run. run.0 ≡ times run.1) runs
+  pub once : RunsEachOnce done runs
+  pub order : AllPairs RunsBefore runs
+
+module _ (times : ℕ → ℤ) (done : List Bool) (run : ℤ × ℕ) (runs : List (ℤ × ℕ)) (are : AreRuns times done (run ∷ runs)) where
+  head_at : run.0 ≡ times run.1
+  head_at = are.at 0 run (omega arith)
+
+  head_is_left : IsLeft done run.1
+  head_is_left =
+      elim (left_told done run.1) [
+        | inl left ↦ left
+        | inr not_left ↦ absurd (omega (arith, are.once.others run.1 not_left, sum_by-cons (runs_at run.1) run runs, ap one_or_none (eq-eqb run.1 run.1 refl)))
+      ]
+
+  head_comes_first : (other : ℕ) → IsLeft done other → ComesFirst run.0 run.1 (times other) other
+  head_comes_first other left =
+      let (place, below, is) = stands (λ (r : ℤ × ℕ). r.1) (run ∷ runs) other (omega (arith, are.once.left other left)) in
+      let seen = get_or (run ∷ runs) place run in
+      let before : RunsBefore run seen = first_before run runs place run are.order below in
+      let at : seen.0 ≡ times seen.1 = are.at place run below in
+      subst (λ n. ComesFirst run.0 run.1 (times n) n) (is run) (subst (λ time. ComesFirst run.0 run.1 time seen.1) at before)
+
+  -- the others are those of the events that are left once that of the first is done
+  others_left : AreRuns times (slice_set done run.1 true) runs
+  others_left = record {
+    at = All-tail (λ (r : ℤ × ℕ). r.0 ≡ times r.1) run runs are.at;
+    once = record {
+      left = λ event still.
+          let (differs, was_left) = left_before done run.1 event head_is_left still in
+          omega (arith, are.once.left event was_left, sum_by-cons (runs_at event) run runs, ap one_or_none (ne_eqb run.1 event (λ same. differs (sym same))));
+      others = λ event not_left.
+          elim (cases_eq run.1 event) [
+            | inl same ↦ omega (arith, are.once.left event (subst (IsLeft done) same head_is_left), sum_by-cons (runs_at event) run runs, ap one_or_none (eq-eqb run.1 event same))
+            | inr differs ↦
+                omega (arith, are.once.others event (λ was_left. not_left (left_after done run.1 event was_left (λ same. differs (sym same)))), sum_by-cons (runs_at event) run runs, ap one_or_none (ne_eqb run.1 event differs))
+          ];
+    };
+    order = λ i j d before below. are.order (suc i) (suc j) d (omega arith) (omega arith);
+  }
+
+-- the soonest times in their order are a rehearsal
+pub soonest_is_rehearsal : (runs : List (ℤ × ℕ)) (bounds : List Difference) (done : List Bool) (now : ℤ) (times : ℕ → ℤ) → AreSoonest bounds done now times
+    → AreRuns times done runs → IsRehearsal bounds done now runs
+soonest_is_rehearsal [] bounds done now times soonest are = λ event left. absurd (omega (arith, are.once.left event left))
+soonest_is_rehearsal (run ∷ runs) bounds done now times soonest are =
+    let at = head_at times done run runs are in
+    let left = head_is_left times done run runs are in
+    let first = head_comes_first times done run runs are in
+    let sooner : (other : ℕ) → IsLeft done other → times run.1 ≤ℤ times other = λ other is_left. let (before, less) = first other is_left in omega (arith, ints) in
+    let stay = soonest_stay bounds done now times soonest run.1 left sooner in
+    let fixed : AreSoonest (bounds ++ fixed_at run.0 run.1 ∷ []) (slice_set done run.1 true) run.0 times =
+    subst (λ time. AreSoonest (bounds ++ fixed_at time run.1 ∷ []) (slice_set done run.1 true) time times) (sym at) stay in (
+      soonest_is_first bounds done now times soonest run.0 run.1 left at first,
+      soonest_is_rehearsal runs (bounds ++ fixed_at run.0 run.1 ∷ []) (slice_set done run.1 true) run.0 times fixed (others_left times done run runs are),
+    )
+
+-- a schedule of the bounds and the floors is one in which no event that is left comes before now
+pub schedule_above : (bounds floors : List Difference) (done : List Bool) (now : ℤ) (times : ℕ → ℤ) → AreFloorsBelow done now (length done) floors
+    → IsSchedule (bounds ++ floors) times → IsSchedule bounds times × LeavesNoneBefore done times now
+schedule_above bounds floors done now times are schedule = (
+  schedule_before bounds floors times schedule,
+  λ event left.
+      let origin = schedule.origin in
+      let (low, high) = All-contains (Meets times) floors (floor_at now event) (All-right (Meets times) bounds floors schedule.met) (are.every event (left_within done event left) left) in
+      omega (arith, ints),
+)
+
+-- and the other way round, where each event comes by the horizon
+pub above_schedule : (bounds floors : List Difference) (done : List Bool) (now : ℤ) (times : ℕ → ℤ) → AreFloorsBelow done now (length done) floors
+    → IsSchedule bounds times → LeavesNoneBefore done times now → ((event : ℕ) → IsLeft done event → times event ≤ℤ horizon) → IsSchedule (bounds ++ floors) times
+above_schedule bounds floors done now times are schedule waits by_horizon = record {
+  origin = schedule.origin;
+  met = All-append (Meets times) bounds floors schedule.met (λ k d below.
+      let (left, is) = are.each k d below in
+      let floor = get_or floors k d in
+      let origin = schedule.origin in
+      let after = waits floor.to left in
+      let before = by_horizon floor.to left in
+      let met : Meets times (floor_at now floor.to) = (omega (arith, ints), omega (arith, ints)) in
+      subst (Meets times) (sym is) met);
+}
+
+-- the first of all events that are left
+pub first_of_left : (times : ℕ → ℤ) (done : List Bool) (limit : ℕ) (first : Option (ℤ × ℕ)) → length done ≤ limit → IsEarliestSoFar times done limit first
+    → MatchOption first ((event : ℕ) → ¬ IsLeft done event) (IsEarliestBelow times done (length done))
+first_of_left times done limit None all none = λ event left. none event (omega (arith, all, left_within done event left)) left
+first_of_left times done limit (Some run) all first = record {
+  left = first.left;
+  below = left_within done run.1 first.left;
+  at = first.at;
+  first = λ other below left. first.first other (omega (arith, all)) left;
+}
+
+-- no floors yet
+pub no_floors : (done : List Bool) (now : ℤ) → AreFloorsBelow done now 1 []
+no_floors done now = record {
+  each = All-nil (λ floor. IsLeft done floor.to × (floor ≡ floor_at now floor.to));
+  every = λ event below left. absurd (omega (arith, left.0));
+}
+
+-- one more event, which is left
+pub floor_pushed : (done : List Bool) (now : ℤ) (number : ℕ) (floors : List Difference) → IsLeft done number → AreFloorsBelow done now number floors
+    → AreFloorsBelow done now (number + 1) (floors ++ floor_at now number ∷ [])
+floor_pushed done now number floors left are = record {
+  each = All-push (λ floor. IsLeft done floor.to × (floor ≡ floor_at now floor.to)) floors (floor_at now number) are.each (left, refl);
+  every = λ event below is_left.
+      elim (cases_lt event number) [
+        | inl before ↦ Contains-append_left floors (floor_at now number ∷ []) (floor_at now event) (are.every event before is_left)
+        | inr here ↦ (let same : number ≡ event = omega arith in subst (λ n. Contains (floors ++ floor_at now number ∷ []) (floor_at now n)) same (Contains-push floors (floor_at now number)))
+      ];
+}
+
+-- one more that is not
+pub floor_kept : (done : List Bool) (now : ℤ) (number : ℕ) (floors : List Difference) → ¬ IsLeft done number → AreFloorsBelow done now number floors
+    → AreFloorsBelow done now (number + 1) floors
+floor_kept done now number floors not_left are = record {
+  each = are.each;
+  every = λ event below is_left.
+      elim (cases_lt event number) [
+        | inl before ↦ are.every event before is_left
+        | inr here ↦ (let same : event ≡ number = omega arith in absurd (not_left (subst (IsLeft done) same is_left)))
+      ];
+}
+
+module _ (bounds floors : List Difference) (done : List Bool) (now : ℤ) (are : AreFloorsBelow done now (length done) floors)
+    (by_horizon : (times : ℕ → ℤ) → IsSchedule bounds times → (event : ℕ) → IsLeft done event → times event ≤ℤ horizon) where
+  -- the bounds with the floors have a schedule exactly where the plan can wait until now
+  pub waits_above : HasSchedule (bounds ++ floors) ↔ CanWaitUntil bounds done now
+  waits_above = (
+    (λ has.
+        let (times, schedule) = has in
+        let (below, waits) = schedule_above bounds floors done now times are schedule in
+        (times, below, waits)),
+    (λ can. let (times, schedule, waits) = can in (times, above_schedule bounds floors done now times are schedule waits (by_horizon times schedule))),
+  )
+
+  -- their earliest times are the soonest
+  pub soonest_of_earliest : (events : ℕ) (times : ℕ → ℤ) → length done ≡ events + 1 → All (NamesEvents events) (bounds ++ floors)
+      → AreEarliest (bounds ++ floors) events times → AreSoonest bounds done now times
+  soonest_of_earliest events times one_each named earliest =
+      let (schedule, waits) = schedule_above bounds floors done now times are (earliest_schedule (bounds ++ floors) events times named earliest) in
+      record {
+        schedule = schedule;
+        waits = waits;
+        least = λ others is_schedule none event left.
+            earliest.least others (above_schedule bounds floors done now others are is_schedule none (by_horizon others is_schedule)) event
+            (omega (arith, left_within done event left));
+      }
+
+-- the greater of one schedule and of another that is brought forward, as long as neither passes the origin, is a schedule
+greater_schedule : (bounds : List Difference) (early late : ℕ → ℤ) (delay : ℤ) → IsSchedule bounds early → IsSchedule bounds late → pos 0 ≤ℤ delay
+    → IsSchedule bounds (λ y. int_max (early y) (late y -ℤ delay))
+greater_schedule bounds early late delay is_early is_late after = record {
+  origin = let a = is_early.origin in let b = is_late.origin in omega (arith, ints, clamps);
+  met = λ k d h.
+      let a = is_early.met k d h in
+      let b = is_late.met k d h in
+      (omega (arith, ints, clamps), omega (arith, ints, clamps));
+}
+
+module _ (bounds : List Difference) (events : ℕ) (done : List Bool) (earliest latest times : ℕ → ℤ) (last : ℤ) (are : AreReadyAt bounds events done earliest latest times last) where
+  -- an event that may run does so by then
+  ready_by_last : (event : ℕ) (time : ℤ) → IsReady bounds done event time → time ≤ℤ last
+  ready_by_last event time ready =
+      let (others, schedule, at, waits) = ready.possible in
+      let (late, left, at_last) = are.least.at in
+      let before = waits late left in
+      let most = are.latest.most others schedule late (omega (arith, are.one_each, left_within done late left)) in
+      omega (arith, ints)
+
+  -- and its soonest time from then on is then
+  ready_at_last : (event : ℕ) (time : ℤ) → IsReady bounds done event time → times event ≡ last
+  ready_at_last event time ready =
+      let before = ready_by_last event time ready in
+      let (others, schedule, at, waits) = ready.possible in
+      let after = are.soonest.waits event ready.left in
+      let least = are.soonest.least (λ y. int_min (times y) (others y +ℤ (last -ℤ time)))
+      (lesser_schedule bounds times others (last -ℤ time) are.soonest.schedule schedule (omega (arith, ints)))
+      (λ other left. let one = are.soonest.waits other left in let two = waits other left in omega (arith, ints, clamps)) event ready.left in
+      omega (arith, ints, clamps)
+
+  -- it comes no earlier than it can
+  earliest_by : (event : ℕ) (time : ℤ) → IsReady bounds done event time → earliest event ≤ℤ time
+  earliest_by event time ready =
+      let (others, schedule, at, waits) = ready.possible in
+      let least = are.earliest.least others schedule event (omega (arith, are.one_each, left_within done event ready.left)) in
+      omega (arith, ints)
+
+  -- such an event may run from its earliest time on until then
+  ready_from_earliest : (event : ℕ) (time : ℤ) → IsLeft done event → times event ≡ last → earliest event ≤ℤ time → time ≤ℤ last → IsReady bounds done event time
+  ready_from_earliest event time left at after before = record {
+    left = left;
+    possible = (
+      (λ y. int_max (earliest y) (times y -ℤ (last -ℤ time))),
+      greater_schedule bounds earliest times (last -ℤ time) (earliest_schedule bounds events earliest are.named are.earliest) are.soonest.schedule (omega (arith, ints)),
+      omega (arith, ints, clamps),
+      (λ other is_left. let waits = are.soonest.waits other is_left in omega (arith, ints, clamps)),
+    );
+  }
+
+  -- the times from now on at which it may run
+  pub ready_until_last : (event : ℕ) (now first : ℤ) → IsLeft done event → times event ≡ last → now ≤ℤ last → first ≡ ord_max int_cmp (earliest event) now
+      → AreReadyTimes bounds done now event (Some (first, last))
+  ready_until_last event now first left at in_time is =
+      let early : earliest event ≤ℤ last = (let least = are.earliest.least times are.soonest.schedule event (omega (arith, are.one_each, left_within done event left)) in omega (arith, ints)) in (
+        (later_of (earliest event) now first last is).1 (early, in_time),
+        λ time. (
+          (λ h. ((later_of (earliest event) now first time is).1 (earliest_by event time h.1, h.0), ready_by_last event time h.1)),
+          (λ h. let (after, later) = (later_of (earliest event) now first time is).0 h.0 in (later, ready_from_earliest event time left at after h.1)),
+        ),
+      )
+
+  -- no other event may run
+  pub ready_never : (event : ℕ) (now : ℤ) → times event ≢ last → AreReadyTimes bounds done now event None
+  ready_never event now other time later ready = other (ready_at_last event time ready)
+
+module _ (times : ℕ → ℤ) (done : List Bool) where
+  pub no_runs : AreRunsBelow times done 1 []
+  no_runs = record {
+    at = All-nil (λ (run : ℤ × ℕ). IsLeft done run.1 × (run.0 ≡ times run.1));
+    once = λ event below left. absurd (omega (arith, left.0));
+    others = λ event past. refl;
+  }
+
+  pub run_pushed : (number event : ℕ) (time : ℤ) (runs : List (ℤ × ℕ)) → event ≡ number → time ≡ times number → IsLeft done event → AreRunsBelow times done number runs
+      → AreRunsBelow times done (number + 1) (runs ++ (time, event) ∷ [])
+  run_pushed number event time runs is at left are = record {
+    at = All-push (λ (run : ℤ × ℕ). IsLeft done run.1 × (run.0 ≡ times run.1)) runs (time, event) are.at (left, at ∙ ap times (sym is));
+    once = λ other below is_left.
+        elim (cases_eq event other) [
+          | inl same ↦ omega (arith, are.others other (omega arith), sum_by_push (runs_at other) runs (time, event), ap one_or_none (eq-eqb event other same))
+          | inr differs ↦ omega (arith, are.once other (omega arith) is_left, sum_by_push (runs_at other) runs (time, event), ap one_or_none (ne_eqb event other differs))
+        ];
+    others = λ other past. omega (arith, are.others other (omega arith), sum_by_push (runs_at other) runs (time, event), ap one_or_none (ne_eqb event other (λ same. absurd (omega arith))));
+  }
+
+  pub run_kept : (number event : ℕ) (runs : List (ℤ × ℕ)) → event ≡ number → ¬ IsLeft done event → AreRunsBelow times done number runs → AreRunsBelow times done (number + 1) runs
+  run_kept number event runs is not_left are = record {
+    at = are.at;
+    once = λ other below left.
+        elim (cases_lt other number) [
+          | inl before ↦ are.once other before left
+          | inr here ↦ let same : other ≡ event = omega arith in absurd (not_left (subst (IsLeft done) same left))
+        ];
+    others = λ other past. are.others other (omega arith);
+  }
+
+  -- by time, by number
+  abbrev pub by_turn : ℤ × ℕ → ℤ × ℕ → Ordering
+  by_turn x y = ordering_then (int_cmp x.0 y.0) (nat_cmp x.1 y.1)
+
+  turns : IsTotalOrder by_turn
+  turns = then_total (on_total (λ (x : ℤ × ℕ). x.0) int_cmp_total) (on_total (λ (x : ℤ × ℕ). x.1) nat_cmp_total)
+
+  -- what the other is not less than comes before it
+  not_less : (a b : ℤ × ℕ) (first second : Ordering) → MatchOrdering first (b.0 <ℤ a.0) (b.0 ≡ a.0) (a.0 <ℤ b.0)
+      → MatchOrdering second (b.1 < a.1) (b.1 ≡ a.1) (a.1 < b.1) → is_lt (ordering_then first second) ≡ false → RunsBefore a b
+  not_less a b Less second p q e = absurd (false≢true (sym e))
+  not_less a b Equal Less p q e = absurd (false≢true (sym e))
+  not_less a b Equal Equal p q e = (omega (arith, ints), λ same. omega arith)
+  not_less a b Equal Greater p q e = (omega (arith, ints), λ same. omega arith)
+  not_less a b Greater second p q e = (omega (arith, ints), λ same. absurd (omega (arith, ints)))
+
+  sorted_in_order : (xs : List (ℤ × ℕ)) → IsSorted by_turn xs → AllPairs RunsBefore xs
+  sorted_in_order xs sorted = λ i j d before within.
+      let a = get_or xs i d in
+      let b = get_or xs j d in
+      not_less a b (int_cmp b.0 a.0) (nat_cmp b.1 a.1) (int_ranks b.0 a.0) (ranks b.1 a.1)
+      (sorted_far (λ x y. is_lt (by_turn x y)) (ranks_by turns (λ (x : ℤ × ℕ). x)) xs sorted i j d (omega arith) within)
+
+  -- the runs of all events, once they are sorted
+  pub runs_sorted : (limit : ℕ) (before after : List (ℤ × ℕ)) → length done ≤ limit → AreRunsBelow times done limit before → IsPermutation before after → IsSorted by_turn after → AreRuns times done after
+  runs_sorted limit before after all are moved sorted =
+      let each : All (λ (run : ℤ × ℕ). IsLeft done run.1 × (run.0 ≡ times run.1)) after =
+      All-permutation (λ (run : ℤ × ℕ). IsLeft done run.1 × (run.0 ≡ times run.1)) before after moved are.at in
+      record {
+        at = λ k d below. (each k d below).1;
+        once = record {
+          left = λ event left. sum_by-IsPermutation (runs_at event) before after moved ∙ are.once event (omega (arith, all, left_within done event left)) left;
+          others = λ event not_left.
+              elim (cases_eq (count_by (λ (run : ℤ × ℕ). eqb run.1 event) after) 0) [
+                | inl none ↦ none
+                | inr some ↦ (let (place, below, is) = stands (λ (run : ℤ × ℕ). run.1) after event (omega arith) in
+                    absurd (not_left (subst (IsLeft done) (is (pos 0, 0)) (each place (pos 0, 0) below).0)))
+              ];
+        };
+        order = sorted_in_order after sorted;
+      }
