@@ -1,11 +1,11 @@
-ghost use Rattle.std.specs.Prelude.{◌≡◌, ◌⊎◌, None, Some, [], All, length, unwrap_or, IfOk, IfErr, IfSome, OnOk, OnErr, MatchOption};
+ghost use Rattle.std.specs.Prelude.{◌≡◌, ◌⊎◌, true, None, Some, [], All, length, unwrap_or, IfOk, IfErr, IfSome, OnOk, OnErr, IsErrOf, MatchOption};
 ghost use Rattle.stn_net.specs.Difference.{NamesEvents};
 ghost use Rattle.stn_net.specs.Schedule.{HasSchedule};
-ghost use Rattle.stn_lift.specs.PlanSource.{events_of};
+ghost use Rattle.stn_lift.specs.PlanSource.{events_of, steps_of};
 ghost use Rattle.stn_site.specs.Bounds.{all_bounds};
 ghost use Rattle.stn_guard.specs.Guard.{Guards};
 ghost use Rattle.stn_records.specs.Content.{next_counter, with_record, plain};
-ghost use Rattle.stn_guard.specs.Adding.{owner_by, IsGuardRefusal, AddsEach, AddsGuard, records_refusal};
+ghost use Rattle.stn_guard.specs.Adding.{owner_by, are_within, IsGuardRefusal, AddsEach, AddsGuard, records_refusal};
 ghost use Rattle.stn_guard.specs.Putting.{MakesGuard, PutsEach};
 
 use crate::guarding::guard;
@@ -22,7 +22,8 @@ use stn_time::Memory;
 /// this site. None, and nothing is added, where all bounds have no schedule.
 ///
 /// Refused in this order, before anything is added: `NoEvent` of a bound, where the plan has not a step that is owned;
-/// `CounterSpent` and `Full`, where the site can't make all records of the guard; `Memory`. After a fault all is as before.
+/// `CounterSpent` and `Full`, where the site can't make all records of the guard. Only `NoEvent` is found without memory:
+/// `Memory` may come in place of any later answer. After a fault all is as before.
 pub fn add_guard<A: Allocator + Copy>(
     plan: &mut SitePlan<A>,
     owned: &[OwnedSteps],
@@ -36,6 +37,7 @@ pub fn add_guard<A: Allocator + Copy>(
         Guards (owner_by plan.old.site owned.now) (all_bounds plan.new.source plan.new.state) [])) }
     ensures accepted { OnOk result (IsGuardRefusal owned.now plan.old None) }
     ensures fault { IfErr result (λ fault. (fault ≡ ReplicaFault.Memory) ⊎ IsGuardRefusal owned.now plan.old (Some fault)) }
+    ensures memory { IsErrOf result ReplicaFault.Memory → are_within (steps_of plan.old.source) owned.now ≡ true }
     ensures kept { OnErr result (plan.new ≡ plan.old) }
 {
     if !are_within(owned, plan.base().steps()) {

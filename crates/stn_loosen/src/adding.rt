@@ -1,4 +1,5 @@
-ghost use Rattle.std.specs.Prelude.{◌≡◌, ℕ, ℤ, All, IfOk, IfErr, OnOk};
+ghost use Rattle.std.specs.Prelude.{◌≡◌, ◌≤◌, ℕ, ℤ, All, IfOk, IfErr, OnOk};
+ghost use Rattle.stn_net.specs.Event.{most_steps};
 ghost use Rattle.stn_net.specs.Schedule.{IsSchedule};
 ghost use Rattle.stn_lift.specs.BaseBounds.{KeepsOrder};
 ghost use Rattle.stn_lift.specs.PlanSource.{bare, steps_of, base_bounds, events_of, planned_of, interfere_in_plan};
@@ -17,7 +18,7 @@ use crate::promise::robust;
 use crate::tolerance::Tolerance;
 use std::alloc::Allocator;
 use std::rc::Rc;
-use stn_lift::Base;
+use stn_lift::{Base, BaseFault};
 use stn_net::Bound;
 use stn_records::Site;
 use stn_site::SitePlan;
@@ -26,7 +27,7 @@ use stn_time::Memory;
 /// A site's copy of a bare plan with as many steps, which holds the records of the loosened plan and nothing else: they are
 /// plain, with the site's ids from counter 1 on.
 ///
-/// Refused in this order: `Full`, where more than 4,096 records would be made; `Memory`.
+/// Refused as `Full` where more than 4,096 records would be made. `Memory` may come in place of any answer.
 pub fn loosened_site_plan<A: Allocator + Copy>(
     alloc: A,
     site: Site,
@@ -54,7 +55,7 @@ pub fn loosened_site_plan<A: Allocator + Copy>(
 /// The same with the records of the robust plan, under which it completes however long its steps take.
 ///
 /// Refused in this order: `Full`, where the loosened plan would have more than 4,096 records; `NotRobust`, where no times of the starts
-/// are a promise; `Full`, where the robust plan would have more than 4,096 records; `Memory`.
+/// are a promise; `Full`, where the robust plan would have more than 4,096 records. `Memory` may come in place of any answer.
 pub fn robust_site_plan<A: Allocator + Copy>(
     alloc: A,
     site: Site,
@@ -100,19 +101,23 @@ fn plan_with<A: Allocator + Copy>(
     Ok(plan)
 }
 
-// A site's copy of a bare plan, which holds nothing yet.
+// A site's copy of a bare plan, which holds nothing yet. Nothing but memory can be lacking.
 fn bare_site_plan<A: Allocator + Copy>(
     alloc: A,
     site: Site,
     steps: u16,
 ) -> Result<SitePlan<A>, Memory>
+    requires { steps ≤ most_steps }
     ensures site { IfOk result (λ plan. plan.site ≡ site) }
     ensures source { IfOk result (λ plan. plan.source ≡ bare steps) }
     ensures empty { IfOk result (λ plan. plan.state ≡ no_content) }
 {
     match Base::bare(alloc, steps) {
         Ok(base) => Ok(SitePlan::new(alloc, site, Rc::new(alloc, base)?)),
-        Err(_) => Err(Memory),
+        Err(fault) => {
+            prove!(fault == BaseFault::Memory);
+            Err(Memory)
+        }
     }
 }
 

@@ -19,7 +19,7 @@ use stn_net::Bound;
 /// The records of the loosened plan, in the order in which they are made: the durations of all steps, with the tolerance, and then
 /// those of the plan's orders, nearest planned times first, that the bare plan and the records before them don't imply.
 ///
-/// Refused in this order: `Full`, where more than 4,096 records would be made; `Memory`.
+/// Refused as `Full` where more than 4,096 records would be made. `Memory` may come in place of any answer.
 pub fn loosened<A: Allocator + Copy>(
     alloc: A,
     base: &Base<A>,

@@ -25,7 +25,7 @@ use stn_records::MOST_KNOWN;
 /// starts, that the records before them don't imply.
 ///
 /// Refused in this order: `Full`, where the loosened plan would have more than 4,096 records; `NotRobust`, where no times of the starts
-/// are a promise; `Full`, where the robust plan would have more than 4,096 records; `Memory`.
+/// are a promise; `Full`, where the robust plan would have more than 4,096 records. `Memory` may come in place of any answer.
 pub fn robust<A: Allocator + Copy>(
     alloc: A,
     base: &Base<A>,

@@ -11,7 +11,7 @@ use Rattle.stn_records.specs.{Id.SiteCounter, declared.record.Record.Record, Con
 use Rattle.stn_records.specs.Content.{Content, addition, IsPart, is_live, is_replaced, live_of}
 use Rattle.stn_site.proofs.Named.{records_from_bounds, bounds_from_records}
 use Rattle.stn_site.specs.Bounds.{bounds_of, live_bounds}
-use Rattle.stn_replica.specs.{Invariant.IsSettled, Work.is_risen, Work.risen, Work.KeepsLive, Work.Grows, Work.Extends}
+use Rattle.stn_replica.specs.{Invariant.IsSettled, Work.is_risen, Work.risen, Work.KeepsLive, Work.Extends}
 use Rattle.stn_records.proofs.Gets.{entries_from_get, get_from_entries}
 use Rattle.stn_replica.proofs.Schedules.{schedule_before, met_behind, schedule_with, settled_same_schedules}
 
@@ -142,10 +142,6 @@ keeps_unless_replaced old new extends dead id live =
 pub extends_part : (part whole old new : Content) → old ≡ part → new ≡ whole → IsPart part whole → Extends old new
 extends_part part whole old new was is within =
     subst (λ (s : Content). Extends s new) (sym was) (subst (λ (s : Content). Extends part s) (sym is) (λ id r. within (addition id r)))
-
--- one state grows to another, seen as equal ones
-pub grows_as : (part whole old new : Content) → old ≡ part → new ≡ whole → Grows part whole → Grows old new
-grows_as part whole old new was is grows = subst (λ (s : Content). Grows s new) (sym was) (subst (λ (s : Content). Grows part s) (sym is) grows)
 
 -- where an id that is replaced now was live, it no longer is
 pub falls_where_replaced : (old new : Content) (id : SiteCounter) → is_replaced new id ≡ true → is_live old id ≡ true → ¬ KeepsLive old new

@@ -99,22 +99,3 @@ falls_withdrawn state id live keeps = false≢true (sym (withdrawn_dead state id
 -- where the steps are the same
 pub spares_same : (old new : Held) → new.steps ≡ old.steps → SparesWork old new
 spares_same old new same = λ _ _. (omega arith, omega arith)
-
--- ---- with another replica's matrix
-settled_copied : (bounds : List Difference) (theirs next : Table) (possible : Bool) → ((bounds : List Difference) → IsExact bounds theirs → IsExact bounds next)
-    → IsSettled bounds theirs possible → IsSettled bounds next possible
-settled_copied bounds theirs next true exact settled = exact bounds settled
-settled_copied bounds theirs next false exact settled = settled
-
-pub sound_copied : (source : PlanSource) (mine state : Content) (opening current beginning theirs next : Table) (ours possible : Bool)
-    → IsSoundReplica source mine opening current ours → IsSoundReplica source state beginning theirs possible
-    → ((bounds : List Difference) → IsExact bounds theirs → IsExact bounds next) → next.events ≡ theirs.events → next.steps ≤ 18446744073709551615
-    → IsSoundReplica source state opening next possible
-sound_copied source mine state opening current beginning theirs next ours possible p q exact events counted = record {
-  named = q.named;
-  opening_events = p.opening_events;
-  current_events = events ∙ q.current_events;
-  opening_exact = p.opening_exact;
-  settled = settled_copied (all_bounds source state) theirs next possible exact q.settled;
-  counted = counted;
-}

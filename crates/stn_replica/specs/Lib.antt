@@ -4,4 +4,3 @@ pub mod Walk
 pub mod Own
 pub mod Dispatch
 pub mod Rows
-pub mod Follower

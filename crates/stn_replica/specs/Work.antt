@@ -1,7 +1,7 @@
-use Rattle.std.specs.Prelude.{◌≡◌, ◌+◌, ◌≤◌, min, Bool, true, not, ◌&&◌, List, length, filter, Some}
+use Rattle.std.specs.Prelude.{◌≡◌, ◌+◌, ◌≤◌, Bool, true, not, ◌&&◌, List, length, filter, Some}
 use Rattle.std.specs.FinMap.{entries, get}
 use Rattle.stn_net.specs.Schedule.{HasSchedule}
-use Rattle.stn_records.specs.{Id.SiteCounter, declared.record.Record.Record, Content.Content, Content.IsPart, Content.is_live}
+use Rattle.stn_records.specs.{Id.SiteCounter, declared.record.Record.Record, Content.Content, Content.is_live}
 use Rattle.stn_site.specs.{Bounds.all_bounds, Held.Held}
 
 -- the record of the id is live in the new state, and was not in the old
@@ -24,17 +24,8 @@ KeepsLive old new = (id : SiteCounter) → is_live old id ≡ true → is_live n
 abbrev pub GainsLive : Content → Content → Type 0
 GainsLive old new = (id : SiteCounter) × (is_risen old new id ≡ true)
 
--- the new state has all of the old one, and no live record has stopped being live
-abbrev pub Grows : Content → Content → Type 0
-Grows old new = IsPart old new × KeepsLive old new
-
 -- where no live record has stopped being live and all bounds have a schedule, the steps have not fallen, and have risen
 -- by no more than the number of records that have become live
 abbrev pub SparesWork : Held → Held → Type 0
 SparesWork old new = KeepsLive old.state new.state → HasSchedule (all_bounds new.source new.state)
     → (old.steps ≤ new.steps) × (new.steps ≤ old.steps + length (risen old.state new.state))
-
--- one replica's place with another's matrix: what is held is the other's, and the steps of both are counted, and the copy, up to the
--- greatest u64
-abbrev pub copied : Held → Held → Held
-copied place other = record other { steps = min (place.steps + other.steps + 1) 18446744073709551615 }

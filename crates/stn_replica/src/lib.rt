@@ -1,7 +1,6 @@
 //! One site's replica of a plan: what it holds, with how far apart its events can be, and the rest of its plan.
 #![tactic(auto)]
 
-pub use follower::Follower;
 pub use own::{Own, StepRange, flags_among, flags_of};
 pub use replica::Replica;
 pub use site_matrix::matrix_of;
@@ -9,7 +8,6 @@ pub use stn_site::{BoundName, ReplicaFault};
 
 mod closest;
 mod dispatch;
-mod follower;
 mod matrices;
 mod own;
 mod plan_matrix;

@@ -6,7 +6,7 @@ ghost use Rattle.stn_lift.specs.PlanSource.{PlanSource, base_bounds, events_of};
 ghost use Rattle.stn_records.specs.declared.record.Record.{Record};
 ghost use Rattle.stn_site.specs.Bounds.{bounds_of, live_bounds, RecordsName};
 ghost use Rattle.stn_replica.specs.Invariant.{IsSettled, IsSoundReplica};
-ghost use Rattle.stn_replica.specs.Work.{risen, Extends, KeepsLive, Grows, GainsLive};
+ghost use Rattle.stn_replica.specs.Work.{risen, Extends, KeepsLive, GainsLive};
 
 use crate::closest::closest_first;
 use crate::plan_matrix::PlanMatrix;
@@ -138,16 +138,9 @@ pub fn catch_up<A: Allocator + Copy>(
     }
 }
 
-// Whether records have all that was held before, with each record live that was live then.
-pub fn has_grown<A: Allocator + Copy>(before: &Records<A>, after: &Records<A>) -> bool
-    ensures { IsTrue result ↔ Grows before.now after.now }
-{
-    after.holds(before) && keeps_live(before, after)
-}
-
 // Whether some record has become live.
 #[tactic(auto, using(crate::proofs::Rising::gains_first))]
-pub fn gains_live<A: Allocator + Copy>(before: &Records<A>, after: &Records<A>) -> bool
+fn gains_live<A: Allocator + Copy>(before: &Records<A>, after: &Records<A>) -> bool
     ensures { IsTrue result ↔ GainsLive before.now after.now }
 {
     Risen::between(before, after).next().is_some()

@@ -11,7 +11,7 @@ ghost use Rattle.stn_site.specs.Names.{broken_bound};
 ghost use Rattle.stn_site.specs.Held.{difference, plain, executed};
 ghost use Rattle.stn_site.specs.Calls.{added, amended, withdrew, took, Leaves};
 ghost use Rattle.stn_site.specs.Refusals.{add_refusal, amend_refusal, done_refusal, withdraw_refusal, take_refusal};
-ghost use Rattle.stn_replica.specs.Work.{SparesWork, copied};
+ghost use Rattle.stn_replica.specs.Work.{SparesWork};
 
 use crate::matrices::{catch_up, rebuild, tighten_by};
 use crate::plan_matrix::PlanMatrix;
@@ -209,46 +209,6 @@ impl<A: Allocator + Copy> Replica<A> {
             );
         }
         Ok(())
-    }
-
-    // Becomes the replica of a copy of the plan that has all that this one holds.
-    pub(crate) fn advance(&mut self, plan: SitePlan<A>)
-        requires source { plan.source ≡ self.old.source }
-        requires whole { IsPart self.old.state plan.state }
-        ensures site { self.new.site ≡ plan.site }
-        ensures source { self.new.source ≡ plan.source }
-        ensures state { self.new.state ≡ plan.state }
-        ensures work { SparesWork self.old self.new }
-    {
-        self.possible = catch_up(
-            &self.opening,
-            &mut self.current,
-            self.possible,
-            self.plan.records(),
-            plan.records(),
-        );
-        self.plan = plan;
-    }
-
-    // Becomes the replica of a copy of the plan that has all that another replica of it holds, by that one's matrix.
-    pub(crate) fn continue_from(&mut self, other: &Replica<A>, plan: SitePlan<A>)
-        requires ours { self.old.source ≡ other.now.source }
-        requires source { plan.source ≡ other.now.source }
-        requires whole { IsPart other.now.state plan.state }
-        ensures site { self.new.site ≡ plan.site }
-        ensures source { self.new.source ≡ plan.source }
-        ensures state { self.new.state ≡ plan.state }
-        ensures work { SparesWork (copied self.old other.now) self.new }
-    {
-        self.current.copy_from(&other.current);
-        self.possible = catch_up(
-            &self.opening,
-            &mut self.current,
-            other.possible,
-            other.plan.records(),
-            plan.records(),
-        );
-        self.plan = plan;
     }
 
     /// The earliest and the latest time of an event; none where all bounds have no schedule.

@@ -13,3 +13,4 @@ pub mod Refused
 pub mod Values
 pub mod Walk
 pub mod Windowing
+pub mod Behind

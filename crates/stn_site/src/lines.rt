@@ -1,4 +1,4 @@
-ghost use Rattle.std.specs.Prelude.{◌≡◌, ◌+◌, ◌^◌, ◌<◌, ◌≤◌, ◌++◌, codes, length, OnOk};
+ghost use Rattle.std.specs.Prelude.{◌≡◌, ◌+◌, ◌^◌, ◌<◌, ◌≤◌, ◌++◌, codes, length, take, vec_len, OnOk, OnErr};
 ghost use Rattle.stn_site.specs.Lines.{
   plan_line,
   records_line,
@@ -20,13 +20,13 @@ use std::alloc::Allocator;
 use stn_conflict::{Link, Side};
 use stn_net::{Bound, Event, MOST_EVENTS};
 use stn_records::Id;
-use stn_text::append_decimal;
+use stn_text::{all_or_nothing, append_decimal};
 use stn_time::{Memory, Ms, print_millis};
 
 /// The most bytes of a line.
 pub const MOST_LINE: usize = 64;
 
-// After an error, a part of a line may stand in the output.
+// If memory runs out, a part of a line may stand in the output, unless a clause says that it is kept.
 
 pub fn append_plan_line<B: Allocator>(
     out: &mut Vec<u8, B>,
@@ -56,7 +56,7 @@ pub fn append_records_line<B: Allocator>(
     Ok(())
 }
 
-/// Appends the line of an event's window.
+/// Appends the line of an event's window. If memory runs out, it appends nothing.
 pub fn append_window_line<B: Allocator>(
     out: &mut Vec<u8, B>,
     event: Event,
@@ -66,6 +66,23 @@ pub fn append_window_line<B: Allocator>(
 ) -> Result<(), Memory>
     ensures line { OnOk result (out.new.items ≡ out.old.items ++ window_line event earliest latest done) }
     ensures short { OnOk result (length out.new.items ≤ length out.old.items + MOST_LINE) }
+    ensures kept { OnErr result (out.new.items ≡ out.old.items) }
+{
+    let before = out.len();
+    let outcome = append_window(out, event, earliest, latest, done);
+    all_or_nothing(out, before, outcome)
+}
+
+fn append_window<B: Allocator>(
+    out: &mut Vec<u8, B>,
+    event: Event,
+    earliest: Ms,
+    latest: Ms,
+    done: bool,
+) -> Result<(), Memory>
+    ensures line { OnOk result (out.new.items ≡ out.old.items ++ window_line event earliest latest done) }
+    ensures short { OnOk result (length out.new.items ≤ length out.old.items + MOST_LINE) }
+    ensures behind { take (vec_len out.old) out.new.items ≡ out.old.items }
 {
     append_event(out, event)?;
     out.extend_from_slice(b" ")?;
@@ -78,6 +95,7 @@ pub fn append_window_line<B: Allocator>(
 fn append_event<B: Allocator>(out: &mut Vec<u8, B>, event: Event) -> Result<(), Memory>
     ensures text { OnOk result (out.new.items ≡ out.old.items ++ event_text event) }
     ensures short { OnOk result (length out.new.items ≤ length out.old.items + 6) }
+    ensures kept { OnErr result (out.new.items ≡ out.old.items) }
 {
     prove!(event.number() <= MOST_EVENTS);
     event.print(out)
@@ -86,6 +104,7 @@ fn append_event<B: Allocator>(out: &mut Vec<u8, B>, event: Event) -> Result<(), 
 fn append_times<B: Allocator>(out: &mut Vec<u8, B>, earliest: Ms, latest: Ms) -> Result<(), Memory>
     ensures text { OnOk result (out.new.items ≡ out.old.items ++ times_text earliest latest) }
     ensures short { OnOk result (length out.new.items ≤ length out.old.items + 43) }
+    ensures behind { take (vec_len out.old) out.new.items ≡ out.old.items }
 {
     earliest.print(out)?;
     out.extend_from_slice(b" ")?;
@@ -122,6 +141,7 @@ pub fn append_link_line<B: Allocator>(
     requires one_each { length ids.now ≡ length others.now }
     ensures line { OnOk result (out.new.items ≡ out.old.items ++ link_line base.now ids.now others.now link) }
     ensures short { OnOk result (length out.new.items ≤ length out.old.items + MOST_LINE) }
+    ensures behind { take (vec_len out.old) out.new.items ≡ out.old.items }
 {
     bound_name(base, ids, link.place).print(out)?;
     out.extend_from_slice(side_text(link.side))?;
@@ -167,6 +187,7 @@ fn side_text(side: Side) -> &'static [u8]
 fn append_limit<B: Allocator>(out: &mut Vec<u8, B>, bound: Bound, side: Side) -> Result<(), Memory>
     ensures text { OnOk result (out.new.items ≡ out.old.items ++ limit_text bound side) }
     ensures short { OnOk result (length out.new.items ≤ length out.old.items + 35) }
+    ensures behind { take (vec_len out.old) out.new.items ≡ out.old.items }
 {
     append_event(out, bound.from())?;
     out.extend_from_slice(b" ")?;

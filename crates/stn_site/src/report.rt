@@ -1,4 +1,4 @@
-ghost use Rattle.std.specs.Prelude.{◌≡◌, ℕ, ◌+◌, ◌*◌, ◌<◌, ◌≤◌, ◌++◌, ◌^◌, ◌⊎◌, List, length, map, All, IfOk, OnOk, OnErr, MatchOption};
+ghost use Rattle.std.specs.Prelude.{◌≡◌, ℕ, ◌+◌, ◌*◌, ◌<◌, ◌≤◌, ◌++◌, ◌^◌, ◌⊎◌, List, length, map, take, vec_len, All, IfOk, OnOk, OnErr, MatchOption};
 ghost use Rattle.std.specs.List.{flat_map};
 ghost use Rattle.stn_net.specs.Event.{most_events};
 ghost use Rattle.stn_net.specs.Schedule.{HasSchedule};
@@ -19,6 +19,7 @@ use std::alloc::Allocator;
 use stn_conflict::{Cycle, Link, cycle};
 use stn_net::{Bound, Event};
 use stn_records::{Id, Mark, Records};
+use stn_text::all_or_nothing;
 use stn_time::{Memory, Ms};
 
 impl<A: Allocator + Copy> SitePlan<A> {
@@ -184,8 +185,8 @@ fn append_cycle<A: Allocator>(
     Ok(())
 }
 
-/// Appends the line of each link, whose place is one of the plan's bounds followed by the others. After
-/// an error a part of them may stand there.
+/// Appends the line of each link, whose place is one of the plan's bounds followed by the others. If
+/// memory runs out, it appends nothing.
 pub fn append_link_lines<B: Allocator>(
     base: &[Bound],
     ids: &[Id],
@@ -198,6 +199,26 @@ pub fn append_link_lines<B: Allocator>(
     requires one_each { length ids.now ≡ length others.now }
     ensures text { OnOk result (out.new.items ≡ out.old.items ++ flat_map (link_line base.now ids.now others.now) links.now) }
     ensures short { OnOk result (length out.new.items ≤ length out.old.items + MOST_LINE * length links.now) }
+    ensures kept { OnErr result (out.new.items ≡ out.old.items) }
+{
+    let before = out.len();
+    let outcome = append_links(base, ids, others, links, out);
+    all_or_nothing(out, before, outcome)
+}
+
+fn append_links<B: Allocator>(
+    base: &[Bound],
+    ids: &[Id],
+    others: &[Bound],
+    links: &[Link],
+    out: &mut Vec<u8, B>,
+) -> Result<(), Memory>
+    requires there { All (λ link. link.place < length base.now + length others.now) links.now }
+    requires few { length base.now < 2 ^ 32 }
+    requires one_each { length ids.now ≡ length others.now }
+    ensures text { OnOk result (out.new.items ≡ out.old.items ++ flat_map (link_line base.now ids.now others.now) links.now) }
+    ensures short { OnOk result (length out.new.items ≤ length out.old.items + MOST_LINE * length links.now) }
+    ensures behind { take (vec_len out.old) out.new.items ≡ out.old.items }
 {
     for link in links {
         append_link_line(out, base, ids, others, *link)?;

@@ -13,3 +13,4 @@ pub mod Entries
 pub mod Lawful
 pub mod EachRun
 pub mod Guarded
+pub mod GuardSteps

@@ -1,11 +1,11 @@
 -- Worlds whose sites hold a guard, and act within what is their own.
-use Rattle.std.specs.Prelude.{◌≡◌, ℕ, true, ◌⊎◌, [], ⊤}
+use Rattle.std.specs.Prelude.{◌≡◌, ℕ, true, ◌⊎◌, List, [], ◌∷◌, ⊤}
 use Rattle.stn_net.specs.Schedule.{HasSchedule}
 use Rattle.stn_records.specs.Content.{Content, Item, addition, withdrawal, replacement, HasItem, IsPart}
 use Rattle.stn_site.specs.Bounds.{all_bounds}
 use Rattle.stn_guard.specs.{Owners.is_own, Owners.own_bounds, Guard.Guards}
 use Rattle.stn_world.specs.World.{World, HasSite, content_at, packet_at}
-use Rattle.stn_world.specs.Steps.{Step, added, finished, amended, withdrew, merged, sent, delivered}
+use Rattle.stn_world.specs.Steps.{Step, added, finished, amended, withdrew, merged, sent, delivered, IsAccepted, after}
 
 -- the item is a record of a bound that is the own of the site that made it, one of the world
 abbrev pub IsOwnItem : (ℕ → ℕ) → World → Item → Type 0
@@ -23,6 +23,17 @@ pub record HoldsGuarded (owner : ℕ → ℕ) (state : Content) (world : World) 
   pub held : (site : ℕ) → HasSite world site → IsPart state (content_at world site)
   pub sites : (site : ℕ) → IsBesideOwn owner world state (content_at world site)
   pub packets : (number : ℕ) → IsBesideOwn owner world state (packet_at world number)
+
+-- each of the steps is accepted, one after the other
+abbrev pub AllAccepted : World → List Step → Type 0
+AllAccepted world [] = ⊤
+AllAccepted world (step ∷ steps) = IsAccepted world step × AllAccepted (after world step) steps
+
+-- each site holds this state, and no site and no packet holds anything else
+pub record HoldsAlone (state : Content) (world : World) : Type 0 where
+  pub held : (site : ℕ) → HasSite world site → IsPart state (content_at world site)
+  pub sites : (site : ℕ) → IsPart (content_at world site) state
+  pub packets : (number : ℕ) → IsPart (packet_at world number) state
 
 -- a site that adds a bound or an execution does so within what is its own, and none amends or withdraws anything; what is merged, sent and
 -- delivered is free

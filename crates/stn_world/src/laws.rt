@@ -1,14 +1,17 @@
-ghost use Rattle.std.specs.Prelude.{◌≡◌, ℕ, ◌≤◌, ◌↔◌, List, ◌∷◌, All, None, true, false};
+ghost use Rattle.std.specs.Prelude.{◌≡◌, ℕ, ◌≤◌, ◌↔◌, List, ◌∷◌, map, All, None, true, false};
 ghost use Rattle.std.specs.List.{Contains};
-ghost use Rattle.stn_lift.specs.PlanSource.{PlanSource, events_of};
+ghost use Rattle.stn_lift.specs.PlanSource.{PlanSource, events_of, IsSoundSource};
 ghost use Rattle.stn_records.specs.Id.{SiteCounter};
 ghost use Rattle.stn_records.specs.declared.record.Record.{Record};
 ghost use Rattle.stn_records.specs.Content.{most_known, Content, Item, addition, HasItem, is_known, is_live, dispute_contents, IsPart, CountsSame};
 ghost use Rattle.stn_site.specs.Calls.{Replaces};
+ghost use Rattle.stn_site.specs.Held.{Held};
 ghost use Rattle.stn_site.specs.Report.{IsReport};
-ghost use Rattle.stn_world.specs.World.{World, HasSite, HasPacket, opening_world, content_at, packet_at};
-ghost use Rattle.stn_world.specs.Steps.{Step, merged, delivered, IsAccepted, run, Brings, TookAt, TookSameAt, TookSameItemsAt};
-ghost use Rattle.stn_world.specs.Guarded.{HoldsGuarded, KeepsToOwn, HaveOwnSchedules, HaveSchedules};
+ghost use Rattle.stn_guard.specs.Adding.{owner_by, AddsGuard};
+ghost use Rattle.stn_guard.specs.declared.owners.OwnedSteps.{OwnedSteps};
+ghost use Rattle.stn_world.specs.World.{World, HasSite, HasPacket, opening_world, held_at, content_at, packet_at};
+ghost use Rattle.stn_world.specs.Steps.{Step, added, merged, delivered, IsAccepted, run, Brings, TookAt, TookSameAt, TookSameItemsAt};
+ghost use Rattle.stn_world.specs.Guarded.{AllAccepted, HoldsAlone, HoldsGuarded, KeepsToOwn, HaveOwnSchedules, HaveSchedules};
 ghost use Rattle.stn_world.specs.Runs.{Making, WasMade, records_made, states_of, HasEntries, IsRecordOf, InEachRun};
 
 use stn_site::{one_report, same_counts_same_bytes};
@@ -92,6 +95,22 @@ pub fn withdrawn_for_good()
 pub fn guarded_sites_keep_schedules()
     ensures { InEachRun (λ start items. (owner : ℕ → ℕ) (state : Content) → HoldsGuarded owner state start
         → (steps : List Step) → All (KeepsToOwn owner) steps → HaveOwnSchedules owner (run start steps) → HaveSchedules (run start steps)) }
+{}
+
+/// The law that a site of a world that adds each bound of its guard, and is refused none, holds what it holds where it adds the
+/// guard at once.
+pub fn guards_are_steps()
+    ensures { (world : World) (site : ℕ) → HasSite world site → (owned : List OwnedSteps) (ids : List SiteCounter) (new : Held)
+        → (adds : AddsGuard owned (held_at world site) ids new) → AllAccepted world (map (added site) adds.guard)
+        → content_at (run world (map (added site) adds.guard)) site ≡ new.state }
+{}
+
+/// The law that a guard leads to a guarded world: take what a site of a world holds, in any run, once it added its guard. A world
+/// of the same plan whose sites all hold this, and nothing else, holds a guarded state.
+pub fn guards_guard_worlds()
+    ensures { InEachRun (λ now items. IsSoundSource now.source → (site : ℕ) (owned : List OwnedSteps) (ids : List SiteCounter) (new : Held)
+        → AddsGuard owned (held_at now site) ids new → (world : World) → world.source ≡ now.source → HoldsAlone new.state world
+        → HoldsGuarded (owner_by site owned) new.state world) }
 {}
 
 /// The law that two sites of one plan, in one world or in two, that took the same additions and

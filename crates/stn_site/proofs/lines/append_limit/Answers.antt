@@ -1,4 +1,6 @@
-use Rattle.std.proofs.Common.{ℕ, length, ap, arith, length-append}
+use Rattle.std.proofs.Common.{ℕ, length, ap, ◌∙◌, ◌++◌, codes, arith, append_assoc, length-append}
+use Rattle.stn_net.specs.Event.{event_text}
+use Rattle.stn_site.proofs.Behind.{behind}
 use Rattle.stn_site.proofs.Lengths.{time_length}
 use Rattle.stn_site.proofs.lines.append_limit.Goals as goal
 
@@ -14,3 +16,9 @@ returns-clause-short g c =
       c.in_ok-extend_from_slice-2.ensures.len,
       ap length c.in_ok-print.ensures.ok,
     )
+
+pub returns-in_err-print-clause-behind : goal.returns-in_err-print-clause-behind
+returns-in_err-print-clause-behind g c =
+    let first = c.in_ok-extend_from_slice.ensures.items ∙ ap (λ text. text ++ codes " ") c.in_ok-append_event.ensures.text in
+    let second = c.in_ok-extend_from_slice-2.ensures.items ∙ ap (λ text. text ++ codes " ") (c.in_ok-append_event-2.ensures.text ∙ ap (λ text. text ++ event_text c.to.result) first) in
+    behind c.args.out.now.len c.args.out.now.items (event_text c.from.result ++ codes " " ++ event_text c.to.result ++ codes " ") c.print.new.out.items (omega (arith, c.args.out.now.ok.0)) (c.in_err-print.ensures.kept ∙ second ∙ simp append_assoc)
