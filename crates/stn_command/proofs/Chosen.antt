@@ -1,13 +1,13 @@
 -- Where all steps are chosen, the events that don't count as left, by the steps of a plan and without them.
-use Rattle.std.proofs.Common.{◌≡◌, ℕ, ◌+◌, ◌*◌, ◌≤◌, false, ◌||◌, ◌&&◌, not, leb, [], ◌∷◌, None, ap, ◌∙◌, arith}
+use Rattle.std.proofs.Common.{◌≡◌, ℕ, ◌+◌, ◌*◌, ◌≤◌, false, ◌||◌, ◌&&◌, not, leb, [], ◌∷◌, None, ap, ◌∙◌, arith, rules}
 use Rattle.std.proofs.lemmas.List.FromFn.{fill_by_all, get_or-map-range_with_len, length-map-range_with_len}
 use Rattle.std.specs.List.{list_any}
 use Rattle.stn_replica.proofs.AllOwn.{has_all}
 use Rattle.stn_lift.specs.{BaseBounds.step_of, PlanSource.PlanSource, PlanSource.steps_of, PlanSource.events_of}
 use Rattle.stn_records.specs.Content.{Content}
-use Rattle.stn_site.specs.Report.{is_done}
+use Rattle.stn_site.specs.Report.{is_done, done_events}
 use Rattle.stn_replica.specs.{declared.own.StepRange.StepRange, declared.own.Own.Own, Own.has, Own.is_end, Own.is_own, Own.done_or_others}
-use Rattle.stn_command.specs.Dispatch.{is_chosen, done_or_not_chosen}
+use Rattle.stn_command.specs.Dispatch.{every_event, is_chosen, done_or_not_chosen}
 
 chosen_all : (own : Own) (range : StepRange) (steps event : ℕ) → own.steps.now ≡ range ∷ [] → range.first ≡ 0 → range.last ≡ steps → event ≤ 2 * steps
     → is_own own event ≡ is_chosen (record { steps = None; starts = own.starts }) event
@@ -24,3 +24,7 @@ all_chosen own range source state list first last =
     (λ k below.
     get_or-map-range_with_len (λ event. is_done state event || not (is_own own event)) 0 (events_of source + 1) k k false below (omega arith)
     ∙ ap (λ t. is_done state k || not t) (chosen_all own range (steps_of source) k list first last (omega arith)))
+
+-- where every event is chosen, those count as left that are not done
+pub every_chosen : (source : PlanSource) (state : Content) → done_or_not_chosen every_event source state ≡ done_events source state
+every_chosen source state = search rules

@@ -4,11 +4,11 @@ use Rattle.stn_refusal.specs.declared.code.Code.TheVariants as code
 use Rattle.stn_refusal.specs.{declared.failure.Failure.Failure, Refusals.refused_of}
 use Rattle.stn_lift.specs.PlanSource.{PlanSource}
 use Rattle.stn_records.specs.Content.{Content}
-use Rattle.stn_site.specs.{Held.Held, Bounds.all_bounds, Report.IsReport, Report.done_events}
+use Rattle.stn_site.specs.{Held.Held, Bounds.all_bounds, Report.IsReport}
 use Rattle.stn_questions.specs.{declared.asked.Question.Question, Answer.IsAnswer, Steps.steps_text, Steps.names_text}
 use Rattle.stn_questions.specs.Picture.{IsPicture}
 use Rattle.stn_questions.specs.Repair.Text.{IsRepairsText}
-use Rattle.stn_command.specs.Query.{Query, report, check, next, ready, rehearse, among, ask, repairs, draw, IsSaid, IsForeseen, IsRehearseRefusal, IsOutlookRefusal, IsQuestionRefusal, IsQueryRefusal}
+use Rattle.stn_command.specs.Query.{Query, report, check, foresee, ask, repairs, draw, IsSaid, IsForeseen, IsRehearseRefusal, IsOutlookRefusal, IsQuestionRefusal, IsQueryRefusal}
 use Rattle.stn_command.specs.{Dispatch.done_or_not_chosen, declared.queries.Outlook.Outlook}
 use Rattle.stn_command.specs.declared.queries.Outlook.TheVariants as outlook
 use Rattle.stn_command.specs.{Named.IsNamed, declared.names.Shown.Shown}
@@ -32,10 +32,7 @@ pub one_text : ((source : PlanSource) → (state : Content) → (text other : Li
     → (query : Query) (held : Held) (text other : List ℕ) → IsSaid query held text → IsSaid query held other → text ≡ other
 one_text reports answers mends pictures report held text other p q = reports held.source held.state text other p q
 one_text reports answers mends pictures (check times) held text other p q = p ∙ sym q
-one_text reports answers mends pictures (next now) held text other p q = one_foreseen outlook.Next held (done_events held.source held.state) now text other p q
-one_text reports answers mends pictures (ready now) held text other p q = one_foreseen outlook.Ready held (done_events held.source held.state) now text other p q
-one_text reports answers mends pictures (rehearse now) held text other p q = one_foreseen outlook.Rehearse held (done_events held.source held.state) now text other p q
-one_text reports answers mends pictures (among outlook now choice) held text other p q =
+one_text reports answers mends pictures (foresee outlook now choice) held text other p q =
     one_foreseen outlook held (done_or_not_chosen choice held.source held.state) now text other p q
 one_text reports answers mends pictures (ask question) held text other p q = answers held.source held.state question text other p q
 one_text reports answers mends pictures repairs held text other p q = mends held.source held.state text other p q
@@ -90,10 +87,7 @@ question_refused held question cause other (inr (inr p)) (inr (inr q)) = p.2 ∙
 pub one_refusal : (query : Query) (held : Held) (cause other : Option Failure) → IsQueryRefusal query held cause → IsQueryRefusal query held other → cause ≡ other
 one_refusal report held cause other p q = p ∙ sym q
 one_refusal (check times) held cause other p q = one_of _ cause other (λ both. both.0 both.1) p q
-one_refusal (next now) held cause other p q = p ∙ sym q
-one_refusal (ready now) held cause other p q = p ∙ sym q
-one_refusal (rehearse now) held cause other p q = rehearsal_refused held (done_events held.source held.state) now cause other p q
-one_refusal (among outlook now choice) held cause other p q =
+one_refusal (foresee outlook now choice) held cause other p q =
     one_behind _ (Some (bound_failure NoEvent)) (IsOutlookRefusal outlook held (done_or_not_chosen choice held.source held.state) now) cause other
     (outlook_refused outlook held (done_or_not_chosen choice held.source held.state) now) p q
 one_refusal (ask question) held cause other p q = question_refused held question cause other p q

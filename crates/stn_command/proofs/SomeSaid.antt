@@ -7,7 +7,7 @@ use Rattle.stn_net.specs.Schedule.{times_of}
 use Rattle.stn_refusal.specs.declared.code.Code.TheVariants as code
 use Rattle.stn_refusal.specs.{declared.refusal.Refusal.Refusal, declared.failure.Failure.TheVariants.Refused, Refusals.refusal, Refusals.refusal_at, Refusals.refusal_of}
 use Rattle.stn_lift.specs.PlanSource.{PlanSource, events_of, steps_of}
-use Rattle.stn_site.specs.{Held.Held, Lines.line, Names.broken_bound, Report.is_done, Report.done_events}
+use Rattle.stn_site.specs.{Held.Held, Lines.line, Names.broken_bound, Report.is_done}
 use Rattle.stn_questions.specs.{declared.asked.Question.Question, Answer.AsksOfNoEvent, Answer.AsksOfSameEvent, Steps.steps_text, Steps.names_text}
 use Rattle.stn_questions.specs.declared.asked.Question.TheVariants.{Records, Steps, Bounds, Why, WhyApart}
 use Rattle.stn_questions.proofs.{SomeReport.IsSoundState, SomeReport.some_report, SomeAnswer.some_answer, SomeDispatch.possible_or_none, SomeDispatch.some_next, SomeDispatch.some_rest, SomeDispatch.some_ready}
@@ -15,7 +15,7 @@ use Rattle.stn_command.specs.{declared.queries.Outlook.Outlook, declared.names.S
 use Rattle.stn_command.specs.declared.queries.Outlook.TheVariants as outlook
 use Rattle.stn_command.specs.declared.names.Shown.TheVariants as shown
 use Rattle.stn_command.specs.Dispatch.{Choice, is_chosen, done_or_not_chosen, check_text, next_text, runs_text}
-use Rattle.stn_command.specs.Query.{Query, report, check, next, ready, rehearse, among, ask, repairs, draw, IsSoundSite, IsForeseen, IsSaid, IsOutlookRefusal, has_steps, IsQueryRefusal}
+use Rattle.stn_command.specs.Query.{Query, report, check, foresee, ask, repairs, draw, IsSoundSite, IsForeseen, IsSaid, IsOutlookRefusal, has_steps, IsQueryRefusal}
 use Rattle.stn_command.proofs.{OneSaid.one_refusal, SomeRepairs.some_repairs_text, SomePicture.some_picture}
 
 -- something is said to the query, which nothing refuses, or a cause refuses it
@@ -75,16 +75,13 @@ module _ (held : Held) (sound : IsSoundSite held) where
         | inr none ↦ inl (line (codes "conflict"), inr ((λ late. none late.1.possible), refl), inr (record { conflict = none; said = refl }))
       ]
 
-  of_all : (outlook : Outlook) (now : ℤ) → IsForeseenOrRefused outlook held (done_events held.source held.state) now
-  of_all outlook now = foreseen outlook (done_events held.source held.state) (length-map-range_with_len (is_done held.state) 0 (events_of held.source + 1)) now
-
-  of_chosen : (outlook : Outlook) (now : ℤ) (choice : Choice) → IsSaidOrRefused (among outlook now choice) held
+  of_chosen : (outlook : Outlook) (now : ℤ) (choice : Choice) → IsSaidOrRefused (foresee outlook now choice) held
   of_chosen outlook now choice = by (has_steps choice (steps_of held.source)) refl
     where
       done : List Bool
       done = done_or_not_chosen choice held.source held.state
 
-      by : (t : Bool) → has_steps choice (steps_of held.source) ≡ t → IsSaidOrRefused (among outlook now choice) held
+      by : (t : Bool) → has_steps choice (steps_of held.source) ≡ t → IsSaidOrRefused (foresee outlook now choice) held
       by false e = inr (refusal code.NoEvent, inl (e, refl))
       by true e =
           elim (foreseen outlook done (length-map-range_with_len (λ event. is_done held.state event || not (is_chosen choice event)) 0 (events_of held.source + 1)) now) [
@@ -113,10 +110,7 @@ module _ (held : Held) (sound : IsSoundSite held) where
   pub said_or_refused : (query : Query) → IsSaidOrRefused query held
   said_or_refused report = (let (text, is) = some_report held.source held.state state_sound in inl (text, refl, is))
   said_or_refused (check times) = checked times
-  said_or_refused (next now) = of_all outlook.Next now
-  said_or_refused (ready now) = of_all outlook.Ready now
-  said_or_refused (rehearse now) = of_all outlook.Rehearse now
-  said_or_refused (among outlook now choice) = of_chosen outlook now choice
+  said_or_refused (foresee outlook now choice) = of_chosen outlook now choice
   said_or_refused (ask question) = asked question
   said_or_refused repairs = (let (text, is) = some_repairs_text held.source held.state state_sound in inl (text, refl, is))
   said_or_refused draw = (let (text, is) = some_picture (steps_text held.source) held.source held.state state_sound in inl (text, refl, is))

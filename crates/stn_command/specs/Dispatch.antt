@@ -1,5 +1,5 @@
 -- What is said of times for the events, of what comes next, and of the rest of the plan.
-use Rattle.std.specs.Prelude.{◌≡◌, ◌⊎◌, ℕ, ◌+◌, ℤ, Bool, true, not, ◌&&◌, ◌||◌, List, ◌++◌, map, codes, Option, Some, None}
+use Rattle.std.specs.Prelude.{◌≡◌, ◌⊎◌, ℕ, ◌+◌, ℤ, Bool, true, false, not, ◌&&◌, ◌||◌, List, ◌++◌, map, codes, Option, Some, None}
 use Rattle.std.specs.List.{flat_map, list_any, range_with_len}
 use Rattle.stn_time.specs.Text.{printed}
 use Rattle.stn_net.specs.{Event.event_text, Schedule.HasSchedule, declared.windows.answers.Next.Next, Windows.Dispatch.IsNext, Windows.Rehearsal.IsRehearseFault}
@@ -14,6 +14,10 @@ use Rattle.stn_replica.specs.{Dispatch.IsRestWith, Own.has, Own.is_end, declared
 pub record Choice : Type 0 where
   pub steps : Option (List StepRange)
   pub starts : Bool
+
+-- every event
+abbrev pub every_event : Choice
+every_event = record { steps = None; starts = false }
 
 -- the event is of one of these steps
 abbrev pub is_of : Option (List StepRange) → ℕ → Bool

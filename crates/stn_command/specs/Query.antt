@@ -7,7 +7,7 @@ use Rattle.stn_net.specs.{Failures.bound_failure, Difference.IsBoundWithin, Sche
 use Rattle.stn_net.specs.declared.bound.BoundFault.TheVariants.{NoEvent, SameEvent}
 use Rattle.stn_lift.specs.PlanSource.{events_of, steps_of, IsSoundSource}
 use Rattle.stn_records.specs.Content.{AllProper}
-use Rattle.stn_site.specs.{Bounds.all_bounds, Bounds.live_bounds, Held.Held, Names.broken_bound, Report.IsReport, Report.done_events}
+use Rattle.stn_site.specs.{Bounds.all_bounds, Bounds.live_bounds, Held.Held, Names.broken_bound, Report.IsReport}
 use Rattle.stn_replica.specs.Own.{is_within}
 use Rattle.stn_questions.specs.{declared.asked.Question.Question, Answer.IsAnswer, Answer.AsksOfNoEvent, Answer.AsksOfSameEvent, Ready.IsReadyWith, Steps.steps_text}
 use Rattle.stn_questions.specs.Picture.{IsPicture}
@@ -17,15 +17,12 @@ use Rattle.stn_command.specs.declared.queries.Query.TheVariants as asked
 use Rattle.stn_command.specs.declared.queries.Outlook.TheVariants as outlook
 use Rattle.stn_command.specs.Dispatch.{Choice, done_or_not_chosen, check_text, IsNextText, IsRestText, IsOverdueAt, IsRefusedRehearsal}
 
--- the report; whether times for the events from 1 on are a schedule; what comes next from a time on; which events may run from a time
--- on; the rest of the plan from a time on; one of these three of chosen events; another question; what mends a conflict; the picture
+-- the report; whether times for the events from 1 on are a schedule; of the chosen events, what comes next from a time on, which may run,
+-- or how the rest runs; another question; what mends a conflict; the picture
 pub data Query : Type 0 where
   report : Query
   check : (times : List ℤ) → Query
-  next : (now : ℤ) → Query
-  ready : (now : ℤ) → Query
-  rehearse : (now : ℤ) → Query
-  among : (outlook : Outlook) (now : ℤ) (choice : Choice) → Query
+  foresee : (outlook : Outlook) (now : ℤ) (choice : Choice) → Query
   ask : (question : Question) → Query
   repairs : Query
   draw : Query
@@ -38,21 +35,10 @@ seen_choice choice = record { steps = option_map (λ ranges. ranges.now) choice.
 abbrev pub seen_query : QueryOfCode → Query
 seen_query asked.Report = report
 seen_query (asked.Check times) = check times.now
-seen_query (asked.Next now) = next now
-seen_query (asked.Ready now) = ready now
-seen_query (asked.Rehearse now) = rehearse now
-seen_query (asked.Among outlook now choice) = among outlook now (seen_choice choice)
+seen_query (asked.Foresee outlook now choice) = foresee outlook now (seen_choice choice)
 seen_query (asked.Ask question) = ask question
 seen_query asked.Repairs = repairs
 seen_query asked.Draw = draw
-
--- what is said of the events that are left needs all pairs of events
-abbrev pub needs_matrix : Query → Bool
-needs_matrix (next now) = true
-needs_matrix (ready now) = true
-needs_matrix (rehearse now) = true
-needs_matrix (among outlook now choice) = true
-needs_matrix other = false
 
 -- what is true of each site: its plan has a base, its live records are of bounds of the plan, and each record that says that an event was
 -- executed fixes its time
@@ -71,10 +57,7 @@ IsForeseen outlook.Rehearse held done now text = IsRestText held.source held.sta
 abbrev pub IsSaid : Query → Held → List ℕ → Type 0
 IsSaid report held text = IsReport held.source held.state text
 IsSaid (check times) held text = text ≡ check_text (broken_bound held.source held.state (times_of (pos 0 ∷ times)))
-IsSaid (next now) held text = IsForeseen outlook.Next held (done_events held.source held.state) now text
-IsSaid (ready now) held text = IsForeseen outlook.Ready held (done_events held.source held.state) now text
-IsSaid (rehearse now) held text = IsForeseen outlook.Rehearse held (done_events held.source held.state) now text
-IsSaid (among outlook now choice) held text = IsForeseen outlook held (done_or_not_chosen choice held.source held.state) now text
+IsSaid (foresee outlook now choice) held text = IsForeseen outlook held (done_or_not_chosen choice held.source held.state) now text
 IsSaid (ask question) held text = IsAnswer held.source held.state question text
 IsSaid repairs held text = IsRepairsText held.source held.state text
 IsSaid draw held text = IsPicture (steps_text held.source) held.source held.state text
@@ -99,8 +82,8 @@ abbrev pub has_steps : Choice → ℕ → Bool
 has_steps choice steps = list_all (λ range. is_within steps range) (unwrap_or choice.steps [])
 
 -- why nothing is said of chosen events: the plan has not all their steps; or the same
-abbrev pub IsAmongRefusal : Held → Outlook → ℤ → Choice → Option Failure → Type 0
-IsAmongRefusal held outlook now choice cause = ((has_steps choice (steps_of held.source) ≡ false) × (cause ≡ Some (bound_failure NoEvent)))
+abbrev pub IsForesightRefusal : Held → Outlook → ℤ → Choice → Option Failure → Type 0
+IsForesightRefusal held outlook now choice cause = ((has_steps choice (steps_of held.source) ≡ false) × (cause ≡ Some (bound_failure NoEvent)))
     ⊎ ((has_steps choice (steps_of held.source) ≡ true) × IsOutlookRefusal outlook held (done_or_not_chosen choice held.source held.state) now cause)
 
 -- why a question is: it is about an event that the plan has not, or about an event and itself
@@ -113,21 +96,22 @@ IsQuestionRefusal held question cause = (AsksOfNoEvent held.source question × (
 abbrev pub IsQueryRefusal : Query → Held → Option Failure → Type 0
 IsQueryRefusal report held cause = cause ≡ None
 IsQueryRefusal (check times) held cause = IsCheckRefusal held times cause
-IsQueryRefusal (next now) held cause = cause ≡ None
-IsQueryRefusal (ready now) held cause = cause ≡ None
-IsQueryRefusal (rehearse now) held cause = IsRehearseRefusal held (done_events held.source held.state) now cause
-IsQueryRefusal (among outlook now choice) held cause = IsAmongRefusal held outlook now choice cause
+IsQueryRefusal (foresee outlook now choice) held cause = IsForesightRefusal held outlook now choice cause
 IsQueryRefusal (ask question) held cause = IsQuestionRefusal held question cause
 IsQueryRefusal repairs held cause = cause ≡ None
 IsQueryRefusal draw held cause = cause ≡ None
 
--- the text is said of the events that are left; or something refuses that; or memory ran out where nothing does
+-- where memory may run out: nothing refuses the query; or the plan has all steps that a rehearsal chooses, and an event may be overdue
+abbrev pub LacksMemory : Query → Held → Type 0
+LacksMemory (foresee outlook.Rehearse now choice) held = has_steps choice (steps_of held.source) ≡ true
+LacksMemory other held = IsQueryRefusal other held None
+
+-- the text is said of the events that are left; or something refuses that, or memory ran out
 abbrev pub Foresees : {A : Type 0} → Outlook → ℤ → List Bool → Held → Result (Vec ℕ A) Failure → Type 0
 Foresees outlook now done held (Ok text) = IsForeseen outlook held done now text.items × IsOutlookRefusal outlook held done now None
-Foresees outlook now done held (Err failure) =
-    IsOutlookRefusal outlook held done now (Some failure) ⊎ ((failure ≡ out_of_memory) × IsOutlookRefusal outlook held done now None)
+Foresees outlook now done held (Err failure) = IsOutlookRefusal outlook held done now (Some failure) ⊎ (failure ≡ out_of_memory)
 
--- the text is said; or something refuses the query; or memory ran out where nothing does
+-- the text is said; or something refuses the query, or memory ran out
 abbrev pub Says : {A : Type 0} → Query → Held → Result (Vec ℕ A) Failure → Type 0
 Says query held (Ok text) = IsSaid query held text.items × IsQueryRefusal query held None
-Says query held (Err failure) = IsQueryRefusal query held (Some failure) ⊎ ((failure ≡ out_of_memory) × IsQueryRefusal query held None)
+Says query held (Err failure) = IsQueryRefusal query held (Some failure) ⊎ ((failure ≡ out_of_memory) × LacksMemory query held)

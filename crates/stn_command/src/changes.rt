@@ -1,6 +1,6 @@
 //! Changes of what a site holds.
 
-ghost use Rattle.std.specs.Prelude.{◌≡◌, ◌++◌, None, unwrap_or, OnOk, OnErr, IfOk, IfErr};
+ghost use Rattle.std.specs.Prelude.{◌≡◌, ◌++◌, None, take, vec_len, unwrap_or, OnOk, OnErr, IfOk, IfErr};
 ghost use Rattle.stn_site.specs.Calls.{Leaves};
 ghost use Rattle.stn_site.specs.Held.{next_id};
 ghost use Rattle.stn_site.specs.Lines.{line};
@@ -12,6 +12,7 @@ use std::alloc::Allocator;
 use stn_net::Event;
 use stn_records::Id;
 use stn_site::{ReplicaFault, SitePlan};
+use stn_text::all_or_nothing;
 use stn_time::{Memory, Ms};
 
 /// A bound between two events, as it is asked for: it may not be one.
@@ -50,9 +51,10 @@ pub enum Made {
 }
 
 impl Made {
-    /// Appends the printed line.
+    /// Appends the printed line. If memory runs out, it appends nothing.
     pub fn print<A: Allocator>(&self, out: &mut Vec<u8, A>) -> Result<(), Memory>
-        ensures { OnOk result (out.new.items ≡ out.old.items ++ made_text self.now) }
+        ensures printed { OnOk result (out.new.items ≡ out.old.items ++ made_text self.now) }
+        ensures kept { OnErr result (out.new.items ≡ out.old.items) }
     {
         match self {
             Made::Added(id) => append_id_line(out, b"added ", *id),
@@ -62,9 +64,23 @@ impl Made {
     }
 }
 
-// Appends a line of these words and the id's printed form.
+// Appends a line of these words and the id's printed form; nothing if memory runs out.
 fn append_id_line<A: Allocator>(out: &mut Vec<u8, A>, words: &[u8], id: Id) -> Result<(), Memory>
-    ensures { OnOk result (out.new.items ≡ out.old.items ++ line (words.now ++ id_text id)) }
+    ensures printed { OnOk result (out.new.items ≡ out.old.items ++ line (words.now ++ id_text id)) }
+    ensures kept { OnErr result (out.new.items ≡ out.old.items) }
+{
+    let before = out.len();
+    let outcome = append_words_and_id(out, words, id);
+    all_or_nothing(out, before, outcome)
+}
+
+fn append_words_and_id<A: Allocator>(
+    out: &mut Vec<u8, A>,
+    words: &[u8],
+    id: Id,
+) -> Result<(), Memory>
+    ensures printed { OnOk result (out.new.items ≡ out.old.items ++ line (words.now ++ id_text id)) }
+    ensures behind { take (vec_len out.old) out.new.items ≡ out.old.items }
 {
     out.extend_from_slice(words)?;
     id.print(out)?;

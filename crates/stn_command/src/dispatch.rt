@@ -1,16 +1,17 @@
 //! What is said of times, of what comes next, and of the rest of the plan.
 
-ghost use Rattle.std.specs.Prelude.{◌≡◌, ◌⊎◌, ◌++◌, List, ℕ, codes, OnOk, IfErr, IsErrOf};
+ghost use Rattle.std.specs.Prelude.{◌≡◌, ◌⊎◌, ◌++◌, ◌+◌, List, ℕ, length, codes, OnOk, IfErr};
 ghost use Rattle.stn_net.specs.Event.{event_text};
-ghost use Rattle.stn_replica.specs.Own.{done_or_others};
+ghost use Rattle.stn_lift.specs.PlanSource.{events_of};
+ghost use Rattle.stn_records.specs.Content.{AllProper};
 ghost use Rattle.stn_site.specs.Lines.{line};
 ghost use Rattle.stn_net.specs.declared.windows.answers.RehearseFault.TheVariants.{Overdue, Memory as want_of_memory};
 ghost use Rattle.stn_command.specs.Dispatch.{check_text, run_line, runs_text, next_text, IsNextText, IsRestText, IsOverdueAt, IsRefusedRehearsal};
 
 use std::alloc::Allocator;
 use stn_net::{Event, Next, RehearseFault};
-use stn_replica::{Own, Replica};
-use stn_site::BoundName;
+use stn_questions::{next_with, rehearse_with};
+use stn_site::{BoundName, SitePlan};
 use stn_time::{Memory, Ms};
 
 /// Appends the name of the first bound that times break, or that they are a schedule.
@@ -30,19 +31,20 @@ pub fn append_check<B: Allocator>(
     }
 }
 
-/// Appends which of a site's own events comes next in a replica's plan from now on, or `conflict`. After an error a part
-/// of it may stand there.
+/// Appends what comes next from now on, where these events count as done, or `conflict`. After an error
+/// a part of it may stand there.
 pub fn append_next<A: Allocator + Copy, B: Allocator>(
-    replica: &Replica<A>,
+    plan: &SitePlan<A>,
+    done: &[bool],
     now: Ms,
-    own: &Own<'_>,
     out: &mut Vec<u8, B>,
 ) -> Result<(), Memory>
+    requires { length done.now ≡ events_of plan.now.source + 1 }
     ensures { OnOk result ((text : List ℕ)
-        × IsNextText replica.now.source replica.now.state (done_or_others own.now replica.now.source replica.now.state) now text
+        × IsNextText plan.now.source plan.now.state done.now now text
         × (out.new.items ≡ out.old.items ++ text)) }
 {
-    match replica.next_among(now, own) {
+    match next_with(plan, done, now)? {
         Some(answer) => append_answer(out, answer),
         None => out.extend_from_slice(b"conflict\n"),
     }
@@ -58,27 +60,28 @@ fn append_answer<B: Allocator>(out: &mut Vec<u8, B>, answer: Next) -> Result<(),
     }
 }
 
-/// Appends the rest of a site's own events in a replica's plan from now on, or `conflict`. After an error a part of it
-/// may stand there.
+/// Appends the rest of the plan from now on, where these events count as done, or `conflict`. After an
+/// error a part of it may stand there.
 ///
-/// Refused in this order: `Overdue`, where every schedule has an own event that is not done before now; `Memory`.
+/// It is refused where every schedule has an event that is left before now (`Overdue`), or where memory
+/// runs out.
 pub fn append_rest<A: Allocator + Copy, B: Allocator>(
-    replica: &Replica<A>,
+    plan: &SitePlan<A>,
+    done: &[bool],
     now: Ms,
-    own: &Own<'_>,
     out: &mut Vec<u8, B>,
 ) -> Result<(), RehearseFault>
+    requires one_each { length done.now ≡ events_of plan.now.source + 1 }
+    requires fixed { AllProper plan.now.state.additions }
     ensures text { OnOk result ((text : List ℕ)
-        × IsRestText replica.now.source replica.now.state (done_or_others own.now replica.now.source replica.now.state) now text
+        × IsRestText plan.now.source plan.now.state done.now now text
         × (out.new.items ≡ out.old.items ++ text)) }
     ensures accepted { OnOk result
-        (¬ IsRefusedRehearsal replica.now.source replica.now.state (done_or_others own.now replica.now.source replica.now.state) now) }
+        (¬ IsRefusedRehearsal plan.now.source plan.now.state done.now now) }
     ensures refused { IfErr result (λ fault. (fault ≡ want_of_memory) ⊎ ((event : ℕ) × (fault ≡ Overdue event)
-        × IsOverdueAt replica.now.source replica.now.state (done_or_others own.now replica.now.source replica.now.state) now event)) }
-    ensures memory { IsErrOf result want_of_memory
-        → ¬ IsRefusedRehearsal replica.now.source replica.now.state (done_or_others own.now replica.now.source replica.now.state) now }
+        × IsOverdueAt plan.now.source plan.now.state done.now now event)) }
 {
-    match replica.rehearse_among(now, own)? {
+    match rehearse_with(plan, done, now)? {
         Some(runs) => append_runs(out, &runs)?,
         None => out.extend_from_slice(b"conflict\n")?,
     }

@@ -1,4 +1,4 @@
-ghost use Rattle.std.specs.Prelude.{◌≡◌, ◌⊎◌, ℕ, false, None, Some, List, Option};
+ghost use Rattle.std.specs.Prelude.{◌≡◌, ◌⊎◌, ℕ, None, Some, List, Option};
 ghost use Rattle.stn_refusal.specs.declared.refusal.Refusal.{Refusal};
 ghost use Rattle.stn_refusal.specs.declared.failure.Failure.{Failure};
 ghost use Rattle.stn_refusal.specs.declared.failure.Failure.TheVariants.{Refused};
@@ -6,7 +6,7 @@ ghost use Rattle.stn_site.specs.Held.{Held};
 ghost use Rattle.stn_lift.specs.PlanSource.{PlanSource};
 ghost use Rattle.stn_records.specs.Content.{Content};
 ghost use Rattle.stn_site.specs.Report.{done_events};
-ghost use Rattle.stn_command.specs.Dispatch.{done_or_not_chosen};
+ghost use Rattle.stn_command.specs.Dispatch.{every_event, done_or_not_chosen};
 ghost use Rattle.stn_command.specs.Named.{IsNamed};
 ghost use Rattle.stn_command.specs.declared.names.Shown.{Shown};
 ghost use Rattle.stn_command.specs.Query.{Query, IsSoundSite, IsSaid, IsQueryRefusal};
@@ -38,8 +38,8 @@ pub fn every_query_has_an_answer()
     ensures named { (shown : Shown) (plan : List ℕ) (held : Held) → IsSoundSite held → (text : List ℕ) × IsNamed shown plan held text }
 {}
 
-/// The law that where neither steps nor starts are chosen, an event counts as left exactly if it is not done.
-pub fn among_all()
+/// The law that where every event is chosen, one counts as left exactly if it is not done.
+pub fn chosen_all()
     ensures { (source : PlanSource) (state : Content)
-        → done_or_not_chosen (record { steps = None; starts = false }) source state ≡ done_events source state }
+        → done_or_not_chosen every_event source state ≡ done_events source state }
 {}

@@ -4,9 +4,9 @@
 
 pub use changes::{AskedBound, Change, Made, make_change};
 pub use guarding::print_guard;
-pub use laws::{among_all, every_query_has_an_answer, one_said};
+pub use laws::{chosen_all, every_query_has_an_answer, one_said};
 pub use names::{Shown, say_named};
-pub use queries::{Choice, Outlook, Query, append_said, say, say_without_matrix};
+pub use queries::{Choice, Outlook, Query, append_said, say};
 pub use steps::{read_owned, read_steps};
 pub use words::{no_such_word, read_event, read_id, read_time};
 

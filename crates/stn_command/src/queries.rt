@@ -1,25 +1,25 @@
 //! What a site is asked about its plan and what it holds.
 
-ghost use Rattle.std.specs.Prelude.{◌≡◌, ◌⊎◌, ◌++◌, ◌∷◌, ℕ, pos, true, false, List, None, Some, OnOk, OnErr, IfOk, IfErr, IsErrOf, MatchOption, MatchResult};
-ghost use Rattle.stn_lift.specs.PlanSource.{steps_of};
+ghost use Rattle.std.specs.Prelude.{◌≡◌, ◌⊎◌, ◌++◌, ◌∷◌, ◌+◌, ◌≤◌, ℕ, pos, length, take, List, None, Some, OnOk, OnErr, IfOk, IfErr, IsErrOf};
+ghost use Rattle.stn_net.specs.Event.{most_events};
+ghost use Rattle.stn_lift.specs.PlanSource.{events_of, steps_of};
+ghost use Rattle.stn_records.specs.Content.{AllProper};
 ghost use Rattle.stn_refusal.specs.Refusals.{out_of_memory};
-ghost use Rattle.stn_site.specs.Report.{done_events};
 ghost use Rattle.stn_replica.specs.Own.{done_or_others};
 ghost use Rattle.stn_command.specs.Dispatch.{done_or_not_chosen};
 ghost use Rattle.stn_command.specs.Query as asked;
-ghost use Rattle.stn_command.specs.Query.{report, check, ask, repairs, draw, seen_query, seen_choice, needs_matrix, IsSaid, IsQueryRefusal, Says, Foresees};
-ghost use Rattle.stn_command.specs.declared.queries.Outlook.TheVariants as outlook;
+ghost use Rattle.stn_command.specs.Query.{report, check, ask, repairs, draw, seen_query, seen_choice, IsSaid, IsQueryRefusal, LacksMemory, Says, Foresees};
 
 use crate::dispatch::{append_check, append_next, append_rest};
 use crate::words::no_such_word;
 use std::alloc::Allocator;
 use stn_net::BoundFault;
 use stn_questions::{
-    Question, WhyFault, print_answer, print_picture, print_ready_among, print_repairs, print_steps,
+    Question, WhyFault, print_answer, print_picture, print_ready_with, print_repairs, print_steps,
 };
 use stn_refusal::{Failure, Fault};
-use stn_replica::{Own, Replica, StepRange};
-use stn_site::SitePlan;
+use stn_replica::{Own, StepRange, flags_among};
+use stn_site::{EVENT_FLAGS, SitePlan};
 use stn_time::{Memory, Ms};
 
 /// What is asked of the events that are left.
@@ -48,14 +48,8 @@ pub enum Query<'a> {
     Report,
     /// Whether these times of the events, from the first after the origin on, are a schedule.
     Check(&'a [Ms]),
-    /// What comes next from this time on.
-    Next(Ms),
-    /// Which events may run from this time on.
-    Ready(Ms),
-    /// The rest of the plan from this time on.
-    Rehearse(Ms),
-    /// The same of the chosen events, from this time on: only they count as left.
-    Among(Outlook, Ms, Choice<'a>),
+    /// What is asked of the chosen events, from this time on: only they count as left.
+    Foresee(Outlook, Ms, Choice<'a>),
     /// The answer to another question.
     Ask(Question),
     /// What mends a conflict.
@@ -64,93 +58,48 @@ pub enum Query<'a> {
     Draw,
 }
 
-/// Appends what a replica says to a query. After an error nothing is appended.
+/// Appends what is said to a query about a site's copy of the plan. After an error nothing is appended.
 ///
 /// Refused as 70 where a check has not one time for each event, 4 where a question is about an event that the plan has not,
 /// or a step is chosen that it has not, 5 where a question is about an event and itself, 7 where an event of a rehearsal is
-/// overdue; then `Memory`.
+/// overdue; or where memory runs out.
+#[tactic(auto, using(crate::proofs::Alike::memory_of, crate::proofs::Alike::lacks_where_free))]
 pub fn append_said<A: Allocator + Copy, B: Allocator>(
-    replica: &Replica<A>,
+    plan: &SitePlan<A>,
     query: &Query<'_>,
     out: &mut Vec<u8, B>,
 ) -> Result<(), Failure>
-    ensures text { OnOk result ((text : List ℕ) × IsSaid (seen_query query.now) replica.now text × (out.new.items ≡ out.old.items ++ text)) }
-    ensures accepted { OnOk result (IsQueryRefusal (seen_query query.now) replica.now None) }
-    ensures refused { IfErr result (λ failure. (failure ≡ out_of_memory) ⊎ IsQueryRefusal (seen_query query.now) replica.now (Some failure)) }
-    ensures memory { IsErrOf result out_of_memory → IsQueryRefusal (seen_query query.now) replica.now None }
+    ensures text { OnOk result ((text : List ℕ) × IsSaid (seen_query query.now) plan.now text × (out.new.items ≡ out.old.items ++ text)) }
+    ensures accepted { OnOk result (IsQueryRefusal (seen_query query.now) plan.now None) }
+    ensures refused { IfErr result (λ failure. (failure ≡ out_of_memory) ⊎ IsQueryRefusal (seen_query query.now) plan.now (Some failure)) }
+    ensures memory { IsErrOf result out_of_memory → LacksMemory (seen_query query.now) plan.now }
     ensures kept { OnErr result (out.new.items ≡ out.old.items) }
 {
-    let text = said(replica, query)?;
+    let text = say(plan, query)?;
     out.extend_from_slice(&text)?;
     Ok(())
 }
 
-/// What is said to a query about a site's copy of the plan. It has a matrix only where the answer needs all pairs of events.
-///
-/// Refused as `append_said` refuses it, or where memory runs out.
-pub fn say<A: Allocator + Copy>(plan: SitePlan<A>, query: &Query<'_>) -> Result<Vec<u8, A>, Failure>
-    ensures { MatchResult result
-        (λ text. IsSaid (seen_query query.now) plan text.items × IsQueryRefusal (seen_query query.now) plan None)
-        (λ failure. (failure ≡ out_of_memory) ⊎ IsQueryRefusal (seen_query query.now) plan (Some failure)) }
-{
-    match say_without_matrix(&plan, query) {
-        Some(said) => said,
-        None => {
-            let replica = Replica::of(plan)?;
-            let text = said(&replica, query);
-            drop(replica);
-            text
-        }
-    }
-}
-
-/// What is said to a query about a site's copy of the plan; nothing where the answer needs all pairs of events, and so a matrix.
+/// What is said to a query about a site's copy of the plan.
 ///
 /// Refused as `append_said` refuses it.
-pub fn say_without_matrix<A: Allocator + Copy>(
+pub fn say<A: Allocator + Copy>(
     plan: &SitePlan<A>,
     query: &Query<'_>,
-) -> Option<Result<Vec<u8, A>, Failure>>
-    ensures { MatchOption result (needs_matrix (seen_query query.now) ≡ true)
-        (λ said. (needs_matrix (seen_query query.now) ≡ false) × Says (seen_query query.now) plan.now said) }
+) -> Result<Vec<u8, A>, Failure>
+    ensures { Says (seen_query query.now) plan.now result }
 {
     match *query {
-        Query::Report => Some(report(plan)),
-        Query::Check(times) => Some(check(plan, times)),
-        Query::Ask(question) => Some(tell(plan, question)),
-        Query::Repairs => Some(repairs(plan)),
-        Query::Draw => Some(draw(plan)),
-        Query::Next(_) | Query::Ready(_) | Query::Rehearse(_) | Query::Among(_, _, _) => None,
+        Query::Report => report(plan),
+        Query::Check(times) => check(plan, times),
+        Query::Foresee(outlook, now, choice) => foresee(plan, outlook, now, &choice),
+        Query::Ask(question) => tell(plan, question),
+        Query::Repairs => repairs(plan),
+        Query::Draw => draw(plan),
     }
 }
 
-// What a replica says to a query.
-fn said<A: Allocator + Copy>(replica: &Replica<A>, query: &Query<'_>) -> Result<Vec<u8, A>, Failure>
-    ensures { Says (seen_query query.now) replica.now result }
-{
-    match *query {
-        Query::Report => report_by_matrix(replica),
-        Query::Check(times) => check(replica.plan(), times),
-        Query::Next(now) => of_all(replica, Outlook::Next, now),
-        Query::Ready(now) => of_all(replica, Outlook::Ready, now),
-        Query::Rehearse(now) => of_all(replica, Outlook::Rehearse, now),
-        Query::Among(outlook, now, choice) => among(replica, outlook, now, &choice),
-        Query::Ask(question) => tell(replica.plan(), question),
-        Query::Repairs => repairs(replica.plan()),
-        Query::Draw => draw(replica.plan()),
-    }
-}
-
-// The report, by the windows of the replica's matrix.
-fn report_by_matrix<A: Allocator + Copy>(replica: &Replica<A>) -> Result<Vec<u8, A>, Failure>
-    ensures { Says report replica.now result }
-{
-    let mut text = Vec::new(replica.alloc());
-    replica.report(&mut text)?;
-    Ok(text)
-}
-
-// The report, by distances from the origin.
+// The report.
 fn report<A: Allocator + Copy>(plan: &SitePlan<A>) -> Result<Vec<u8, A>, Failure>
     ensures { Says report plan.now result }
 {
@@ -182,17 +131,17 @@ fn behind_origin<A: Allocator>(alloc: A, times: &[Ms]) -> Result<Vec<Ms, A>, Mem
     Ok(all)
 }
 
-// What a replica says of the chosen events.
-fn among<A: Allocator + Copy>(
-    replica: &Replica<A>,
+// What is said of the chosen events.
+fn foresee<A: Allocator + Copy>(
+    plan: &SitePlan<A>,
     outlook: Outlook,
     now: Ms,
     choice: &Choice<'_>,
 ) -> Result<Vec<u8, A>, Failure>
-    ensures { Says (asked.among outlook now (seen_choice choice.now)) replica.now result }
+    ensures { Says (asked.foresee outlook now (seen_choice choice.now)) plan.now result }
 {
-    if has_steps(choice, replica.base().steps()) {
-        of_chosen(replica, outlook, now, choice)
+    if has_steps(choice, plan.base().steps()) {
+        of_chosen(plan, outlook, now, choice)
     } else {
         Err(Failure::from(BoundFault::NoEvent))
     }
@@ -210,20 +159,20 @@ fn has_steps(choice: &Choice<'_>, steps: u16) -> bool
 
 // The same of chosen events, whose steps the plan has.
 fn of_chosen<A: Allocator + Copy>(
-    replica: &Replica<A>,
+    plan: &SitePlan<A>,
     outlook: Outlook,
     now: Ms,
     choice: &Choice<'_>,
 ) -> Result<Vec<u8, A>, Failure>
-    ensures { Foresees outlook now (done_or_not_chosen (seen_choice choice.now) replica.now.source replica.now.state) replica.now result }
+    ensures { Foresees outlook now (done_or_not_chosen (seen_choice choice.now) plan.now.source plan.now.state) plan.now result }
 {
     let starts = choice.starts;
     match choice.steps {
-        Some(steps) => foresee(replica, outlook, now, &Own { steps, starts }),
+        Some(steps) => of_own(plan, outlook, now, &Own { steps, starts }),
         None => {
-            let all = [replica.all_steps()];
-            foresee(
-                replica,
+            let all = [all_steps(plan)];
+            of_own(
+                plan,
                 outlook,
                 now,
                 &Own {
@@ -235,37 +184,57 @@ fn of_chosen<A: Allocator + Copy>(
     }
 }
 
-// What a replica says of all events.
-fn of_all<A: Allocator + Copy>(
-    replica: &Replica<A>,
-    outlook: Outlook,
-    now: Ms,
-) -> Result<Vec<u8, A>, Failure>
-    ensures { Foresees outlook now (done_events replica.now.source replica.now.state) replica.now result }
+// All steps of the plan; the origin counts as step 0.
+fn all_steps<A: Allocator + Copy>(plan: &SitePlan<A>) -> StepRange
+    ensures first { result.first ≡ 0 }
+    ensures last { result.last ≡ steps_of plan.now.source }
 {
-    let all = Choice {
-        steps: None,
-        starts: false,
-    };
-    of_chosen(replica, outlook, now, &all)
+    StepRange {
+        first: 0,
+        last: u32::from(plan.base().steps()),
+    }
 }
 
-// What a replica says of a site's own events.
-fn foresee<A: Allocator + Copy>(
-    replica: &Replica<A>,
+// What is said of a site's own events.
+fn of_own<A: Allocator + Copy>(
+    plan: &SitePlan<A>,
     outlook: Outlook,
     now: Ms,
     own: &Own<'_>,
 ) -> Result<Vec<u8, A>, Failure>
-    ensures { Foresees outlook now (done_or_others own.now replica.now.source replica.now.state) replica.now result }
+    ensures { Foresees outlook now (done_or_others own.now plan.now.source plan.now.state) plan.now result }
 {
-    let mut text = Vec::new(replica.alloc());
+    let done = done_flags(plan, own)?;
+    let mut text = Vec::new(plan.alloc());
     match outlook {
-        Outlook::Next => append_next(replica, now, own, &mut text)?,
-        Outlook::Ready => print_ready_among(replica, now, own, &mut text)?,
-        Outlook::Rehearse => append_rest(replica, now, own, &mut text)?,
+        Outlook::Next => append_next(plan, &done, now, &mut text)?,
+        Outlook::Ready => print_ready_with(plan, &done, now, &mut text)?,
+        Outlook::Rehearse => append_rest(plan, &done, now, &mut text)?,
     }
     Ok(text)
+}
+
+// For each event of the plan, the origin first, whether it doesn't count as left.
+fn done_flags<A: Allocator + Copy>(
+    plan: &SitePlan<A>,
+    own: &Own<'_>,
+) -> Result<Vec<bool, A>, Memory>
+    ensures value { IfOk result (λ flags. flags.items ≡ done_or_others own.now plan.now.source plan.now.state) }
+    ensures one_each { IfOk result (λ flags. length flags.items ≡ events_of plan.now.source + 1) }
+    ensures fixed { AllProper plan.now.state.additions }
+{
+    let flags = flags_among(plan, own);
+    let known = flags_within(&flags, plan.base().events());
+    Vec::from_slice(plan.alloc(), known)
+}
+
+// Those of the flags that are about so many events.
+fn flags_within(flags: &[bool; EVENT_FLAGS], events: u16) -> &[bool]
+    requires { events ≤ most_events }
+    ensures value { result.now ≡ take (events + 1) flags.now }
+    ensures one_each { length result.now ≡ events + 1 }
+{
+    &flags[..usize::from(events) + 1]
 }
 
 // The answer to a question.

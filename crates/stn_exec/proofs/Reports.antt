@@ -5,17 +5,19 @@ use Rattle.std.proofs.{lemmas.Bool.false≢true, lemmas.Option.none-some, lemmas
 use Rattle.stn_time.specs.declared.reading.TimeFault.{TimeFault}
 use Rattle.stn_lift.specs.PlanSource.{PlanSource, events_of}
 use Rattle.stn_text.specs.Lines.{lines_of, words_of}
-use Rattle.stn_site.specs.{Report.IsReport, Held.holding_state, Refusals.withdraw_refusal}
+use Rattle.stn_site.specs.{Bounds.all_bounds, Report.IsReport, Report.done_events, Held.holding_state, Refusals.withdraw_refusal}
 use Rattle.stn_world.specs.{declared.faults.WorldFault.WorldFault, declared.faults.WorldFault.TheVariants.NoSite, Faults.of_replica_fault, World.World, World.HasSite, World.has_site, World.opening_world, World.held_at, World.content_at, Parts.holds_all, Whole.IsCoherent}
 use Rattle.stn_records.specs.Content.{Content, CountsSame, Item, HasItem, part_of}
 use Rattle.stn_world.specs.Steps.{Step, merged, sent, delivered, step_refusal, send_refusal, after, IsAccepted, stepped, run, TookAt, TookSameAt, TookSameItemsAt}
 use Rattle.stn_world.proofs.{Accepted.site_decides, Accepted.no_site, Sendings.part_free, Sendings.all_free, Whole.coherent_at_first, Runs.run_stays, Runs.run_keeps, Runs.coherent_run}
 use Rattle.stn_refusal.specs.declared.code.Code.TheVariants as code
 use Rattle.stn_refusal.specs.{declared.failure.Failure.Failure, Refusals.refused}
-use Rattle.stn_questions.specs.{declared.asked.Question.Question, Answer.IsAnswer, Ready.IsReadyText}
+use Rattle.stn_questions.specs.{declared.asked.Question.Question, Answer.IsAnswer, Ready.IsReadyText, Ready.IsReadyWith}
 use Rattle.stn_command.specs.{declared.changes.Change.Change, Words.and_then, Words.spelled, Query.Query, Query.IsSaid, Query.IsQueryRefusal}
 use Rattle.stn_command.specs.declared.changes.Change.TheVariants.{Add, Amend, Withdraw, Done}
 use Rattle.stn_command.specs.Query as asked
+use Rattle.stn_command.specs.Dispatch.{every_event, done_or_not_chosen}
+use Rattle.stn_command.specs.declared.queries.Outlook.TheVariants as outlook
 use Rattle.stn_command.proofs.OneSaid.{one_refusal}
 use Rattle.stn_exec.specs.Command.{QueryWords, report, ready, ask, Action, change, merge, send_all, send, deliver, query, Command, sites_command, command_of}
 use Rattle.stn_exec.specs.Effect.{Effect, Reply, told, refusing, sending, sent_step, change_read, query_read, change_step, changing, telling, action_effect, command_effect, action_step, step_of}
@@ -247,11 +249,14 @@ pub answers : (script output text : List ℕ) (at : LineOf script) (site : ℕ) 
 answers script output text at site question asks printed =
     answers_at script output text at site (ask question) (asked.ask question) asks.kept asks.command asks.there refl (inr (inr (asks.event, asks.apart, refl))) printed
 
-pub ready_said : (script output text : List ℕ) (at : LineOf script) (site : ℕ) (now : ℤ) → AsksReady at site now → PrintsAt at output text
+pub ready_said : ((source : PlanSource) (state : Content) → done_or_not_chosen every_event source state ≡ done_events source state)
+    → (script output text : List ℕ) (at : LineOf script) (site : ℕ) (now : ℤ) → AsksReady at site now → PrintsAt at output text
     → IsReadyText at.start.source (content_at (world_at at) site) now text
-ready_said script output text at site now asks printed =
-    answers_at script output text at site (ready asks.word) (asked.ready now) asks.kept asks.command asks.there
-    (ap (λ (read : Result ℤ TimeFault). and_then (spelled read) (λ time. Ok (asked.ready time))) asks.time) refl printed
+ready_said all script output text at site now asks printed =
+    let state = content_at (world_at at) site in
+    subst (λ (done : List Bool). IsReadyWith (all_bounds at.start.source state) done now text) (all at.start.source state)
+    (answers_at script output text at site (ready asks.word) (asked.foresee outlook.Ready now every_event) asks.kept asks.command asks.there
+    (ap (λ (read : Result ℤ TimeFault). and_then (spelled read) (λ time. Ok (asked.foresee outlook.Ready time every_event))) asks.time) (inr (refl, refl)) printed)
 
 -- what two sites of one plan hold is alike, where it is after the runs of their steps
 alike_at : (Took : World → List Step → ℕ → World → List Step → ℕ → Type 0) (Alike : Content → Content → Type 0)

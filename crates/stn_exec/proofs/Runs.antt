@@ -35,6 +35,11 @@ module _ (input rest old new : Option (List ℕ)) (before after : ℕ) (script :
       known None same = tt
       known (Some text) same = subst (λ t. WritesOutputPart old new (script_outcome t).replies) (sym same) run.0
 
+  pub some_part_written : (result : Result Ran RunFault) → IsRun (script_outcome script) old new before after result
+      → OnErr result ((text : List ℕ) × WritesOutputPart old new (script_outcome text).replies)
+  some_part_written (Ok ran) run = tt
+  some_part_written (Err fault) run = (script, run.0)
+
   pub count_kept : (result : Result Ran RunFault) → result ≢ Err Write → IsRun (script_outcome script) old new before after result → after ≡ before
   count_kept (Ok ran) other run = run.3
   count_kept (Err Memory) other run = run.1

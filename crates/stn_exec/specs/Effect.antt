@@ -10,6 +10,8 @@ use Rattle.stn_world.specs.Steps.{Step, added, finished, amended, withdrew, merg
 use Rattle.stn_command.specs.{declared.changes.AskedBound.AskedBound, declared.changes.Change.Change, Words.and_then, Words.time_read, Words.times_read, Change.bound_of, Change.made_by, Query.Query}
 use Rattle.stn_command.specs.declared.changes.Change.TheVariants.{Add, Amend, Withdraw, Done}
 use Rattle.stn_command.specs.Query as asked
+use Rattle.stn_command.specs.Dispatch.{every_event}
+use Rattle.stn_command.specs.declared.queries.Outlook.TheVariants as outlook
 use Rattle.stn_exec.specs.declared.answer.Answer.{Answer}
 use Rattle.stn_exec.specs.declared.answer.Answer.TheVariants as answer
 use Rattle.stn_exec.specs.Command.{BoundWords, ChangeWords, add, amend, withdraw, done, QueryWords, report, check, next, rehearse, ready, ask, repairs, Action, change, merge, send_all, send, deliver, query, Command}
@@ -69,9 +71,9 @@ abbrev pub query_read : QueryWords → Result Query Failure
 query_read report = Ok asked.report
 query_read repairs = Ok asked.repairs
 query_read (check times) = and_then (times_read times) (λ read. Ok (asked.check read))
-query_read (next now) = and_then (time_read now) (λ time. Ok (asked.next time))
-query_read (rehearse now) = and_then (time_read now) (λ time. Ok (asked.rehearse time))
-query_read (ready now) = and_then (time_read now) (λ time. Ok (asked.ready time))
+query_read (next now) = and_then (time_read now) (λ time. Ok (asked.foresee outlook.Next time every_event))
+query_read (rehearse now) = and_then (time_read now) (λ time. Ok (asked.foresee outlook.Rehearse time every_event))
+query_read (ready now) = and_then (time_read now) (λ time. Ok (asked.foresee outlook.Ready time every_event))
 query_read (ask question) = Ok (asked.ask question)
 
 -- the step that a change is at a site

@@ -3,7 +3,9 @@ ghost use Rattle.stn_text.specs.Lines.{words_of};
 ghost use Rattle.stn_world.specs.World.{HasSite, content_at, next_id_at};
 ghost use Rattle.stn_world.specs.Steps.{IsStep};
 ghost use Rattle.stn_command.specs.Change.{made_by};
-ghost use Rattle.stn_command.specs.Query.{seen_query as asked_of};
+ghost use Rattle.stn_command.specs.Dispatch.{every_event};
+ghost use Rattle.stn_command.specs.Query.{foresee, seen_query as asked_of};
+ghost use Rattle.stn_command.specs.Words.{and_then, time_read};
 ghost use Rattle.stn_exec.specs.Command.{change, send_items, query};
 ghost use Rattle.stn_exec.specs.Effect.{change_step, telling, action_effect};
 ghost use Rattle.stn_exec.specs.Running.{seen_change, seen_query};
@@ -13,10 +15,10 @@ use crate::answer::Answer;
 use crate::command::{ChangeWords, QueryWords, read_records, read_tombstones};
 use crate::reading::{read_change, read_times};
 use std::alloc::Allocator;
-use stn_command::{Change, Made, Query, append_said, read_time};
+use stn_command::{Change, Choice, Made, Outlook, Query, append_said, read_time};
 use stn_records::Id;
 use stn_refusal::Failure;
-use stn_replica::Replica;
+use stn_site::SitePlan;
 use stn_world::{World, WorldFault};
 
 /// Changes what a site holds, as words of a line ask for.
@@ -113,20 +115,31 @@ pub fn tell<A: Allocator + Copy>(
             let times = read_times(alloc, line)?;
             tell_asked(world, site, &Query::Check(&times), out)
         }
-        QueryWords::Next(now) => {
-            let time = read_time(now)?;
-            tell_asked(world, site, &Query::Next(time), out)
-        }
-        QueryWords::Rehearse(now) => {
-            let time = read_time(now)?;
-            tell_asked(world, site, &Query::Rehearse(time), out)
-        }
-        QueryWords::Ready(now) => {
-            let time = read_time(now)?;
-            tell_asked(world, site, &Query::Ready(time), out)
-        }
+        QueryWords::Next(now) => tell_foreseen(world, site, Outlook::Next, now, out),
+        QueryWords::Rehearse(now) => tell_foreseen(world, site, Outlook::Rehearse, now, out),
+        QueryWords::Ready(now) => tell_foreseen(world, site, Outlook::Ready, now, out),
         QueryWords::Ask(question) => tell_asked(world, site, &Query::Ask(question), out),
     }
+}
+
+// Appends what a site that is there says of all events that are left, from a time on, which is a word.
+fn tell_foreseen<A: Allocator + Copy>(
+    world: &World<A>,
+    site: u32,
+    outlook: Outlook,
+    now: &[u8],
+    out: &mut Vec<u8, A>,
+) -> Result<(), Failure>
+    requires { HasSite world.now site }
+    ensures { IsDone world.now out.old.items out.new.items
+        (telling world.now site (and_then (time_read now.now) (λ time. Ok (foresee outlook time every_event)))) result }
+{
+    let time = read_time(now)?;
+    let every = Choice {
+        steps: None,
+        starts: false,
+    };
+    tell_asked(world, site, &Query::Foresee(outlook, time, every), out)
 }
 
 // Appends what a site that is there says to a query.
@@ -139,14 +152,14 @@ fn tell_asked<A: Allocator + Copy>(
     requires { HasSite world.now site }
     ensures { IsDone world.now out.old.items out.new.items (telling world.now site (Ok (asked_of asked.now))) result }
 {
-    append_said(replica_at(world, site), asked, out)
+    append_said(plan_at(world, site), asked, out)
 }
 
-// The replica of a site that is there.
-fn replica_at<A: Allocator + Copy>(world: &World<A>, site: u32) -> &Replica<A>
+// The copy of the plan of a site that is there.
+fn plan_at<A: Allocator + Copy>(world: &World<A>, site: u32) -> &SitePlan<A>
     requires { HasSite world.now site }
     ensures source { result.now.source ≡ world.now.source }
     ensures state { result.now.state ≡ content_at world.now site }
 {
-    world.replica(site).unwrap()
+    world.replica(site).unwrap().plan()
 }

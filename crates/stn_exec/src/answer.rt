@@ -1,10 +1,10 @@
-ghost use Rattle.std.specs.Prelude.{◌≡◌, ◌++◌, OnOk, decimal};
+ghost use Rattle.std.specs.Prelude.{◌≡◌, ◌++◌, OnOk, OnErr, decimal};
 ghost use Rattle.stn_site.specs.Lines.{line};
 ghost use Rattle.stn_exec.specs.Answer.{answer_text};
 
 use std::alloc::Allocator;
 use stn_command::Made;
-use stn_text::append_decimal;
+use stn_text::{all_or_nothing, append_decimal};
 use stn_time::Memory;
 
 /// What a command that is no query answers.
@@ -21,9 +21,10 @@ pub enum Answer {
 }
 
 impl Answer {
-    /// Appends the printed line.
+    /// Appends the printed line. If memory runs out, it appends nothing.
     pub fn print<A: Allocator>(&self, out: &mut Vec<u8, A>) -> Result<(), Memory>
-        ensures { OnOk result (out.new.items ≡ out.old.items ++ answer_text self.now) }
+        ensures printed { OnOk result (out.new.items ≡ out.old.items ++ answer_text self.now) }
+        ensures kept { OnErr result (out.new.items ≡ out.old.items) }
     {
         match self {
             Answer::Changed(made) => made.print(out),
@@ -34,10 +35,13 @@ impl Answer {
     }
 }
 
-// Appends a line of these words and the number's decimal form.
+// Appends a line of these words and the number's decimal form; nothing if memory runs out.
 fn append_line<A: Allocator>(out: &mut Vec<u8, A>, words: &[u8], number: u16) -> Result<(), Memory>
-    ensures { OnOk result (out.new.items ≡ out.old.items ++ line (words.now ++ decimal number)) }
+    ensures printed { OnOk result (out.new.items ≡ out.old.items ++ line (words.now ++ decimal number)) }
+    ensures kept { OnErr result (out.new.items ≡ out.old.items) }
 {
+    let before = out.len();
     append_decimal(out, words, number)?;
-    out.extend_from_slice(b"\n")
+    let outcome = out.extend_from_slice(b"\n");
+    all_or_nothing(out, before, outcome)
 }

@@ -20,7 +20,7 @@ ghost use Rattle.stn_exec.specs.Output.{IsOutput, CountsRefusals};
 ghost use Rattle.stn_exec.specs.Script.{Start, heading_of, last_line, script_outcome};
 ghost use Rattle.stn_exec.specs.Reports.{steps_of_lines, LineOf, first_world, steps_before, world_at, ReportsSite, AsksSite, AsksReady, PrintsAt, PrintSame};
 
-use stn_command::{every_query_has_an_answer, one_said};
+use stn_command::{chosen_all, every_query_has_an_answer, one_said};
 use stn_questions::{one_answer, one_ready_text};
 use stn_records::counts_same;
 use stn_world::{sites_are_unions, sites_took_same_same_bytes};
@@ -92,6 +92,7 @@ pub fn ready_is_answered()
     ensures bytes { (now : ℤ) → PrintSame (λ _ at site. AsksReady at site now) TookSameAt }
 {
     sites_took_same_same_bytes();
+    chosen_all();
     one_ready_text();
     counts_same();
 }

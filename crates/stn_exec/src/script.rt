@@ -309,6 +309,10 @@ pub fn run<R: Read, W: Write, A: Allocator + Copy>(
         (λ script. WritesOutputPart (W.contents (counted_device writer.old)) (W.contents (counted_device writer.new))
         (script_outcome script).replies)) }
 
+    // Where the input is not known, it is that of some script.
+    ensures some_part { OnErr result ((script : List ℕ)
+        × WritesOutputPart (W.contents (counted_device writer.old)) (W.contents (counted_device writer.new)) (script_outcome script).replies) }
+
     ensures reader_kept { result ≢ Err RunFault.Read → KeepsCount reader.old reader.new }
     ensures writer_kept { result ≢ Err RunFault.Write → KeepsCount writer.old writer.new }
     ensures used { ConsumesAtMost (R.remaining (counted_device reader.old))

@@ -7,7 +7,9 @@ use Rattle.stn_lift.proofs.FewBounds.{length-duration_bounds}
 use Rattle.stn_net.specs.{Difference.Difference, Horizon.horizon_bounds, Schedule.times_of}
 use Rattle.stn_net.proofs.Horizons.{length-horizon_bounds}
 use Rattle.stn_pddl.specs.{declared.fault.DomainFault.DomainFault, Schemas.ActionSchema, Domains.domain_of}
-use Rattle.stn_lift.specs.{declared.plan.fault.PlanFault.PlanFault, Plan.Steps.PlannedStep, Plan.Steps.plan_of, declared.fault.LiftFault.LiftFault, declared.fault.BaseFault.BaseFault, Activities.Activity, Activities.activities}
+use Rattle.stn_lift.specs.{declared.plan.fault.PlanFault.PlanFault, Plan.Steps.PlannedStep, Plan.Steps.plan_of, Plan.Steps.is_memory, declared.fault.LiftFault.LiftFault, declared.fault.BaseFault.BaseFault, Activities.Activity, Activities.activities}
+use Rattle.stn_text.specs.Faults.{Fails}
+use Rattle.stn_lift.specs.declared.plan.fault.PlanFault.TheVariants.{TooLong, Syntax, Number, Negative, TooManySteps, Memory}
 use Rattle.stn_lift.specs.BaseBounds.{duration_bound, duration_bounds, duration_of, events_interfere, event_times, orders, lifted_bounds}
 use Rattle.stn_lift.specs.PlanSource.{files, of_lift, steps_in, lifted, activities_of, source_with, base_of, base_bounds, events_of, IsSoundSource}
 use Rattle.stn_lift.proofs.Steps.{length-activities}
@@ -47,6 +49,28 @@ unfolding lifted activities_of
 one_step_each domain plan based =
     let found = has_base domain plan (lifted domain plan) based in
     same_count (domain_of domain) (plan_of plan) found.0 found.1 ∙ ap (λ given. length (result_unwrap_or given [])) (sym found.1)
+
+-- the text of its plan was read
+read_in : (actions : Result (List ActionSchema) DomainFault) (plan : Result (List PlannedStep) PlanFault) (found : List Activity)
+    → steps_in actions plan ≡ Ok found → plan ≡ Ok (result_unwrap_or plan [])
+read_in (Err fault) plan found e = cc
+read_in (Ok actions) (Err fault) found e = cc
+read_in (Ok actions) (Ok steps) found e = refl
+
+pub plan_was_read : (domain plan : List ℕ) → base_of (files domain plan) ≡ Ok (files domain plan) → plan_of plan ≡ Ok (planned_steps plan)
+unfolding lifted
+plan_was_read domain plan based =
+    let found = has_base domain plan (lifted domain plan) based in
+    read_in (domain_of domain) (plan_of plan) found.0 found.1
+
+-- a plan that was read before has no fault but lack of memory
+pub only_memory : (fault : PlanFault) (meaning : Result (List PlannedStep) PlanFault) (steps : List PlannedStep) → Fails is_memory fault meaning → meaning ≡ Ok steps → fault ≡ Memory
+only_memory Memory meaning steps fails read = refl
+only_memory TooLong meaning steps fails read = cc
+only_memory (Syntax line) meaning steps fails read = cc
+only_memory (Number line) meaning steps fails read = cc
+only_memory (Negative line) meaning steps fails read = cc
+only_memory TooManySteps meaning steps fails read = cc
 
 -- after the horizon bounds come those of the durations
 bounds_last : (first middle last : List Difference) (events place : ℕ) (d : Difference) → length first ≡ events → place < length middle

@@ -16,3 +16,4 @@ pub mod SomeAnswer
 pub mod SomeReady
 pub mod SomeDispatch
 pub mod Ranges
+pub mod Foretold

@@ -49,7 +49,7 @@ pub pushed_other : (ready : List ReadyEvent) (one : ReadyEvent) (event : ℕ) �
 pushed_other ready one event other = omega (arith, pushed ready one event false (ne_eqb one.event event other))
 
 -- one more of this
-pushed_same : (ready : List ReadyEvent) (one : ReadyEvent) (event : ℕ) → one.event ≡ event → counted (ready ++ one ∷ []) event ≡ counted ready event + 1
+pub pushed_same : (ready : List ReadyEvent) (one : ReadyEvent) (event : ℕ) → one.event ≡ event → counted (ready ++ one ∷ []) event ≡ counted ready event + 1
 pushed_same ready one event same = pushed ready one event true (eq-eqb one.event event same)
 
 module _ (bounds : List Difference) (done : List Bool) (now : ℤ) where

@@ -7,3 +7,4 @@ pub mod Records
 pub mod Repair
 pub mod Steps
 pub mod Why
+pub mod Foresight

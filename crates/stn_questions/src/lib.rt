@@ -7,6 +7,7 @@ pub use answer::print_answer;
 pub use apart::print_apart;
 pub use asked::Question;
 pub use bounds::print_bounds;
+pub use foresight::{next_with, rehearse_with};
 pub use laws::{
     every_question_has_an_answer, every_state_has_a_next, every_state_has_a_ready_text,
     every_state_has_a_rehearsal, every_state_has_a_report, one_answer, one_ready_text,
@@ -16,12 +17,12 @@ pub use picture::{
     Span, bars_are_on_the_line, lines_are_escaped, one_picture, print_picture, same_pictures,
     steps_have_rows,
 };
-pub use ready::print_ready_among;
+pub use ready::print_ready_with;
 pub use ready_event::ReadyEvent;
 pub use records::print_records;
 pub use repair::{
     Repair, kept_is_largest, one_repairs_text, print_repairs, repairs_lie_on_each_cycle,
-    same_repairs,
+    repairs_of, same_repairs,
 };
 pub use steps::{names_of, print_steps};
 pub use why::{WhyFault, print_why};
@@ -31,6 +32,7 @@ mod apart;
 mod asked;
 mod bounds;
 mod ends;
+mod foresight;
 mod laws;
 mod picture;
 mod ready;

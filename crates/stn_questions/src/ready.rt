@@ -1,72 +1,79 @@
-ghost use Rattle.std.specs.Prelude.{◌≡◌, ℕ, ◌+◌, ◌++◌, List, length, codes, IfOk, OnOk, OnErr};
+ghost use Rattle.std.specs.Prelude.{◌≡◌, ℕ, ℤ, ◌+◌, ◌≤◌, ◌≤ℤ◌, ◌++◌, List, length, codes, IfOk, OnOk, OnErr, MatchOption};
 ghost use Rattle.std.specs.List.{flat_map};
 ghost use Rattle.stn_net.specs.Difference.{Difference};
-ghost use Rattle.stn_net.specs.Event.{event_text};
-ghost use Rattle.stn_net.specs.Schedule.{HasSchedule};
-ghost use Rattle.stn_net.specs.Matrix.Tightest.{IsExact};
+ghost use Rattle.stn_net.specs.Event.{event_text, most_events};
+ghost use Rattle.stn_net.specs.Schedule.{HasSchedule, times_of};
+ghost use Rattle.stn_net.specs.Windows.Dispatch.{IsLeft};
+ghost use Rattle.stn_net.specs.Windows.Leading.{AreReadyAt, IsLeastLatest};
+ghost use Rattle.stn_lift.specs.PlanSource.{events_of};
 ghost use Rattle.stn_site.specs.Bounds.{all_bounds};
 ghost use Rattle.stn_site.specs.Lines.{line};
-ghost use Rattle.stn_replica.specs.Own.{done_or_others};
+ghost use Rattle.stn_questions.specs.Foresight.{lesser_of};
 ghost use Rattle.stn_questions.specs.Ready.{AreReadyEvents, AreReadyLines, IsReadyAnswer, IsReadyWith, ready_line};
 
+use crate::foresight::next_with;
 use crate::ready_event::ReadyEvent;
 use std::alloc::Allocator;
-use stn_net::{Event, Matrix, Next, ready_times};
-use stn_replica::{Own, Replica, flags_among, flags_of};
+use stn_conflict::{earliest, latest, soonest};
+use stn_net::{Event, Next, is_left};
+use stn_site::SitePlan;
 use stn_time::{Memory, Ms};
 
-/// Appends which of a site's own events may run from now on: a line for each that may run at some time
-/// from now on, with the first and the last such time, by first time and then by number. The others are
-/// not waited for, and have no lines. Where all bounds have no schedule, that is `conflict`; where every
-/// own event is done, `all done`; and where no own event may run any more, `overdue` and the event that
-/// `next_among` names. If memory runs out, it appends nothing.
-pub fn print_ready_among<A: Allocator + Copy, B: Allocator>(
-    replica: &Replica<A>,
+/// Appends which events may run from now on, where these count as done, the origin's test first: a line
+/// for each that may run at some time from now on, with the first and the last such time, by first time
+/// and then by number. Where all bounds have no schedule, that is `conflict`; where every event is done,
+/// `all done`; and where no other event may run any more, `overdue` and the event that `next_with`
+/// names. If memory runs out, it appends nothing.
+pub fn print_ready_with<A: Allocator + Copy, B: Allocator>(
+    plan: &SitePlan<A>,
+    done: &[bool],
     now: Ms,
-    own: &Own<'_>,
     out: &mut Vec<u8, B>,
 ) -> Result<(), Memory>
+    requires { length done.now ≡ events_of plan.now.source + 1 }
     ensures printed { OnOk result ((text : List ℕ)
-        × IsReadyWith (all_bounds replica.now.source replica.now.state) (done_or_others own.now replica.now.source replica.now.state) now text
+        × IsReadyWith (all_bounds plan.now.source plan.now.state) done.now now text
         × (out.new.items ≡ out.old.items ++ text)) }
     ensures kept { OnErr result (out.new.items ≡ out.old.items) }
 {
-    let mut text = Vec::new(replica.alloc());
-    append_text(replica, now, own, &mut text)?;
+    let mut text = Vec::new(plan.alloc());
+    append_text(plan, done, now, &mut text)?;
     out.extend_from_slice(&text)
 }
 
 fn append_text<A: Allocator + Copy>(
-    replica: &Replica<A>,
+    plan: &SitePlan<A>,
+    done: &[bool],
     now: Ms,
-    own: &Own<'_>,
     out: &mut Vec<u8, A>,
 ) -> Result<(), Memory>
+    requires { length done.now ≡ events_of plan.now.source + 1 }
     ensures { OnOk result ((text : List ℕ)
-        × IsReadyWith (all_bounds replica.now.source replica.now.state) (done_or_others own.now replica.now.source replica.now.state) now text
+        × IsReadyWith (all_bounds plan.now.source plan.now.state) done.now now text
         × (out.new.items ≡ out.old.items ++ text)) }
 {
-    match replica.next_among(now, own) {
-        Some(answer) => append_answer(replica, now, own, answer, out),
+    match next_with(plan, done, now)? {
+        Some(answer) => append_answer(plan, done, now, answer, out),
         None => out.extend_from_slice(b"conflict\n"),
     }
 }
 
 // Appends what is printed where this comes next.
 fn append_answer<A: Allocator + Copy>(
-    replica: &Replica<A>,
+    plan: &SitePlan<A>,
+    done: &[bool],
     now: Ms,
-    own: &Own<'_>,
     answer: Next,
     out: &mut Vec<u8, A>,
 ) -> Result<(), Memory>
-    requires { HasSchedule (all_bounds replica.now.source replica.now.state) }
+    requires one_each { length done.now ≡ events_of plan.now.source + 1 }
+    requires possible { HasSchedule (all_bounds plan.now.source plan.now.state) }
     ensures { OnOk result ((text : List ℕ)
-        × IsReadyAnswer (all_bounds replica.now.source replica.now.state) (done_or_others own.now replica.now.source replica.now.state) now answer text
+        × IsReadyAnswer (all_bounds plan.now.source plan.now.state) done.now now answer text
         × (out.new.items ≡ out.old.items ++ text)) }
 {
     match answer {
-        Next::Run(_, _) => append_ready(replica, now, own, out),
+        Next::Run(_, _) => append_ready(plan, done, now, out),
         Next::AllDone => out.extend_from_slice(b"all done\n"),
         Next::Overdue(event) => append_overdue(event, out),
     }
@@ -82,41 +89,98 @@ fn append_overdue<B: Allocator>(event: Event, out: &mut Vec<u8, B>) -> Result<()
 
 // Appends the lines of the events that are ready from now on.
 fn append_ready<A: Allocator + Copy>(
-    replica: &Replica<A>,
+    plan: &SitePlan<A>,
+    done: &[bool],
     now: Ms,
-    own: &Own<'_>,
     out: &mut Vec<u8, A>,
 ) -> Result<(), Memory>
-    requires { HasSchedule (all_bounds replica.now.source replica.now.state) }
+    requires one_each { length done.now ≡ events_of plan.now.source + 1 }
+    requires possible { HasSchedule (all_bounds plan.now.source plan.now.state) }
     ensures { OnOk result ((text : List ℕ)
-        × AreReadyLines (all_bounds replica.now.source replica.now.state) (done_or_others own.now replica.now.source replica.now.state) now text
+        × AreReadyLines (all_bounds plan.now.source plan.now.state) done.now now text
         × (out.new.items ≡ out.old.items ++ text)) }
 {
-    let matrix = replica.current().unwrap();
-    let flags = flags_among(replica.plan(), own);
-    let done = flags_of(&flags, matrix);
-    let ready = ready_events(replica.alloc(), matrix, done, now)?;
+    let ready = ready_events(plan, done, now)?;
     append_lines(&ready, out)
 }
 
-// The events that are ready from now on, in the order in which they are printed.
+// The events that are ready from now on, in the order in which they are printed: none after the least of
+// all latest times, by which each other event that is left has to wait for it.
 fn ready_events<A: Allocator + Copy>(
-    alloc: A,
-    matrix: &Matrix<A>,
+    plan: &SitePlan<A>,
     done: &[bool],
     now: Ms,
 ) -> Result<Vec<ReadyEvent, A>, Memory>
-    requires { length done.now ≡ matrix.now.events + 1 }
-    ensures { IfOk result (λ ready. (bounds : List Difference) → IsExact bounds matrix.now → AreReadyEvents bounds done.now now ready.items) }
+    requires one_each { length done.now ≡ events_of plan.now.source + 1 }
+    requires possible { HasSchedule (all_bounds plan.now.source plan.now.state) }
+    ensures { IfOk result (λ ready. AreReadyEvents (all_bounds plan.now.source plan.now.state) done.now now ready.items) }
+{
+    let live = plan.live_bounds()?;
+    let events = plan.base().events();
+    let bounds = plan.base().bounds();
+    let first_times = earliest(plan.alloc(), events, bounds, &live)?.unwrap();
+    let last_times = latest(plan.alloc(), events, bounds, &live)?.unwrap();
+    let Some(last) = least_left(&last_times, done) else {
+        return Ok(Vec::new(plan.alloc()));
+    };
+    if last < now {
+        return Ok(Vec::new(plan.alloc()));
+    }
+    let times = soonest(plan.alloc(), events, bounds, &live, done, last)?.unwrap();
+    ready_until(plan.alloc(), &first_times, &times, done, now, last)
+}
+
+// The least of the times of the events that are left.
+fn least_left(times: &[Ms], done: &[bool]) -> Option<Ms>
+    requires one_each { length done.now ≡ length times.now }
+    requires few { length times.now ≤ most_events + 1 }
+    ensures { MatchOption result ((event : ℕ) → ¬ IsLeft done.now event) (IsLeastLatest (times_of times.now) done.now) }
+{
+    let mut least = None;
+    for number in 1..times.len() {
+        let event = Event::new(number as u16).unwrap();
+        if is_left(done, event) {
+            least = Some(lesser(least, times[number]));
+        }
+    }
+    least
+}
+
+// The lesser of the times.
+fn lesser(least: Option<Ms>, time: Ms) -> Ms
+    ensures { result ≡ lesser_of least time }
+{
+    match least {
+        Some(other) => { if other <= time { other } else { time } }
+        None => time,
+    }
+}
+
+// The events that are left and may run at some time from now on: those that can wait until the last such
+// time.
+fn ready_until<A: Allocator + Copy>(
+    alloc: A,
+    earliest: &[Ms],
+    times: &[Ms],
+    done: &[bool],
+    now: Ms,
+    last: Ms,
+) -> Result<Vec<ReadyEvent, A>, Memory>
+    requires one_each { length done.now ≡ length times.now }
+    requires whole { length earliest.now ≡ length times.now }
+    requires few { length times.now ≤ most_events + 1 }
+    ensures { IfOk result (λ ready. (bounds : List Difference) (events : ℕ) (latest : ℕ → ℤ)
+        → AreReadyAt bounds events done.now (times_of earliest.now) latest (times_of times.now) last → now ≤ℤ last
+        → AreReadyEvents bounds done.now now ready.items) }
 {
     let mut ready = Vec::new(alloc);
-    for before in 0..matrix.events() {
-        let event = Event::new(before + 1).unwrap();
-        if let Some(times) = ready_times(matrix, done, event, now) {
+    for number in 1..times.len() {
+        let event = Event::new(number as u16).unwrap();
+        if is_left(done, event) && times[number] == last {
             ready.push(ReadyEvent {
-                first: times.0,
+                first: earliest[number].max(now),
                 event,
-                last: times.1,
+                last,
             })?;
         }
     }

@@ -1,6 +1,7 @@
-ghost use Rattle.std.specs.Prelude.{◌≡◌, ◌≤◌, ◌++◌, ℕ, List, length, map, decimal, IfOk, OnOk, OnErr};
+ghost use Rattle.std.specs.Prelude.{◌≡◌, ◌≤◌, ◌++◌, ℕ, List, Ok, length, map, decimal, IfOk, OnOk, OnErr};
 ghost use Rattle.std.specs.List.{flat_map, range_with_len};
 ghost use Rattle.stn_net.specs.Event.{most_steps};
+ghost use Rattle.stn_lift.specs.Plan.Steps.{plan_of};
 ghost use Rattle.stn_lift.specs.Plan.Views.{planned_step, word_of};
 ghost use Rattle.stn_lift.specs.PlanSource.{files};
 ghost use Rattle.stn_site.specs.Lines.{line};
@@ -70,6 +71,7 @@ fn append_planned<A: Allocator + Copy>(
     durations: &[Bound],
     out: &mut Vec<u8, A>,
 ) -> Result<(), Memory>
+    requires read { plan_of plan.now ≡ Ok (planned_steps plan.now) }
     requires one_each { length (planned_steps plan.now) ≤ length durations.now }
     ensures { OnOk result (out.new.items ≡ out.old.items ++ step_lines (least_of durations.now) 0 (planned_steps plan.now)) }
 {
@@ -79,11 +81,15 @@ fn append_planned<A: Allocator + Copy>(
 
 // The plan of the text of one that was read before, so that nothing but memory can be lacking.
 fn read_again<'a, A: Allocator + Copy>(alloc: A, text: &'a [u8]) -> Result<Plan<'a, A>, Memory>
+    requires { plan_of text.now ≡ Ok (planned_steps text.now) }
     ensures { IfOk result (λ plan. plan.steps ≡ planned_steps text.now) }
 {
     match Plan::read(alloc, text) {
         Ok(plan) => Ok(plan),
-        Err(_) => Err(AllocError),
+        Err(fault) => {
+            prove!(fault == PlanFault::Memory);
+            Err(AllocError)
+        }
     }
 }
 

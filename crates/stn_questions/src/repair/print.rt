@@ -3,7 +3,9 @@ ghost use Rattle.std.specs.List.{flat_map};
 ghost use Rattle.stn_net.specs.Difference.{NamesEvents};
 ghost use Rattle.stn_lift.specs.PlanSource.{base_bounds, events_of};
 ghost use Rattle.stn_conflict.specs.Arcs.{IsNegativeCycle};
-ghost use Rattle.stn_site.specs.Bounds.{bounds_of};
+ghost use Rattle.stn_records.specs.Content.{live_of};
+ghost use Rattle.stn_site.specs.Bounds.{all_bounds, bounds_of};
+ghost use Rattle.stn_questions.specs.Repair.Repairs.{AreRepairs};
 ghost use Rattle.stn_questions.specs.Repair.Text.{listed_id, repair_line, drop_line, SaysRepairs, SaysWhatMends, IsRepairsText};
 
 use crate::apart::append_range;
@@ -34,6 +36,19 @@ pub fn print_repairs<A: Allocator + Copy, B: Allocator>(
     let live = live_records(plan)?;
     let text = text_of(plan.alloc(), plan.base(), &live)?;
     out.extend_from_slice(&text)
+}
+
+/// The repairs by the live records, in order of id, where the links are a negative cycle of all bounds. It fails only if
+/// memory runs out.
+pub fn repairs_of<A: Allocator + Copy>(
+    plan: &SitePlan<A>,
+    cycle: &[Link],
+) -> Result<Vec<Repair, A>, Memory>
+    requires { IsNegativeCycle (all_bounds plan.now.source plan.now.state) cycle.now }
+    ensures { IfOk result (λ repairs. AreRepairs (base_bounds plan.now.source) (live_of plan.now.state) (live_of plan.now.state) repairs.items) }
+{
+    let live = live_records(plan)?;
+    repairs_on(plan.alloc(), plan.base(), &live, cycle)
 }
 
 // What mends a conflict of the plan's bounds and those of the live records.

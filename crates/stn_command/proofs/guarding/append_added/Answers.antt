@@ -1,6 +1,7 @@
-use Rattle.std.proofs.Common.{◌++◌, ◌∙◌, ap, sym}
+use Rattle.std.proofs.Common.{◌++◌, ◌∙◌, ap, sym, arith}
 use Rattle.std.proofs.lemmas.List.{append-nil, take_all}
 use Rattle.std.specs.List.{flat_map}
+use Rattle.stn_site.proofs.Behind.{behind}
 use Rattle.stn_questions.proofs.Listing.{lines_grown}
 use Rattle.stn_command.specs.Guarding.{added_line}
 use Rattle.stn_command.proofs.guarding.append_added.Goals as goal
@@ -11,8 +12,16 @@ loop-id-init g c = sym (append-nil c.args.out.now.items)
 pub loop-id-preserved : goal.loop-id-preserved
 loop-id-preserved g c =
     lines_grown added_line c.args.ids.now c.loop-id.id-index c.id-item.result c.args.out.now.items c.loop-id.out.items c.print.new.out.items
-    c.loop-id-test.true c.id-item.is c.loop-id.invariant c.in_ok-print.ensures
+    c.loop-id-test.true c.id-item.is c.loop-id.invariant c.in_ok-print.ensures.printed
 
-pub returns : goal.returns
-returns g c =
+pub returns-in_err-print-clause-behind : goal.returns-in_err-print-clause-behind
+returns-in_err-print-clause-behind g c =
+    behind c.args.out.now.len c.args.out.now.items _ c.print.new.out.items (omega (arith, c.args.out.now.ok.0)) (c.in_err-print.ensures.kept ∙ c.loop-id.invariant)
+
+pub returns-clause-behind : goal.returns-clause-behind
+returns-clause-behind g c =
+    behind c.args.out.now.len c.args.out.now.items _ c.loop-id.out.items (omega (arith, c.args.out.now.ok.0)) c.loop-id.invariant
+
+pub returns-clause-printed : goal.returns-clause-printed
+returns-clause-printed g c =
     c.loop-id.invariant ∙ ap (λ all. c.args.out.now.items ++ flat_map added_line all) (take_all c.loop-id.id-index c.args.ids.now c.loop-id-test.false)

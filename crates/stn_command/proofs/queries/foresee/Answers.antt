@@ -1,12 +1,26 @@
-use Rattle.std.proofs.Common.{Err, ap}
-use Rattle.std.proofs.lemmas.Result.{err_from_is_err_and}
-use Rattle.stn_replica.specs.Own.{done_or_others}
-use Rattle.stn_command.proofs.Alike.{unrehearsed}
+use Rattle.std.proofs.Common.{◌≡◌, ℤ, Vec, Result, Ok, Err, true, inl, inr, refl, sym, ap, ◌∙◌}
+use Rattle.std.specs.Prelude.{Some}
+use Rattle.stn_refusal.specs.declared.failure.Failure.{Failure}
+use Rattle.stn_lift.specs.PlanSource.{steps_of}
+use Rattle.stn_site.specs.Held.{Held}
+use Rattle.stn_command.specs.declared.queries.Outlook.TheVariants as outlook
+use Rattle.stn_command.specs.{declared.queries.Outlook.Outlook, Dispatch.Choice, Dispatch.done_or_not_chosen, Query.Foresees, Query.Says, Query.has_steps, Query.seen_choice, Query.foresee}
 use Rattle.stn_command.proofs.queries.foresee.Goals as goal
+use Rattle.std.proofs.Common.{ℕ}
 
-pub returns-in_err-append_rest-in-Rehearse : goal.returns-in_err-append_rest-in-Rehearse
-returns-in_err-append_rest-in-Rehearse g c =
-    let replica = c.args.replica.now in
-    let returned = err_from_is_err_and c.from_residual-in_err-append_rest-in-Rehearse.result c.from_residual-in_err-append_rest-in-Rehearse.ensures.1 in
-    rw (c.in-Rehearse.is, returned.1) (unrehearsed replica (done_or_others c.args.own.now replica.source replica.state) c.args.now c.in_err-append_rest-in-Rehearse.field-0.0 returned.0 returned.2
-    c.in_err-append_rest-in-Rehearse.ensures.refused (λ lack. c.in_err-append_rest-in-Rehearse.ensures.memory (ap Err lack)))
+foreseen : {A : Type 0} (held : Held) (outlook : Outlook) (now : ℤ) (choice : Choice) (result : Result (Vec ℕ A) Failure) → has_steps choice (steps_of held.source) ≡ true
+    → Foresees outlook now (done_or_not_chosen choice held.source held.state) held result → Says (foresee outlook now choice) held result
+foreseen held outlook now choice (Ok text) has (said, free) = (said, inr (has, free))
+foreseen held outlook now choice (Err failure) has (inl refused) = inl (inr (has, refused))
+foreseen held outlook.Next now choice (Err failure) has (inr lack) = inr (lack, inr (has, refl))
+foreseen held outlook.Ready now choice (Err failure) has (inr lack) = inr (lack, inr (has, refl))
+foreseen held outlook.Rehearse now choice (Err failure) has (inr lack) = inr (lack, has)
+
+pub returns-then-has_steps : goal.returns-then-has_steps
+returns-then-has_steps g c =
+    foreseen c.args.plan.now c.args.outlook c.args.now (seen_choice c.args.choice.now) c.of_chosen.result
+    (ap (has_steps (seen_choice c.args.choice.now)) (sym (c.steps.ensures.value ∙ ap steps_of c.base.ensures)) ∙ sym c.has_steps.ensures ∙ c.if-has_steps.true) c.of_chosen.ensures
+
+pub returns-else-has_steps : goal.returns-else-has_steps
+returns-else-has_steps g c =
+    inl (inl (ap (has_steps (seen_choice c.args.choice.now)) (sym (c.steps.ensures.value ∙ ap steps_of c.base.ensures)) ∙ sym c.has_steps.ensures ∙ c.if-has_steps.false, ap Some c.from.ensures))

@@ -8,7 +8,7 @@ use Rattle.stn_exec.proofs.Reports.{ready_said, same_counts}
 use Rattle.stn_exec.proofs.laws.ready_is_answered.Goals as goal
 
 pub returns-clause-text : goal.returns-clause-text
-returns-clause-text c = ready_said
+returns-clause-text c = ready_said c.chosen_all.ensures
 
 pub returns-clause-bytes : goal.returns-clause-bytes
 returns-clause-bytes c = λ now script other output last text last_text at there site others one two plan same p q.
@@ -17,5 +17,5 @@ returns-clause-bytes c = λ now script other output last text last_text at there
     script other at there site others one.there two.there plan same in
     c.one_ready_text.ensures there.start.source _ now text last_text
     (same_ready there.start.source _ _ (c.counts_same.ensures.live _ _ alike) now text
-    (subst (λ (source : PlanSource). IsReadyText source (content_at (world_at at) site) now text) plan (ready_said script output text at site now one p)))
-    (ready_said other last last_text there others now two q)
+    (subst (λ (source : PlanSource). IsReadyText source (content_at (world_at at) site) now text) plan (ready_said c.chosen_all.ensures script output text at site now one p)))
+    (ready_said c.chosen_all.ensures other last last_text there others now two q)

@@ -15,4 +15,4 @@ returns-in_err-print g c = λ world effect is.
 
 pub returns : goal.returns
 returns g c = λ world effect is.
-    answer_done world c.args.out.now.items c.print.new.out.items effect c.args.outcome c.in_ok-answer.answer c.in_ok-answer.was c.in_ok-print.ensures is
+    answer_done world c.args.out.now.items c.print.new.out.items effect c.args.outcome c.in_ok-answer.answer c.in_ok-answer.was c.in_ok-print.ensures.printed is

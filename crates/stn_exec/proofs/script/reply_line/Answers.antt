@@ -13,4 +13,4 @@ returns-in_ok-print-in-Err-Refused g c =
     let effect = line_effect c.args.number c.args.world.now (c.args.word.now ∷ words_of c.args.rest.now) in
     refused_replied c.do_line.new.world c.args.out.now.items c.do_line.new.out.items c.print.new.out.items effect c.in-Err-Refused.refusal
     (subst (λ (failure : Failure). IsDone c.do_line.new.world c.args.out.now.items c.do_line.new.out.items effect (Err failure)) c.in-Err-Refused.field-0-is c.in-Err-Refused.ensures)
-    c.in_ok-print-in-Err-Refused.ensures
+    c.in_ok-print-in-Err-Refused.ensures.printed

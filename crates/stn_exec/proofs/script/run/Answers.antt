@@ -1,10 +1,10 @@
-use Rattle.std.proofs.Common.{Err, ap, refl, subst}
+use Rattle.std.proofs.Common.{[], Err, ap, refl, subst}
 use Rattle.std.proofs.KnownBytes.{Keeps-refl}
 use Rattle.stn_device.specs.Counted.{counted_device, failure_count}
 use Rattle.stn_exec.specs.{Running.IsRun, Script.script_outcome}
 use Rattle.stn_exec.proofs.Scripts.{part-nil, IfSome-all}
 use Rattle.stn_site.proofs.Values.{ok_not_err}
-use Rattle.stn_exec.proofs.Runs.{counts_more, on_ok, ran_whole, part_written, count_kept}
+use Rattle.stn_exec.proofs.Runs.{counts_more, on_ok, ran_whole, part_written, some_part_written, count_kept}
 use Rattle.stn_exec.proofs.script.run.Goals as goal
 
 pub returns-in-Ok : goal.returns-in-Ok
@@ -28,6 +28,7 @@ returns-in-Ok g c =
       read_unwritten = λ failed. absurd ((subst (IsRun (script_outcome script) old new before after) failed run).1);
       bound_unwritten = λ failed. absurd ((subst (IsRun (script_outcome script) old new before after) failed run).1);
       part = part_written input rest old new before after script c.in-Ok.ensures.bytes result c.in-Ok.ensures.end run;
+      some_part = some_part_written input rest old new before after script c.in-Ok.ensures.bytes result run;
       reader_kept = λ _. c.in-Ok.ensures.kept ok_not_err;
       writer_kept = λ other. count_kept input rest old new before after script c.in-Ok.ensures.bytes result other run;
       used = c.read_whole.ensures.used;
@@ -43,6 +44,7 @@ returns-in-Err-Read g c = record {
   read_unwritten = λ _. Keeps-refl _;
   bound_unwritten = λ _. Keeps-refl _;
   part = IfSome-all _ _ (λ script. part-nil _ (script_outcome script).replies);
+  some_part = ([], part-nil _ (script_outcome []).replies);
   reader_kept = λ other. absurd (other refl);
   writer_kept = λ _. refl;
   used = c.read_whole.ensures.used;
@@ -58,6 +60,7 @@ returns-in-Err-Bound g c = record {
   read_unwritten = λ _. Keeps-refl _;
   bound_unwritten = λ _. Keeps-refl _;
   part = IfSome-all _ _ (λ script. part-nil _ (script_outcome script).replies);
+  some_part = ([], part-nil _ (script_outcome []).replies);
   reader_kept = λ _. let is = c.in-Err-Bound.field-0-is in c.in-Err-Bound.ensures.kept (λ other. cc);
   writer_kept = λ _. refl;
   used = c.read_whole.ensures.used;
@@ -73,6 +76,7 @@ returns-in-Err-Memory g c = record {
   read_unwritten = λ _. Keeps-refl _;
   bound_unwritten = λ _. Keeps-refl _;
   part = IfSome-all _ _ (λ script. part-nil _ (script_outcome script).replies);
+  some_part = ([], part-nil _ (script_outcome []).replies);
   reader_kept = λ _. let is = c.in-Err-Memory.field-0-is in c.in-Err-Memory.ensures.kept (λ other. cc);
   writer_kept = λ _. refl;
   used = c.read_whole.ensures.used;

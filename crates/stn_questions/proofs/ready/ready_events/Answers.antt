@@ -1,48 +1,63 @@
-use Rattle.std.proofs.Common.{◌≡◌, ◌+◌, ◌<◌, [], ◌∷◌, ◌++◌, length, cond, eqb, ap, subst, ◌∙◌, arith}
-use Rattle.std.proofs.lemmas.List.{Elements.All-push, Sorted.All-permutation, Sorted.sum_by-IsPermutation}
-use Rattle.stn_net.specs.Windows.Dispatch.{AreReadyTimes}
-use Rattle.stn_site.proofs.Printing.{if_some}
-use Rattle.stn_net.proofs.Readiness.{left_within}
-use Rattle.stn_questions.specs.declared.ready_event.ReadyEvent.{ReadyEvent}
-use Rattle.stn_questions.proofs.{ReadyLists.HasTimes, ReadyLists.pushed_other, ReadyLists.each_pushed, ReadyLists.each_kept, ReadyLists.sorted_in_order, ready.ready_events.Goals.in-Some+in_ok-push, ready.ready_events.Goals.in_default}
+use Rattle.std.proofs.Common.{◌≡◌, ◌+◌, ◌<ℤ◌, ◌≤ℤ◌, length, sym, ap, subst, ◌∙◌, arith}
+use Rattle.std.proofs.{lemmas.Int.ints, lemmas.Result.IfOk-weaker}
+use Rattle.stn_net.specs.{Schedule.times_of}
+use Rattle.stn_net.specs.Windows.{Dispatch.CanWaitUntil, Leading.IsLeastLatest, Leading.AreReadyAt, Soonest.AreEarliest, Soonest.AreLatest, Soonest.AreSoonest}
+use Rattle.stn_net.proofs.Ends.{none_past_waits}
+use Rattle.stn_lift.specs.PlanSource.{base_bounds, events_of, IsSoundSource}
+use Rattle.stn_site.specs.Bounds.{all_bounds}
+use Rattle.stn_questions.specs.Ready.{AreReadyEvents}
+use Rattle.stn_questions.proofs.Foretold.{all_in, all_named, found_earliest, found_latest, found_soonest, none_ready, none_after_last, there_unless}
 use Rattle.stn_questions.proofs.ready.ready_events.Goals as goal
 
-pub loop-before-preserved : goal.loop-before-preserved
-loop-before-preserved g c =
-    let before = c.loop-before.before in
-    let old = c.loop-before.ready.items in
-    let done = c.args.done.now in
-    let now = c.args.now in
-    let is : c.unwrap-event.result ≡ before + 1 = if_some c.new.result c.unwrap-event.result (λ event. event ≡ before + 1) c.unwrap-event.ensures c.new.ensures.value in
-    elim c.match-ready_times.branch [
-      | in-Some+in_ok-push w ↦
-          let one : ReadyEvent = record { first = w.in-Some.times.0; event = c.unwrap-event.result; last = w.in-Some.times.1 } in
-          let new : c.match-ready_times.ready.items ≡ old ++ one ∷ [] = ap (λ v. v.items) w.ready-is ∙ w.in_ok-push.ensures.items in
-          rw new (record {
-            times = λ bounds exact. All-push (HasTimes bounds done now) old one (c.loop-before.invariant.times bounds exact) (w.in-Some.ensures bounds exact);
-            once = λ bounds exact. each_pushed bounds done now old one before is (c.loop-before.invariant.none before (omega arith)) (c.loop-before.invariant.once bounds exact);
-            none = λ event after. pushed_other old one (event + 1) (λ same. absurd (omega arith)) ∙ c.loop-before.invariant.none event (omega arith);
-          })
-      | in_default w ↦
-          let new : c.match-ready_times.ready.items ≡ old = ap (λ v. v.items) w.ready-is in
-          rw new (record {
-            times = c.loop-before.invariant.times;
-            once = λ bounds exact.
-                each_kept bounds done now old before c.unwrap-event.result is
-                (subst (AreReadyTimes bounds done now c.unwrap-event.result) w.in_default.is (c.ready_times.ensures bounds exact)) (c.loop-before.invariant.once bounds exact);
-            none = λ event after. c.loop-before.invariant.none event (omega arith);
-          })
-    ]
+pub returns-then-lt : goal.returns-then-lt
+returns-then-lt g c =
+    let source = c.args.plan.now.source in
+    let state = c.args.plan.now.state in
+    let own = c.bounds-bounds.ensures.value ∙ ap base_bounds c.base-2.ensures in
+    let events = c.events-events.ensures.value ∙ ap events_of c.base.ensures in
+    let all = all_in source state c.bounds-bounds.result.now c.deref-2.result.now c.in_ok-live.live.items own c.deref-2.ensures.value c.in_ok-live.ensures.value in
+    let last : (length c.unwrap-last_times.result.items ≡ events_of source + 1) × AreLatest (all_bounds source state) (events_of source) (times_of c.unwrap-last_times.result.items) =
+    found_latest _ _ _ _ c.in_ok-latest.field-0 c.unwrap-last_times.result all events c.unwrap-last_times.ensures c.in_ok-latest.ensures in
+    let least : IsLeastLatest (times_of c.unwrap-last_times.result.items) c.args.done.now c.in-Some.last = rw c.deref-3.ensures.value at c.in-Some.ensures in
+    let past : c.in-Some.last <ℤ c.args.now = (let lt = sym c.lt.ensures ∙ c.if-lt.true in grind (arith, ints)) in
+    subst (AreReadyEvents (all_bounds source state) c.args.done.now c.args.now) (sym c.new-then-lt.ensures.items)
+    (none_ready (all_bounds source state) c.args.done.now c.args.now
+    (none_after_last (all_bounds source state) (events_of source) c.args.done.now (times_of c.unwrap-last_times.result.items) c.args.now c.in-Some.last last.1 c.requires.one_each least past))
+
+pub unwrap-times-requires : goal.unwrap-times-requires
+unwrap-times-requires g c =
+    let source = c.args.plan.now.source in
+    let state = c.args.plan.now.state in
+    let own = c.bounds-bounds.ensures.value ∙ ap base_bounds c.base-2.ensures in
+    let events = c.events-events.ensures.value ∙ ap events_of c.base.ensures in
+    let all = all_in source state c.bounds-bounds.result.now c.deref-2.result.now c.in_ok-live.live.items own c.deref-2.ensures.value c.in_ok-live.ensures.value in
+    let whole = all_in source state c.bounds-bounds.result.now c.deref-4.result.now c.in_ok-live.live.items own c.deref-4.ensures.value c.in_ok-live.ensures.value in
+    let last : (length c.unwrap-last_times.result.items ≡ events_of source + 1) × AreLatest (all_bounds source state) (events_of source) (times_of c.unwrap-last_times.result.items) =
+    found_latest _ _ _ _ c.in_ok-latest.field-0 c.unwrap-last_times.result all events c.unwrap-last_times.ensures c.in_ok-latest.ensures in
+    let least : IsLeastLatest (times_of c.unwrap-last_times.result.items) c.args.done.now c.in-Some.last = rw c.deref-3.ensures.value at c.in-Some.ensures in
+    let named = all_named source state (subst IsSoundSource c.base-2.ensures c.bounds-bounds.ensures.sound) c.in_ok-live.ensures.named in
+    let waits = none_past_waits (all_bounds source state) (events_of source) (times_of c.unwrap-last_times.result.items) c.args.done.now last.1 c.requires.one_each c.in-Some.last named least.least in
+    there_unless c.in_ok-soonest.field-0 _ _ c.in_ok-soonest.ensures (λ none. none (subst (λ bounds. CanWaitUntil bounds c.args.done.now c.in-Some.last) (sym whole) waits))
 
 pub returns : goal.returns
-returns g c = λ bounds exact.
-    let before = c.loop-before.ready.items in
-    let after = c.sort_unstable.new.self.items in
-    record {
-      times = All-permutation (HasTimes bounds c.args.done.now c.args.now) before after c.sort_unstable.ensures.permutation (c.loop-before.invariant.times bounds exact);
-      once = λ event time later able.
-          let within : event < length c.args.done.now = left_within c.args.done.now event able.left in
-          sum_by-IsPermutation (λ (one : ReadyEvent). cond (eqb one.event event) 1 0) before after c.sort_unstable.ensures.permutation
-          ∙ c.loop-before.invariant.once bounds exact event time (omega (arith, c.requires, c.loop-before-test.false, c.events-before-end.ensures.value)) later able;
-      order = sorted_in_order after c.sort_unstable.ensures.sorted;
-    }
+returns g c =
+    let source = c.args.plan.now.source in
+    let state = c.args.plan.now.state in
+    let own = c.bounds-bounds.ensures.value ∙ ap base_bounds c.base-2.ensures in
+    let events = c.events-events.ensures.value ∙ ap events_of c.base.ensures in
+    let front = all_in source state c.bounds-bounds.result.now c.deref.result.now c.in_ok-live.live.items own c.deref.ensures.value c.in_ok-live.ensures.value in
+    let middle = all_in source state c.bounds-bounds.result.now c.deref-2.result.now c.in_ok-live.live.items own c.deref-2.ensures.value c.in_ok-live.ensures.value in
+    let whole = all_in source state c.bounds-bounds.result.now c.deref-4.result.now c.in_ok-live.live.items own c.deref-4.ensures.value c.in_ok-live.ensures.value in
+    let first : (length c.unwrap-first_times.result.items ≡ events_of source + 1) × AreEarliest (all_bounds source state) (events_of source) (times_of c.unwrap-first_times.result.items) =
+    found_earliest _ _ _ _ c.in_ok-earliest.field-0 c.unwrap-first_times.result front events c.unwrap-first_times.ensures c.in_ok-earliest.ensures in
+    let last : (length c.unwrap-last_times.result.items ≡ events_of source + 1) × AreLatest (all_bounds source state) (events_of source) (times_of c.unwrap-last_times.result.items) =
+    found_latest _ _ _ _ c.in_ok-latest.field-0 c.unwrap-last_times.result middle events c.unwrap-last_times.ensures c.in_ok-latest.ensures in
+    let soon : (length c.unwrap-times.result.items ≡ events_of source + 1) × AreSoonest (all_bounds source state) c.args.done.now c.in-Some.last (times_of c.unwrap-times.result.items) =
+    found_soonest _ _ _ _ c.in_ok-soonest.field-0 c.unwrap-times.result whole events c.unwrap-times.ensures c.args.done.now c.in-Some.last c.in_ok-soonest.ensures in
+    let least : IsLeastLatest (times_of c.unwrap-last_times.result.items) c.args.done.now c.in-Some.last = rw c.deref-3.ensures.value at c.in-Some.ensures in
+    let named = all_named source state (subst IsSoundSource c.base-2.ensures c.bounds-bounds.ensures.sound) c.in_ok-live.ensures.named in
+    let at : AreReadyAt (all_bounds source state) (events_of source) c.args.done.now (times_of c.unwrap-first_times.result.items) (times_of c.unwrap-last_times.result.items) (times_of c.unwrap-times.result.items) c.in-Some.last =
+    record { named = named; one_each = c.requires.one_each; earliest = first.1; latest = last.1; least = least; soonest = soon.1 } in
+    let in_time : c.args.now ≤ℤ c.in-Some.last = (let lt = sym c.lt.ensures ∙ c.if-lt.false in grind (arith, ints)) in
+    IfOk-weaker c.ready_until.result _ _ (λ ready told.
+    told (all_bounds source state) (events_of source) (times_of c.unwrap-last_times.result.items) (rw (c.deref-5.ensures.value, c.deref-6.ensures.value) at) in_time) c.ready_until.ensures

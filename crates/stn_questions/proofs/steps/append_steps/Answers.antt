@@ -1,15 +1,18 @@
-use Rattle.std.proofs.Common.{◌≡◌, ◌≤◌, ◌++◌, length, sym, ap, subst, ◌∙◌, arith}
+use Rattle.std.proofs.Common.{◌≡◌, ◌≤◌, ◌++◌, Ok, length, sym, ap, subst, ◌∙◌, arith}
 use Rattle.std.proofs.lemmas.Result.{IfOk-equal}
 use Rattle.stn_lift.specs.BaseBounds.{duration_of}
-use Rattle.stn_lift.specs.PlanSource.{bare, files, plan_source, activities_of}
+use Rattle.stn_lift.specs.Plan.Steps.{plan_of}
+use Rattle.stn_lift.specs.PlanSource.{bare, files, plan_source, activities_of, IsSoundSource}
 use Rattle.stn_questions.specs.{Durations.least_of, Steps.planned_steps, Steps.step_lines, Steps.steps_text}
-use Rattle.stn_questions.proofs.Listing.{step_lines-same}
+use Rattle.stn_questions.proofs.{Lasting.plan_was_read, Listing.step_lines-same}
 use Rattle.stn_questions.proofs.steps.append_steps.Goals as goal
 
 pub append_planned-requires : goal.append_planned-requires
 append_planned-requires g c =
     let is : c.args.base.now ≡ files c.in-Files.field-0.items c.in-Files.plan.items = sym c.source.ensures.source ∙ ap plan_source c.in-Files.is in
     record {
+      read = subst (λ text. plan_of text ≡ Ok (planned_steps text)) (sym c.deref.ensures.value)
+          (plan_was_read c.in-Files.field-0.items c.in-Files.plan.items (subst IsSoundSource is c.source.ensures.sound).based);
       one_each = subst (λ text. length (planned_steps text) ≤ length c.durations_of.result.now) (sym c.deref.ensures.value)
           (c.durations_of.ensures c.in-Files.field-0.items c.in-Files.plan.items is).one_each;
     }

@@ -1,7 +1,7 @@
 use Rattle.std.proofs.Common.{◌++◌, ◌∙◌, ap}
 use Rattle.std.proofs.lemmas.Result.{IfOk-weaker}
 use Rattle.stn_site.proofs.Printing.{appended_ok, kept_err}
-use Rattle.stn_questions.proofs.ready.print_ready_among.Goals as goal
+use Rattle.stn_questions.proofs.ready.print_ready_with.Goals as goal
 
 pub returns : goal.returns
 returns g c =

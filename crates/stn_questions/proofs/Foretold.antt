@@ -1,0 +1,160 @@
+-- What the searches of a plan's bounds find of the events that are left.
+use Rattle.std.proofs.Common.{◌≡◌, inl, inr, ℕ, ℤ, ◌+◌, ◌<◌, ◌≤◌, ◌≤ℤ◌, ◌<ℤ◌, Bool, true, false, List, [], ◌∷◌, ◌++◌, length, Option, Some, None, refl, sym, ap, subst, ◌∙◌, arith}
+use Rattle.std.specs.Prelude.{Vec, All, Result, Ok, Err, IfOk, MatchOption, is_some}
+use Rattle.std.proofs.lemmas.Option.{MatchOption-at_some}
+use Rattle.std.specs.{Prelude.int_le}
+use Rattle.std.proofs.{lemmas.Int.ints, lemmas.Int.by_lt_z, lemmas.Bool.cases_lt, lemmas.List.Elements.All-append, lemmas.List.Elements.All-nil}
+use Rattle.stn_net.specs.{Event.most_events, Difference.Difference, Difference.NamesEvents, Schedule.HasSchedule, Schedule.times_of}
+use Rattle.stn_net.specs.Windows.{Dispatch.IsLeft, Dispatch.IsReady, Dispatch.AreReadyTimes, Dispatch.CanWaitUntil, Leading.IsLeastLatest, Soonest.AreEarliest, Soonest.AreLatest, Soonest.AreSoonest}
+use Rattle.stn_net.proofs.Readiness.{left_within}
+use Rattle.stn_lift.specs.PlanSource.{PlanSource, base_bounds, events_of, IsSoundSource}
+use Rattle.stn_records.specs.Content.{Content}
+use Rattle.stn_site.specs.{Bounds.all_bounds, Bounds.live_bounds}
+use Rattle.stn_questions.specs.{declared.ready_event.ReadyEvent.ReadyEvent, Foresight.AreSoonestOf, Foresight.lesser_of, Ready.AreReadyEvents}
+use Rattle.stn_questions.proofs.ReadyLists.{counted, pushed_other, pushed_same}
+
+-- the soonest times by the bounds that were searched are those of the plan's
+pub soonest_found : {A E : Type 0} (bounds all : List Difference) (events count : ℕ) (done : List Bool) (now : ℤ) (result : Result (Option (Vec ℤ A)) E) → bounds ≡ all → events ≡ count → events ≤ most_events
+    → IfOk result (λ found. MatchOption found (¬ CanWaitUntil bounds done now) (λ times. (length times.items ≡ events + 1) × AreSoonest bounds done now (times_of times.items)))
+    → IfOk result (λ found. MatchOption found (¬ CanWaitUntil all done now) (λ times. AreSoonestOf all count done now times.items))
+soonest_found bounds all events count done now (Ok None) same many few none = subst (λ bs. ¬ CanWaitUntil bs done now) same none
+soonest_found bounds all events count done now (Ok (Some times)) same many few found =
+    record { long = found.0 ∙ ap (λ n. n + 1) many; few = omega (arith, many, few); soonest = subst (λ bs. AreSoonest bs done now (times_of times.items)) same found.1 }
+soonest_found bounds all events count done now (Err fault) same many few found = tt
+
+-- what is there where the other case can't be
+pub there_unless : {X : Type 0} (found : Option X) (None_holds : Type 0) (Some_holds : X → Type 0) → MatchOption found None_holds Some_holds → ¬ None_holds → is_some found ≡ true
+there_unless None none some holds never = absurd (never holds)
+there_unless (Some x) none some holds never = refl
+
+-- all bounds name the plan's events
+pub all_named : (source : PlanSource) (state : Content) → IsSoundSource source → All (NamesEvents (events_of source)) (live_bounds state)
+    → All (NamesEvents (events_of source)) (all_bounds source state)
+all_named source state sound live = All-append (NamesEvents (events_of source)) (base_bounds source) (live_bounds state) sound.named live
+
+-- where nothing is ready from now on, no event stands in the list
+pub none_ready : (bounds : List Difference) (done : List Bool) (now : ℤ) → ((event : ℕ) (time : ℤ) → now ≤ℤ time → ¬ IsReady bounds done event time) → AreReadyEvents bounds done now []
+none_ready bounds done now none = record {
+  times = All-nil (λ one. AreReadyTimes bounds done now one.event (Some (one.first, one.last)));
+  once = λ event time later ready. absurd (none event time later ready);
+  order = λ i j d before within. absurd (omega arith);
+}
+
+-- after the least latest time of the events that are left nothing is
+pub none_after_last : (bounds : List Difference) (events : ℕ) (done : List Bool) (latest : ℕ → ℤ) (now last : ℤ) → AreLatest bounds events latest → length done ≡ events + 1
+    → IsLeastLatest latest done last → last <ℤ now → (event : ℕ) (time : ℤ) → now ≤ℤ time → ¬ IsReady bounds done event time
+none_after_last bounds events done latest now last are one_each least past event time later ready =
+    let (times, schedule, at, waits) = ready.possible in
+    let (late, left, at_last) = least.at in
+    let before = waits late left in
+    let most = are.most times schedule late (omega (arith, one_each, left_within done late left)) in
+    omega (arith, ints)
+
+-- the least latest time of the events with numbers below the limit that are left
+pub record IsLeastBelow (latest : ℕ → ℤ) (done : List Bool) (limit : ℕ) (time : ℤ) : Type 0 where
+  pub at : (event : ℕ) × IsLeft done event × (latest event ≡ time)
+  pub least : (event : ℕ) → event < limit → IsLeft done event → time ≤ℤ latest event
+
+-- the same, where there is such an event
+abbrev pub IsLeastSoFar : (ℕ → ℤ) → List Bool → ℕ → Option ℤ → Type 0
+IsLeastSoFar latest done limit None = (event : ℕ) → event < limit → ¬ IsLeft done event
+IsLeastSoFar latest done limit (Some time) = IsLeastBelow latest done limit time
+
+-- one more event that is left
+pub least_more : (latest : ℕ → ℤ) (done : List Bool) (number event : ℕ) (time : ℤ) (least : Option ℤ) → event ≡ number → IsLeft done event → time ≡ latest number
+    → IsLeastSoFar latest done number least → IsLeastBelow latest done (number + 1) (lesser_of least time)
+least_more latest done number event time None is left at none = record {
+  at = (number, subst (IsLeft done) is left, sym at);
+  least = λ other below is_left. elim (cases_lt other number) [
+    | inl before ↦ absurd (none other before is_left)
+    | inr here ↦ (let same : number ≡ other = omega arith in subst (λ n. time ≤ℤ latest n) same (omega (arith, ints)))
+  ];
+}
+least_more latest done number event time (Some old) is left at so_far = by_lt_z time old
+    (λ sooner.
+    let test : int_le old time ≡ false = grind (arith, ints) in
+    rw test (record {
+      at = (number, subst (IsLeft done) is left, sym at);
+      least = λ other below is_left. elim (cases_lt other number) [
+        | inl before ↦ (let later = so_far.least other before is_left in omega (arith, ints))
+        | inr here ↦ (let same : number ≡ other = omega arith in subst (λ n. time ≤ℤ latest n) same (omega (arith, ints)))
+      ];
+    }))
+    (λ later.
+    let test : int_le old time ≡ true = grind (arith, ints) in
+    rw test (record {
+      at = so_far.at;
+      least = λ other below is_left. elim (cases_lt other number) [
+        | inl before ↦ so_far.least other before is_left
+        | inr here ↦ (let same : number ≡ other = omega arith in subst (λ n. old ≤ℤ latest n) same (omega (arith, ints)))
+      ];
+    }))
+
+-- one more that is not
+pub least_kept : (latest : ℕ → ℤ) (done : List Bool) (number event : ℕ) (least : Option ℤ) → event ≡ number → ¬ IsLeft done event → IsLeastSoFar latest done number least
+    → IsLeastSoFar latest done (number + 1) least
+least_kept latest done number event None is not_left none = λ other below left. elim (cases_lt other number) [
+  | inl before ↦ none other before left
+  | inr here ↦ (let same : other ≡ event = omega arith in not_left (subst (IsLeft done) same left))
+]
+least_kept latest done number event (Some time) is not_left so_far = record {
+  at = so_far.at;
+  least = λ other below left. elim (cases_lt other number) [
+    | inl before ↦ so_far.least other before left
+    | inr here ↦ (let same : other ≡ event = omega arith in absurd (not_left (subst (IsLeft done) same left)))
+  ];
+}
+
+-- that of all events
+pub least_of_all : (latest : ℕ → ℤ) (done : List Bool) (limit : ℕ) (least : Option ℤ) → length done ≤ limit → IsLeastSoFar latest done limit least
+    → MatchOption least ((event : ℕ) → ¬ IsLeft done event) (IsLeastLatest latest done)
+least_of_all latest done limit None all none = λ event left. none event (omega (arith, all, left_within done event left)) left
+least_of_all latest done limit (Some time) all so_far = record {
+  at = so_far.at;
+  least = λ event left. so_far.least event (omega (arith, all, left_within done event left)) left;
+}
+
+-- each of the events with numbers below the limit that may run from now on stands once in the list
+abbrev pub HasEachBelow : List Difference → List Bool → ℤ → ℕ → List ReadyEvent → Type 0
+HasEachBelow bounds done now limit ready = (event : ℕ) (time : ℤ) → event < limit → now ≤ℤ time → IsReady bounds done event time → counted ready event ≡ 1
+
+-- one more that may run
+pub ready_pushed : (bounds : List Difference) (done : List Bool) (now : ℤ) (ready : List ReadyEvent) (one : ReadyEvent) (number : ℕ) → one.event ≡ number → counted ready number ≡ 0
+    → HasEachBelow bounds done now number ready → HasEachBelow bounds done now (number + 1) (ready ++ one ∷ [])
+ready_pushed bounds done now ready one number is none each event time below later able = elim (cases_lt event number) [
+  | inl before ↦ pushed_other ready one event (λ same. absurd (omega arith)) ∙ each event time before later able
+  | inr here ↦ (let same : event ≡ number = omega arith in pushed_same ready one event (is ∙ sym same) ∙ ap (λ n. counted ready n + 1) same ∙ ap (λ n. n + 1) none)
+]
+
+-- one more that may not
+pub ready_kept : (bounds : List Difference) (done : List Bool) (now : ℤ) (ready : List ReadyEvent) (number event : ℕ) → event ≡ number → AreReadyTimes bounds done now event None
+    → HasEachBelow bounds done now number ready → HasEachBelow bounds done now (number + 1) ready
+ready_kept bounds done now ready number event is never each other time below later able = elim (cases_lt other number) [
+  | inl before ↦ each other time before later able
+  | inr here ↦ (let same : other ≡ event = omega arith in absurd (never time later (subst (λ n. IsReady bounds done n time) same able)))
+]
+
+-- the times by the bounds that were searched are those of the plan's bounds
+module _ {A : Type 0} (bounds all : List Difference) (events count : ℕ) (found : Option (Vec ℤ A)) (times : Vec ℤ A) (same : bounds ≡ all) (many : events ≡ count) (is : found ≡ Some times) where
+  pub found_earliest : MatchOption found (¬ HasSchedule bounds) (λ found_times. (length found_times.items ≡ events + 1) × AreEarliest bounds events (times_of found_times.items))
+      → (length times.items ≡ count + 1) × AreEarliest all count (times_of times.items)
+  found_earliest told =
+      let (long, are) = MatchOption-at_some (¬ HasSchedule bounds) (λ found_times. (length found_times.items ≡ events + 1) × AreEarliest bounds events (times_of found_times.items)) times is told in
+      (long ∙ ap (λ n. n + 1) many, subst (λ n. AreEarliest all n (times_of times.items)) many (subst (λ bs. AreEarliest bs events (times_of times.items)) same are))
+
+  pub found_latest : MatchOption found (¬ HasSchedule bounds) (λ found_times. (length found_times.items ≡ events + 1) × AreLatest bounds events (times_of found_times.items))
+      → (length times.items ≡ count + 1) × AreLatest all count (times_of times.items)
+  found_latest told =
+      let (long, are) = MatchOption-at_some (¬ HasSchedule bounds) (λ found_times. (length found_times.items ≡ events + 1) × AreLatest bounds events (times_of found_times.items)) times is told in
+      (long ∙ ap (λ n. n + 1) many, subst (λ n. AreLatest all n (times_of times.items)) many (subst (λ bs. AreLatest bs events (times_of times.items)) same are))
+
+  pub found_soonest : (done : List Bool) (now : ℤ)
+      → MatchOption found (¬ CanWaitUntil bounds done now) (λ found_times. (length found_times.items ≡ events + 1) × AreSoonest bounds done now (times_of found_times.items))
+      → (length times.items ≡ count + 1) × AreSoonest all done now (times_of times.items)
+  found_soonest done now told =
+      let (long, are) = MatchOption-at_some (¬ CanWaitUntil bounds done now) (λ found_times. (length found_times.items ≡ events + 1) × AreSoonest bounds done now (times_of found_times.items)) times is told in
+      (long ∙ ap (λ n. n + 1) many, subst (λ bs. AreSoonest bs done now (times_of times.items)) same are)
+
+-- bounds and live records' bounds, one after the other
+pub all_in : (source : PlanSource) (state : Content) (front back live : List Difference) → front ≡ base_bounds source → back ≡ live → live ≡ live_bounds state → front ++ back ≡ all_bounds source state
+all_in source state front back live own behind is = ap (λ xs. xs ++ back) own ∙ ap (λ xs. base_bounds source ++ xs) (behind ∙ is)
