@@ -1,11 +1,20 @@
 -- The lines of a shell: their words, how they are read, and how they come one after the other.
-use Rattle.std.proofs.Common.{Bor, map, Bool, true, false, ◌≡◌, ◌∙◌, ap, sym, subst, refl, ℕ, List, [], ◌∷◌, ◌++◌, append_assoc}
+use Rattle.std.proofs.Common.{Bor, map, Bool, true, false, ◌≡◌, ◌∙◌, ap, sym, subst, refl, ℕ, ◌+◌, List, [], ◌∷◌, ◌++◌, append_assoc}
 use Rattle.std.specs.Prelude.{IsUtf8, if◌then◌else◌}
 use Rattle.std.specs.Int.{from_bool}
 use Rattle.std.specs.List.{AllByRecursion}
-use Rattle.stn_line.specs.declared.words.SiteLog.{SiteLog}
-use Rattle.stn_refusal.specs.declared.failure.Fault.{Fault}
-use Rattle.stn_shell.specs.Coprocess.{Standing, AreTexts, Turns, DoesLines}
+use Rattle.std.specs.Prelude.{IsErrOf, ◌≢◌, ◌-◌, ◌^◌, min, None, Some, Ok, Err, Vec, Result, Option}
+use Rattle.stn_device.specs.Failures.{read_failure}
+use Rattle.stn_device.specs.declared.whole.ReadFault.{ReadFault}
+use Rattle.stn_device.specs.declared.whole.ReadFault.TheVariants.{Read, Bound, Memory}
+use Rattle.stn_effects.specs.Effects.{Effect, Then, stopped, went, Gives, seen}
+use Rattle.stn_effects.specs.Printing.{Device}
+use Rattle.stn_refusal.specs.declared.failure.Failure.{Failure}
+use Rattle.stn_shell.specs.Carried.{Succeeds, Answers, Does}
+use Rattle.stn_shell.specs.Coprocess.{Standing, AreTexts, StopsReading, ReadsLine, further}
+use Rattle.std.specs.Io.KnownBytes.{IsAtEnd}
+use Rattle.stn_shell.specs.Lines.{IsLineRead, Takes}
+use Rattle.stn_shell.specs.Outside.{Outside}
 
 -- one text more
 pub texts_more : (words : List (List ℕ)) (word : List ℕ) → AllByRecursion IsUtf8 words → IsUtf8 word → AllByRecursion IsUtf8 (words ++ word ∷ [])
@@ -16,13 +25,6 @@ texts_more (first ∷ words) word texts text = (texts.0, texts_more words word t
 pub no_texts : (words : List (List ℕ)) (word : List ℕ) (later : List (List ℕ)) → ¬ (IsUtf8 word) → ¬ (AllByRecursion IsUtf8 (words ++ word ∷ later))
 no_texts [] word later none all = none all.0
 no_texts (first ∷ words) word later none all = no_texts words word later none all.1
-
--- one line more was done
-pub does_more : (Fails : Fault → Type 0) (log : SiteLog) (lines : List (List ℕ)) (line : List ℕ) (first next last : Standing)
-    → DoesLines Fails log lines first next → Turns Fails log line next last → DoesLines Fails log (lines ++ line ∷ []) first last
-does_more Fails log [] line first next last done turn = (last, subst (λ one. Turns Fails log line one last) done turn, refl)
-does_more Fails log (before ∷ lines) line first next last done turn =
-    (done.0, done.1, does_more Fails log lines line done.0 next last done.2 turn)
 
 -- the status of a shell, by whether a line was refused
 pub refused_status : (refused : Bool) (status : ℕ) → status ≡ from_bool refused → status ≡ (if refused then 1 else 0)
@@ -45,3 +47,27 @@ one_further before words pushed word cut all rest later texts are text split nex
   ap (map (λ one. one.now)) push ∙ now_more words word ∙ ap (λ front. front ++ word.now ∷ []) read
       ∙ append_assoc (map (λ one. one.now) before) texts (word.now ∷ []) ∙ ap (λ last. map (λ one. one.now) before ++ (texts ++ last ∷ [])) is,
 )
+
+-- a line was not read to its end
+pub reading_stopped : {A : Type 0} (unread rest : Device) (room left : ℕ) (fault : ReadFault) → IsLineRead {A = A} unread.bytes rest.bytes room left (Err fault)
+    → (IsErrOf (let none : Result (Option (Vec ℕ A)) ReadFault = Err fault in none) Read → rest.failures ≡ min (unread.failures + 1) (2 ^ 64 - 1))
+    → ((let none : Result (Option (Vec ℕ A)) ReadFault = Err fault in none) ≢ Err Read → rest.failures ≡ unread.failures)
+    → StopsReading unread rest room (read_failure fault)
+reading_stopped unread rest room left Read is fails keeps = (is.0, is.1, is.2.0, fails refl)
+reading_stopped unread rest room left Bound is fails keeps = (is.0, is.1, is.2, is.3, is.4, keeps (λ e. cc))
+reading_stopped unread rest room left Memory is fails keeps = (is.0, is.1, is.2.0, keeps (λ e. cc))
+
+-- what was done has the status 0
+pub succeeded : (Does : Effect Outside (Unit {0})) (old new : Outside) (done : Result (Unit {0}) Failure) (told : Result ℕ Failure) → told ≡ seen (λ _. 0) done
+    → Does old new done → Succeeds Does old new told
+succeeded Does old new (Ok done) told is does = went done new does (refl, is)
+succeeded Does old new (Err failure) told is does = stopped failure does is
+
+-- the next line, and the end
+pub one_read : {A : Type 0} (old : Standing) (unread : Device) (room : ℕ) (line : Vec ℕ A) → IsLineRead {A = A} old.around.unread.bytes unread.bytes old.room room (Ok (Some line))
+    → unread.failures ≡ old.around.unread.failures → ReadsLine old (further old unread (old.lines + 1) room) (Ok (Some line.items))
+one_read old unread room line is kept = (is.0, unread, room, is.1, is.2, kept, refl)
+
+pub none_read : (old : Standing) (unread : Device) (room : ℕ) → IsAtEnd unread.bytes × Takes old.around.unread.bytes unread.bytes old.room room []
+    → unread.failures ≡ old.around.unread.failures → ReadsLine old (further old unread old.lines room) (Ok None)
+none_read old unread room is kept = (unread, room, is.0, is.1, kept, refl)

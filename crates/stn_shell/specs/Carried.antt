@@ -1,27 +1,30 @@
--- What a command line did and printed, over a store of logs and texts: how it came to its end, or why it stopped.
-use Rattle.std.specs.Prelude.{◌≡◌, ◌⊎◌, ℕ, ◌<◌, ◌==◌, if◌then◌else◌, List, [], ◌∷◌, ◌++◌, length, codes, Option, Some, IfSome}
+-- What each command line does, over a store of logs and texts, and its status.
+use Rattle.std.specs.Prelude.{◌≡◌, ℕ, ◌<◌, ◌==◌, if◌then◌else◌, List, [], ◌∷◌, ◌++◌, length, codes, IfSome, Result, Ok, Err, ⊤}
 use Rattle.std.specs.Io.KnownBytes.{Consumes, IsAtEnd, Keeps}
 use Rattle.stn_device.specs.Bytes.{most_bytes}
+use Rattle.stn_effects.specs.Effects.{Effect, Then, Finds, Gives}
+use Rattle.stn_effects.specs.Printing.{Device, Writes}
 use Rattle.stn_records.specs.Content.{Content}
 use Rattle.stn_site.specs.Held.{Held}
 use Rattle.stn_exec.specs.Script.{script_outcome}
 use Rattle.stn_exec.specs.Output.{WritesOutput, WritesOutputPart, CountsRefusals}
-use Rattle.stn_shell.specs.Commands.{IsAnswered}
-use Rattle.stn_shell.specs.Connections.{Serves, StopsServing, Sends, StopsSending}
-use Rattle.stn_shell.specs.Peer.{strangers}
-use Rattle.stn_shell.specs.Printing.{Device, Prints, IsUnprinted}
-use Rattle.stn_shell.specs.Refusals.{IsRefusalOf}
-use Rattle.stn_store.specs.Store.{Entry, Opens, IsUnopened, IsLack}
+use Rattle.stn_logs.specs.Commands.{DoesLine}
+use Rattle.stn_exchanges.specs.Connections.{Serves, StopsServing, Sends, StopsSending}
+use Rattle.stn_exchanges.specs.Peer.{strangers}
+use Rattle.stn_shell.specs.Coprocess.{RunsShell}
+use Rattle.stn_shell.specs.Outside.{Outside, InStore, OnOutput}
+use Rattle.stn_store.specs.Steps.{LoadsLog}
 use Rattle.stn_line.specs.declared.words.SiteLog.{SiteLog}
 use Rattle.stn_line.specs.declared.words.Line.{Line}
-use Rattle.stn_line.specs.declared.words.Line.TheVariants.{Run, Serve, Send}
+use Rattle.stn_line.specs.declared.words.Line.TheVariants.{Run, Bare, Init, Loosen, Add, Amend, Withdraw, Done, Merge, Guard, Report, Next, Ready, Why, Repairs, Records, Steps, Bounds, Check, Rehearse, Draw, Explain, Shell, Serve, Send}
 use Rattle.stn_refusal.specs.declared.failure.Failure.{Failure}
 use Rattle.stn_refusal.specs.declared.failure.Failure.TheVariants.{Failed}
 use Rattle.stn_refusal.specs.declared.failure.Fault.{Fault}
 use Rattle.stn_refusal.specs.declared.failure.Fault.TheVariants.{Read, Write, Bound, Memory, Net}
 
--- a script was read to its end and its output printed; the status is 0 exactly where none of its lines was refused
-pub record RunsScript (unread rest old new : Device) (status : ℕ) : Type 0 where
+-- ---- a script
+-- it was read to its end and its output printed; the status is 0 exactly where none of its lines was refused
+pub record HasRun (unread rest old new : Device) (status : ℕ) : Type 0 where
   pub script : List ℕ
   pub refusals : ℕ
   pub read : Consumes unread.bytes rest.bytes script
@@ -34,74 +37,104 @@ pub record RunsScript (unread rest old new : Device) (status : ℕ) : Type 0 whe
 abbrev pub PrintsPart : Device → Device → Device → Type 0
 PrintsPart unread old new = IfSome unread.bytes (λ script. WritesOutputPart old.bytes new.bytes (script_outcome script).replies)
 
--- why a script was not run to its end: a read failed, a write did, the script is too long, or memory ran out
-abbrev pub StopsScript : Device → Device → Device → Device → Failure → Type 0
-StopsScript unread rest old new (Failed Read) = (unread.failures < rest.failures) × Keeps old.bytes new.bytes
-StopsScript unread rest old new (Failed Bound) = IfSome unread.bytes (λ script. most_bytes < length script) × Keeps old.bytes new.bytes
-StopsScript unread rest old new (Failed Write) = (old.failures < new.failures) × PrintsPart unread old new
-StopsScript unread rest old new (Failed Memory) = PrintsPart unread old new
-StopsScript unread rest old new other = ⊥
+-- a script is run; or a read failed, a write did, the script is too long, or memory ran out
+abbrev pub RunsInput : Device → Device → Device → Device → Result ℕ Failure → Type 0
+RunsInput unread rest old new (Ok status) = HasRun unread rest old new status
+RunsInput unread rest old new (Err (Failed Read)) = (unread.failures < rest.failures) × Keeps old.bytes new.bytes
+RunsInput unread rest old new (Err (Failed Bound)) = IfSome unread.bytes (λ script. most_bytes < length script) × Keeps old.bytes new.bytes
+RunsInput unread rest old new (Err (Failed Write)) = (old.failures < new.failures) × PrintsPart unread old new
+RunsInput unread rest old new (Err (Failed Memory)) = PrintsPart unread old new
+RunsInput unread rest old new (Err other) = ⊥
 
--- a log was served: `listening` was printed, and then so many sessions were served, with sites of which no clause knows what they say
-pub record ServesAt (before after : Option (List Entry)) (log : SiteLog) (count : ℕ) (old new : Device) : Type 0 where
-  pub found : Held
-  pub left : Content
-  pub bound : Device
-  pub opened : Opens before log.name.now log.site found
-  pub listens : Prints old bound (codes "listening" ++ 10 ∷ [])
-  pub served : Serves count strangers strangers found.source log found.state left before after bound new
+abbrev pub RunsScript : Effect Outside ℕ
+RunsScript old new ended = RunsInput old.unread new.unread old.out new.out ended × (new.entries ≡ old.entries) × (new.err ≡ old.err)
 
--- why a service did not begin: the address can't be bound, or it can't be told that it is
-abbrev pub StopsListening : Device → Device → Failure → Type 0
-StopsListening old new failure = ((failure ≡ Failed Net) × (new ≡ old)) ⊎ IsUnprinted old new (codes "listening" ++ 10 ∷ []) failure
+-- ---- other sites
+-- an address is bound, or reached
+abbrev pub Connects : Effect Outside (Unit {0})
+Connects old new (Ok done) = new ≡ old
+Connects old new (Err failure) = (new ≡ old) × (failure ≡ Failed Net)
 
--- why it was not, or less often: the log was not opened, the service did not begin, or it stopped
-abbrev pub StopsAt : (Fault → Type 0) → Option (List Entry) → Option (List Entry) → SiteLog → ℕ → Device → Device → Failure → Type 0
-StopsAt Fails before after log count old new failure =
-    ((IsUnopened before log.name.now failure ⊎ IsLack Fails failure) × (after ≡ before) × (new ≡ old))
-    ⊎ ((found : Held) × Opens before log.name.now log.site found × (after ≡ before) × StopsListening old new failure)
-    ⊎ ((found : Held) × (left : Content) × (bound : Device) × Opens before log.name.now log.site found
-    × Prints old bound (codes "listening" ++ 10 ∷ [])
-    × StopsServing Fails count strangers strangers found.source log found.state left before after bound new failure)
+-- so many sessions with sites of which no clause knows what they say, of a plan in this state; or fewer
+abbrev pub ServesSessions : (Fault → Type 0) → SiteLog → ℕ → Held → Effect Outside (Unit {0})
+ServesSessions Fails log count found old new (Ok done) = (left : Content)
+    × Serves count strangers strangers found.source log found.state left old.entries new.entries old.out new.out
+    × (new.unread ≡ old.unread) × (new.err ≡ old.err)
+ServesSessions Fails log count found old new (Err failure) = (left : Content)
+    × StopsServing Fails count strangers strangers found.source log found.state left old.entries new.entries old.out new.out failure
+    × (new.unread ≡ old.unread) × (new.err ≡ old.err)
 
--- an exchange over a log: what the replies brought was saved, and their text printed
-pub record SendsFrom (before after : Option (List Entry)) (log : SiteLog) (old new : Device) : Type 0 where
-  pub found : Held
-  pub left : Content
-  pub opened : Opens before log.name.now log.site found
-  pub sent : Sends found.source log found.state left before after old new
+-- an exchange with such a site
+abbrev pub SendsHeld : (Fault → Type 0) → SiteLog → Held → Effect Outside (Unit {0})
+SendsHeld Fails log found old new (Ok done) = (left : Content)
+    × Sends found.source log found.state left old.entries new.entries old.out new.out × (new.unread ≡ old.unread) × (new.err ≡ old.err)
+SendsHeld Fails log found old new (Err failure) = (left : Content)
+    × StopsSending Fails found.source log found.state left old.entries new.entries old.out new.out failure
+    × (new.unread ≡ old.unread) × (new.err ≡ old.err)
 
--- why there was none: the log was not opened; the address can't be reached; or the exchange stopped
-abbrev pub StopsFrom : (Fault → Type 0) → Option (List Entry) → Option (List Entry) → SiteLog → Device → Device → Failure → Type 0
-StopsFrom Fails before after log old new failure =
-    ((IsUnopened before log.name.now failure ⊎ IsLack Fails failure) × (after ≡ before) × (new ≡ old))
-    ⊎ ((found : Held) × Opens before log.name.now log.site found × (after ≡ before) × (failure ≡ Failed Net) × (new ≡ old))
-    ⊎ ((found : Held) × (left : Content) × Opens before log.name.now log.site found
-    × StopsSending Fails found.source log found.state left before after old new failure)
+-- an address is bound, and that is told
+abbrev pub Listens : Effect Outside (Unit {0})
+Listens =
+    Then Connects (λ _.
+    OnOutput (Writes (codes "listening" ++ 10 ∷ [])))
 
--- a command on a log was done, and its answer printed
-pub record Answers (before after : Option (List Entry)) (line : Line) (old new : Device) : Type 0 where
-  pub text : List ℕ
-  pub answered : IsAnswered before after line text
-  pub printed : Prints old new text
+-- what a log says is served, if the log can be saved
+abbrev pub ServesFound : (Fault → Type 0) → SiteLog → ℕ → Held → Effect Outside (Unit {0})
+ServesFound Fails log count found =
+    Then (InStore (Finds Fails (λ _ (saved : Unit {0}). ⊤) (λ _ _. ⊥))) (λ _.
+    Then Listens (λ _.
+    ServesSessions Fails log count found))
 
--- why not: it is refused, or memory or a device of the store failed, and then nothing was saved or printed; or its answer could not
--- be printed, after the log was saved
-abbrev pub StopsCommand : (Fault → Type 0) → Option (List Entry) → Option (List Entry) → Line → Device → Device → Failure → Type 0
-StopsCommand Fails before after line old new failure =
-    ((IsRefusalOf before line (Some failure) ⊎ IsLack Fails failure) × (after ≡ before) × (new ≡ old))
-    ⊎ ((text : List ℕ) × IsAnswered before after line text × IsUnprinted old new text failure)
+abbrev pub ServesLog : (Fault → Type 0) → SiteLog → ℕ → Effect Outside (Unit {0})
+ServesLog Fails log count =
+    Then (InStore (LoadsLog Fails log.name.now log.site)) (λ found.
+    ServesFound Fails log count found)
 
--- a command line came to its end, with a status
-abbrev pub IsCarriedOut : Option (List Entry) → Option (List Entry) → Line → Device → Device → Device → Device → ℕ → Type 0
-IsCarriedOut before after Run unread rest old new status = RunsScript unread rest old new status
-IsCarriedOut before after (Serve log address count seconds) unread rest old new status = (status ≡ 0) × ServesAt before after log count old new
-IsCarriedOut before after (Send log address seconds) unread rest old new status = (status ≡ 0) × SendsFrom before after log old new
-IsCarriedOut before after line unread rest old new status = (status ≡ 0) × Answers before after line old new
+-- what a log says is exchanged with the site at an address
+abbrev pub SendsFound : (Fault → Type 0) → SiteLog → Held → Effect Outside (Unit {0})
+SendsFound Fails log found =
+    Then Connects (λ _.
+    SendsHeld Fails log found)
 
--- why it did not come to its end, and what it did until then
-abbrev pub Stops : (Fault → Type 0) → Option (List Entry) → Option (List Entry) → Line → Device → Device → Device → Device → Failure → Type 0
-Stops Fails before after Run unread rest old new failure = StopsScript unread rest old new failure
-Stops Fails before after (Serve log address count seconds) unread rest old new failure = StopsAt Fails before after log count old new failure
-Stops Fails before after (Send log address seconds) unread rest old new failure = StopsFrom Fails before after log old new failure
-Stops Fails before after line unread rest old new failure = StopsCommand Fails before after line old new failure
+abbrev pub SendsLog : (Fault → Type 0) → SiteLog → Effect Outside (Unit {0})
+SendsLog Fails log =
+    Then (InStore (LoadsLog Fails log.name.now log.site)) (λ found.
+    SendsFound Fails log found)
+
+-- ---- a command line
+-- a command on a log is done, and then its answer printed
+abbrev pub Answers : (Fault → Type 0) → Line → Effect Outside (Unit {0})
+Answers Fails line =
+    Then (InStore (DoesLine Fails line)) (λ text.
+    OnOutput (Writes text))
+
+-- what is done has the status 0
+abbrev pub Succeeds : Effect Outside (Unit {0}) → Effect Outside ℕ
+Succeeds Does = Then Does (λ _. Gives 0)
+
+abbrev pub Does : (Fault → Type 0) → Line → Effect Outside ℕ
+Does Fails Run = RunsScript
+Does Fails (Bare log steps) = Succeeds (Answers Fails (Bare log steps))
+Does Fails (Init log domain plan) = Succeeds (Answers Fails (Init log domain plan))
+Does Fails (Loosen log domain plan early late robust) = Succeeds (Answers Fails (Loosen log domain plan early late robust))
+Does Fails (Add log from to lo hi) = Succeeds (Answers Fails (Add log from to lo hi))
+Does Fails (Amend log id from to lo hi) = Succeeds (Answers Fails (Amend log id from to lo hi))
+Does Fails (Withdraw log id) = Succeeds (Answers Fails (Withdraw log id))
+Does Fails (Done log event time) = Succeeds (Answers Fails (Done log event time))
+Does Fails (Merge log other) = Succeeds (Answers Fails (Merge log other))
+Does Fails (Guard log owned) = Succeeds (Answers Fails (Guard log owned))
+Does Fails (Report log) = Succeeds (Answers Fails (Report log))
+Does Fails (Next log now choice) = Succeeds (Answers Fails (Next log now choice))
+Does Fails (Ready log now choice) = Succeeds (Answers Fails (Ready log now choice))
+Does Fails (Why log event to) = Succeeds (Answers Fails (Why log event to))
+Does Fails (Repairs log) = Succeeds (Answers Fails (Repairs log))
+Does Fails (Records log) = Succeeds (Answers Fails (Records log))
+Does Fails (Steps log plan) = Succeeds (Answers Fails (Steps log plan))
+Does Fails (Bounds log) = Succeeds (Answers Fails (Bounds log))
+Does Fails (Check log times) = Succeeds (Answers Fails (Check log times))
+Does Fails (Rehearse log now choice) = Succeeds (Answers Fails (Rehearse log now choice))
+Does Fails (Draw log plan) = Succeeds (Answers Fails (Draw log plan))
+Does Fails (Explain code) = Succeeds (Answers Fails (Explain code))
+Does Fails (Shell log) = RunsShell Fails log
+Does Fails (Serve log address count seconds) = Succeeds (ServesLog Fails log count)
+Does Fails (Send log address seconds) = Succeeds (SendsLog Fails log)

@@ -1,5 +1,5 @@
 -- A shell on a log: each line of an input is done as the command on the log, and answered, before more is read.
-use Rattle.std.specs.Prelude.{◌≡◌, ◌≢◌, ◌⊎◌, ℕ, ◌+◌, ◌-◌, ◌^◌, min, length, Bool, true, false, ◌||◌, if◌then◌else◌, bytes_eq, IsUtf8, List, [], ◌∷◌, ◌++◌, codes, decimal, Option, Some}
+use Rattle.std.specs.Prelude.{◌≡◌, ◌≢◌, ◌⊎◌, ℕ, ◌+◌, ◌-◌, ◌^◌, min, length, Bool, true, false, ◌||◌, if◌then◌else◌, bytes_eq, IsUtf8, List, [], ◌∷◌, ◌++◌, codes, decimal, Option, None, Some, Result, Ok, Err}
 use Rattle.std.specs.List.{AllByRecursion}
 use Rattle.std.specs.Io.KnownBytes.{Consumes, IsAtEnd}
 use Rattle.clap.specs.Words.{IsAmong, Text, fault_of}
@@ -7,62 +7,29 @@ use Rattle.clap.specs.declared.error.kind.ErrorKind.{ErrorKind}
 use Rattle.stn_text.specs.Bytes.{line_feed}
 use Rattle.stn_text.specs.Lines.{words_of}
 use Rattle.stn_device.specs.Bytes.{most_bytes}
-use Rattle.stn_site.specs.Held.{Held}
+use Rattle.stn_effects.specs.Effects.{Effect, Then, Repeats, Catches, Gives, seen}
+use Rattle.stn_effects.specs.Printing.{Device, Writes, TellsText}
 use Rattle.stn_exec.specs.Script.{is_skipped}
 use Rattle.stn_line.specs.Commands.{stn}
 use Rattle.stn_line.specs.declared.words.SiteLog.{SiteLog}
 use Rattle.stn_line.specs.declared.words.Line.{Line}
-use Rattle.stn_line.specs.declared.words.Line.TheVariants.{Run, Bare, Init, Loosen, Shell, Serve, Send}
+use Rattle.stn_line.specs.declared.words.Line.TheVariants.{Run, Bare, Init, Loosen, Add, Amend, Withdraw, Done, Merge, Guard, Report, Next, Ready, Why, Repairs, Records, Steps, Bounds, Check, Rehearse, Draw, Explain, Shell, Serve, Send}
+use Rattle.stn_logs.specs.Commands.{DoesLine}
 use Rattle.stn_shell.specs.Asking.{AskFor, no_text}
-use Rattle.stn_shell.specs.Endings.{Succeeds}
 use Rattle.stn_shell.specs.Lines.{AreWithinLine, AreOfLine, Takes}
-use Rattle.stn_shell.specs.Printing.{Device, Prints, IsUnprinted, TellsText, Tells}
-use Rattle.stn_shell.specs.Refusals.{IsRefusalOf}
+use Rattle.stn_shell.specs.Outside.{Outside, outside, InStore, OnOutput, OnError}
 use Rattle.stn_shell.specs.declared.coprocess.Progress.{Progress}
-use Rattle.stn_store.specs.Store.{Entry, Opens, IsUnopened, IsLack}
+use Rattle.stn_store.specs.Steps.{LoadsLog}
 use Rattle.stn_refusal.specs.Printed.{refusal_text}
 use Rattle.stn_refusal.specs.Refusals.{refused_at, out_of_memory}
 use Rattle.stn_refusal.specs.declared.code.Code.TheVariants as code
 use Rattle.stn_refusal.specs.declared.failure.Failure.{Failure}
-use Rattle.stn_refusal.specs.declared.failure.Failure.TheVariants.{Refused, Failed}
+use Rattle.stn_refusal.specs.declared.failure.Failure.TheVariants.{Failed}
 use Rattle.stn_refusal.specs.declared.failure.Fault.{Fault}
 use Rattle.stn_refusal.specs.declared.failure.Fault.TheVariants as fault
 use Rattle.stn_refusal.specs.declared.refusal.Refusal.{Refusal}
 
--- where a shell stands: what its store holds, what is left to read, what it wrote, how many lines it read, how many bytes it may still
--- read, and whether a line was refused
-pub record Standing : Type 0 where
-  pub entries : Option (List Entry)
-  pub unread : Device
-  pub out : Device
-  pub err : Device
-  pub lines : ℕ
-  pub room : ℕ
-  pub refused : Bool
-
-abbrev pub standing : Progress → Option (List Entry) → Device → Device → Device → Standing
-standing progress entries unread out err = record {
-  entries = entries;
-  unread = unread;
-  out = out;
-  err = err;
-  lines = progress.lines;
-  room = progress.room;
-  refused = progress.refused;
-}
-
--- before the first line
-abbrev pub beginning : Option (List Entry) → Device → Device → Device → Standing
-beginning entries unread out err = record {
-  entries = entries;
-  unread = unread;
-  out = out;
-  err = err;
-  lines = 0;
-  room = most_bytes;
-  refused = false;
-}
-
+-- ---- the command that a line asks for
 -- the words of a command line, by those of a line of the shell: LOG and SITE stand after the command, but for the one of no log
 abbrev pub line_words : Text → Text → List Text → List Text
 line_words log site [] = codes "stn" ∷ []
@@ -73,109 +40,119 @@ line_words log site (command ∷ words) =
 abbrev pub words_on : SiteLog → List Text → List Text
 words_on log words = line_words log.name.now (decimal log.site) words
 
--- the command is one on a log that is there, or an explanation
+-- a shell does commands on a log that is there, and explanations
 abbrev pub is_of_shell : Line → Bool
 is_of_shell Run = false
 is_of_shell (Bare log steps) = false
 is_of_shell (Init log domain plan) = false
 is_of_shell (Loosen log domain plan early late robust) = false
+is_of_shell (Add log from to lo hi) = true
+is_of_shell (Amend log id from to lo hi) = true
+is_of_shell (Withdraw log id) = true
+is_of_shell (Done log event time) = true
+is_of_shell (Merge log other) = true
+is_of_shell (Guard log owned) = true
+is_of_shell (Report log) = true
+is_of_shell (Next log now choice) = true
+is_of_shell (Ready log now choice) = true
+is_of_shell (Why log event to) = true
+is_of_shell (Repairs log) = true
+is_of_shell (Records log) = true
+is_of_shell (Steps log plan) = true
+is_of_shell (Bounds log) = true
+is_of_shell (Check log times) = true
+is_of_shell (Rehearse log now choice) = true
+is_of_shell (Draw log plan) = true
+is_of_shell (Explain code) = true
 is_of_shell (Shell log) = false
 is_of_shell (Serve log address count seconds) = false
 is_of_shell (Send log address seconds) = false
-is_of_shell line = true
 
 -- the words of a command line are this one, a command of a shell
 abbrev pub IsCommand : List Text → Line → Type 0
 IsCommand words line = AskFor words line × (is_of_shell line ≡ true)
 
--- they are no command of a shell, and why is told: clap refuses them; or, of which nothing is told, they are another one
+-- they are none, and why is told: clap refuses them; or, of which nothing is told, they are another command line
 abbrev pub IsNoCommand : List Text → Device → Device → Type 0
 IsNoCommand words err told =
     ((kind : ErrorKind) × (text : List ℕ) × IsAmong kind (fault_of stn words) × (text ≢ []) × TellsText text err told)
     ⊎ ((line : Line) × AskFor words line × (is_of_shell line ≡ false) × (told ≡ err))
 
--- why the command of a line of this number was not done: what refuses it, or a lack; it is none of a shell; or memory ran out
-abbrev pub IsUndoneCommand : (Fault → Type 0) → ℕ → List Text → Option (List Entry) → Device → Device → Failure → Type 0
-IsUndoneCommand Fails number words entries err told failure =
-    ((line : Line) × IsCommand words line × (IsRefusalOf entries line (Some failure) ⊎ IsLack Fails failure) × (told ≡ err))
-    ⊎ (IsNoCommand words err told × (failure ≡ refused_at code.Line number))
-    ⊎ ((failure ≡ out_of_memory) × (told ≡ err))
+-- a command of a shell in the words of a command line; words that are none are refused by the number of their line
+abbrev pub ReadsCommand : ℕ → List Text → Effect Device Line
+ReadsCommand number words err told (Ok line) = IsCommand words line × (told ≡ err)
+ReadsCommand number words err told (Err failure) =
+    (IsNoCommand words err told × (failure ≡ refused_at code.Line number)) ⊎ ((failure ≡ out_of_memory) × (told ≡ err))
 
 -- all words are texts
 abbrev pub AreTexts : List Text → Type 0
 AreTexts = AllByRecursion IsUtf8
 
--- the words of a line ask for this command
-abbrev pub AsksFor : SiteLog → List Text → Line → Type 0
-AsksFor log words line = AreTexts words × IsCommand (words_on log words) line
+-- the words of a line on a log are texts; a word that is none is told
+abbrev pub ReadsTexts : SiteLog → ℕ → List Text → Effect Device (List Text)
+ReadsTexts log number words err told (Ok all) = AreTexts words × (all ≡ words_on log words) × (told ≡ err)
+ReadsTexts log number words err told (Err failure) =
+    ((¬ (AreTexts words)) × TellsText no_text err told × (failure ≡ refused_at code.Line number)) ⊎ ((failure ≡ out_of_memory) × (told ≡ err))
 
--- why a line was not done: its command was not; a word is no text, which is told; or memory ran out
-abbrev pub IsUndoneLine : (Fault → Type 0) → SiteLog → ℕ → List Text → Option (List Entry) → Device → Device → Failure → Type 0
-IsUndoneLine Fails log number words entries err told failure =
-    (AreTexts words × IsUndoneCommand Fails number (words_on log words) entries err told failure)
-    ⊎ ((¬ (AreTexts words)) × TellsText no_text err told × (failure ≡ refused_at code.Line number))
-    ⊎ ((failure ≡ out_of_memory) × (told ≡ err))
+-- the command of such words is done
+abbrev pub DoesWords : (Fault → Type 0) → ℕ → List Text → Effect Outside (List ℕ)
+DoesWords Fails number words =
+    Then (OnError (ReadsCommand number words)) (λ line.
+    InStore (DoesLine Fails line))
 
--- the answer of a line: what the command on the log answers; or its refusal, which saves nothing
-abbrev pub IsReply : (Fault → Type 0) → SiteLog → ℕ → List Text → Option (List Entry) → Option (List Entry) → Device → Device → List ℕ → Bool → Type 0
-IsReply Fails log number words before after err told text false =
-    (line : Line) × AsksFor log words line × Succeeds before after line text × (told ≡ err)
-IsReply Fails log number words before after err told text true =
-    (refusal : Refusal) × IsUndoneLine Fails log number words before err told (Refused refusal) × (text ≡ refusal_text refusal) × (after ≡ before)
+-- ---- a line
+-- what is printed for it: the answer, or the refusal
+abbrev pub reply_text : Result (List ℕ) Refusal → List ℕ
+reply_text (Ok text) = text
+reply_text (Err refusal) = refusal_text refusal
 
--- why a line has none: it was not done, for lack of memory or of a device; or there was no memory for its refusal
-abbrev pub HasNoReply : (Fault → Type 0) → SiteLog → ℕ → List Text → Option (List Entry) → Option (List Entry) → Device → Device → Failure → Type 0
-HasNoReply Fails log number words before after err told failure = (after ≡ before)
-    × (((fault : Fault) × (failure ≡ Failed fault) × IsUndoneLine Fails log number words before err told failure)
-    ⊎ ((refusal : Refusal) × (failure ≡ out_of_memory) × IsUndoneLine Fails log number words before err told (Refused refusal)))
+abbrev pub is_refusal : Result (List ℕ) Refusal → Bool
+is_refusal (Ok text) = false
+is_refusal (Err refusal) = true
 
--- a line was read and nothing after it
-pub record ReadsLine (line : List ℕ) (old new : Standing) : Type 0 where
-  pub bytes : List ℕ
-  pub are : AreOfLine line new.unread.bytes bytes
-  pub taken : Takes old.unread.bytes new.unread.bytes old.room new.room bytes
-  pub failures : new.unread.failures ≡ old.unread.failures
-  pub counted : new.lines ≡ old.lines + 1
+-- its words are done, and their answer or refusal is printed, and an empty line after it
+abbrev pub AnswersWords : (Fault → Type 0) → SiteLog → ℕ → List Text → Effect Outside Bool
+AnswersWords Fails log number words =
+    Then (Catches (Then (OnError (ReadsTexts log number words)) (λ all. DoesWords Fails number all))) (λ reply.
+    Then (OnOutput (Writes (reply_text reply ++ line_feed ∷ []))) (λ _.
+    Gives (is_refusal reply)))
 
--- a line of this number was done: a comment, or a line without words, does nothing; any other one is answered, and then an empty line
--- stands
-abbrev pub Does : (Fault → Type 0) → SiteLog → ℕ → List ℕ → Option (List Entry) → Option (List Entry) → Device → Device → Device → Device → Bool → Type 0
-Does Fails log number line before after old new err told refused =
-    ((is_skipped (words_of line) ≡ true) × (after ≡ before) × (new ≡ old) × (told ≡ err) × (refused ≡ false))
-    ⊎ ((is_skipped (words_of line) ≡ false) × (text : List ℕ)
-    × IsReply Fails log number (words_of line) before after err told text refused × Prints old new (text ++ line_feed ∷ []))
+-- of a comment, or of a line without words, nothing is done
+abbrev pub AnswersUnless : Bool → (Fault → Type 0) → SiteLog → ℕ → List Text → Effect Outside Bool
+AnswersUnless true Fails log number words = Gives false
+AnswersUnless false Fails log number words = AnswersWords Fails log number words
 
--- why it was not: it has no answer, and nothing is saved or printed; or its answer could not be printed, and is saved
-abbrev pub StopsDoing : (Fault → Type 0) → SiteLog → ℕ → List ℕ → Option (List Entry) → Option (List Entry) → Device → Device → Device → Device → Failure → Type 0
-StopsDoing Fails log number line before after old new err told failure = (is_skipped (words_of line) ≡ false)
-    × ((HasNoReply Fails log number (words_of line) before after err told failure × (new ≡ old))
-    ⊎ ((text : List ℕ) × (refused : Bool) × IsReply Fails log number (words_of line) before after err told text refused
-    × IsUnprinted old new (text ++ line_feed ∷ []) failure))
+-- whether the line of this number is refused
+abbrev pub DoesText : (Fault → Type 0) → SiteLog → ℕ → List ℕ → Effect Outside Bool
+DoesText Fails log number line = AnswersUnless (is_skipped (words_of line)) Fails log number (words_of line)
 
--- a line was read, and then it was done
-abbrev pub Turns : (Fault → Type 0) → SiteLog → List ℕ → Standing → Standing → Type 0
-Turns Fails log line old new = ReadsLine line old new × ((refused : Bool)
-    × Does Fails log new.lines line old.entries new.entries old.out new.out old.err new.err refused × (new.refused ≡ (old.refused || refused)))
+-- ---- all lines
+-- where a shell stands: what is outside, how many lines it read, how many bytes it may still read, and whether a line was refused
+pub record Standing : Type 0 where
+  pub around : Outside
+  pub lines : ℕ
+  pub room : ℕ
+  pub refused : Bool
 
--- lines, one after the other
-abbrev pub DoesLines : (Fault → Type 0) → SiteLog → List (List ℕ) → Standing → Standing → Type 0
-DoesLines Fails log [] old new = new ≡ old
-DoesLines Fails log (line ∷ lines) old new = (next : Standing) × Turns Fails log line old next × DoesLines Fails log lines next new
+abbrev pub standing : Progress → Outside → Standing
+standing progress around = record { around = around; lines = progress.lines; room = progress.room; refused = progress.refused }
 
--- no further line is left
-pub record EndsInput (old new : Standing) : Type 0 where
-  pub end : IsAtEnd new.unread.bytes
-  pub taken : Takes old.unread.bytes new.unread.bytes old.room new.room []
-  pub failures : new.unread.failures ≡ old.unread.failures
-  pub entries : new.entries ≡ old.entries
-  pub out : new.out ≡ old.out
-  pub err : new.err ≡ old.err
-  pub refused : new.refused ≡ old.refused
+-- before the first line
+abbrev pub beginning : Outside → Standing
+beginning around = record { around = around; lines = 0; room = most_bytes; refused = false }
 
--- a line was read and done, where there was one
-abbrev pub EndsTurn : (Fault → Type 0) → SiteLog → Bool → Standing → Standing → Type 0
-EndsTurn Fails log true old new = (line : List ℕ) × Turns Fails log line old new
-EndsTurn Fails log false old new = EndsInput old new
+-- an effect on what is outside alone
+abbrev pub Around : {X : Type 0} → Effect Outside X → Effect Standing X
+Around Does old new ended = Does old.around new.around ended × (new.lines ≡ old.lines) × (new.room ≡ old.room) × (new.refused ≡ old.refused)
+
+-- the same, but for what is left to read, how many lines were read, and how many bytes may be
+abbrev pub further : Standing → Device → ℕ → ℕ → Standing
+further old unread lines room = record {
+  around = outside old.around.entries unread old.around.out old.around.err;
+  lines = lines;
+  room = room;
+  refused = old.refused;
+}
 
 -- a line was not read to its end: a read failed, too much was read, or memory ran out
 abbrev pub StopsReading : Device → Device → ℕ → Failure → Type 0
@@ -187,28 +164,35 @@ StopsReading unread rest room (Failed fault.Memory) = (part : List ℕ) × AreWi
     × (rest.failures ≡ unread.failures)
 StopsReading unread rest room other = ⊥
 
--- why a shell does not go on: no line was read, and nothing was done; or one was read, and was not done
-abbrev pub StopsAtLine : (Fault → Type 0) → SiteLog → Standing → Standing → Failure → Type 0
-StopsAtLine Fails log old new failure =
-    (StopsReading old.unread new.unread old.room failure × (new.entries ≡ old.entries) × (new.out ≡ old.out) × (new.err ≡ old.err))
-    ⊎ ((line : List ℕ) × ReadsLine line old new
-    × StopsDoing Fails log new.lines line old.entries new.entries old.out new.out old.err new.err failure)
+-- the next line is read, and nothing after it; there is none at the end
+abbrev pub ReadsLine : Effect Standing (Option (List ℕ))
+ReadsLine old new (Ok (Some line)) = (bytes : List ℕ) × (unread : Device) × (room : ℕ) × AreOfLine line unread.bytes bytes
+    × Takes old.around.unread.bytes unread.bytes old.room room bytes × (unread.failures ≡ old.around.unread.failures)
+    × (new ≡ further old unread (old.lines + 1) room)
+ReadsLine old new (Ok None) = (unread : Device) × (room : ℕ) × IsAtEnd unread.bytes × Takes old.around.unread.bytes unread.bytes old.room room []
+    × (unread.failures ≡ old.around.unread.failures) × (new ≡ further old unread old.lines room)
+ReadsLine old new (Err failure) = (unread : Device) × (room : ℕ) × StopsReading old.around.unread unread old.room failure
+    × (new ≡ further old unread old.lines room)
 
--- a shell did all lines of its input
-abbrev pub DoesAll : (Fault → Type 0) → SiteLog → Standing → Standing → Type 0
-DoesAll Fails log first last = (found : Held) × (lines : List (List ℕ)) × (next : Standing)
-    × Opens first.entries log.name.now log.site found × DoesLines Fails log lines first next × EndsInput next last
+-- whether a line was refused is kept
+abbrev pub Notes : Bool → Effect Standing Bool
+Notes refused old new ended = (new ≡ record { around = old.around; lines = old.lines; room = old.room; refused = old.refused || refused }) × (ended ≡ Ok true)
 
--- why it did not: the log was not opened, and nothing was read; or it did some of them, and then stopped
-abbrev pub StopsShell : (Fault → Type 0) → SiteLog → Standing → Standing → Failure → Type 0
-StopsShell Fails log first last failure =
-    ((IsUnopened first.entries log.name.now failure ⊎ IsLack Fails failure) × (last ≡ first))
-    ⊎ ((found : Held) × (lines : List (List ℕ)) × (next : Standing)
-    × Opens first.entries log.name.now log.site found × DoesLines Fails log lines first next × StopsAtLine Fails log next last failure)
+-- a line is done, if there is one, and then more is read
+abbrev pub DoesRead : (Fault → Type 0) → SiteLog → Option (List ℕ) → Effect Standing Bool
+DoesRead Fails log None old = Gives false old
+DoesRead Fails log (Some line) old = Then (Around (DoesText Fails log old.lines line)) Notes old
 
--- a shell came to its end, and its status is 1 where a line was refused, else 0; or it stopped, and that was told
-abbrev pub EndsShell : (Fault → Type 0) → Option (List Entry) → Option (List Entry) → SiteLog → Device → Device → Device → Device → Device → Device → ℕ → Type 0
-EndsShell Fails before after log unread rest old new err told status =
-    (last : Standing) × (after ≡ last.entries) × (rest ≡ last.unread)
-    × ((DoesAll Fails log (beginning before unread old err) last × (new ≡ last.out) × (told ≡ last.err) × (status ≡ (if last.refused then 1 else 0)))
-    ⊎ ((failure : Failure) × StopsShell Fails log (beginning before unread old err) last failure × Tells failure last.out new last.err told × (status ≡ 1)))
+abbrev pub Turns : (Fault → Type 0) → SiteLog → Effect Standing Bool
+Turns Fails log = Then ReadsLine (λ read. DoesRead Fails log read)
+
+-- the log can be opened, and then all lines are done
+abbrev pub DoesLines : (Fault → Type 0) → SiteLog → Effect Standing (Unit {0})
+DoesLines Fails log =
+    Then (Around (InStore (LoadsLog Fails log.name.now log.site))) (λ _.
+    Repeats (Turns Fails log))
+
+-- the status of a shell is 1 if a line was refused, else 0
+abbrev pub RunsShell : (Fault → Type 0) → SiteLog → Effect Outside ℕ
+RunsShell Fails log old new ended = (last : Standing) × (done : Result (Unit {0}) Failure)
+    × DoesLines Fails log (beginning old) last done × (new ≡ last.around) × (ended ≡ seen (λ _. if last.refused then 1 else 0) done)

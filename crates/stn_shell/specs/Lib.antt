@@ -1,15 +1,6 @@
 pub mod Asking
 pub mod Carried
-pub mod Commands
-pub mod Connections
 pub mod Coprocess
-pub mod Endings
 pub mod Executed
-pub mod Joining
-pub mod Keeping
 pub mod Lines
-pub mod Loosening
-pub mod Peer
-pub mod Printing
-pub mod Refusals
-pub mod Words
+pub mod Outside

@@ -1,29 +1,27 @@
 //! A shell on a log.
 
-ghost use Rattle.std.specs.Prelude.{◌≡◌, ◌≢◌, ◌⊎◌, ◌+◌, ◌<◌, ◌≤◌, ◌++◌, [], ◌∷◌, ℕ, List, true, false, map, IsUtf8, IfOk, IfErr, OnOk, OnErr, MatchResult, IfSome, IsNone};
+ghost use Rattle.std.specs.Prelude.{◌≡◌, ◌≢◌, ◌+◌, ◌<◌, ◌≤◌, ◌++◌, [], ◌∷◌, ℕ, List, true, Ok, map, IsUtf8, IfOk, IfErr, OnOk, OnErr, IfSome, IsNone};
 ghost use Rattle.std.specs.List.{AllByRecursion};
 ghost use Rattle.stn_device.specs.Bytes.{most_bytes};
+ghost use Rattle.stn_effects.specs.Effects.{seen, Then};
+ghost use Rattle.stn_effects.specs.Printing.{Device, device_of, Prints, IsUnprinted, TellsText};
 ghost use Rattle.stn_text.specs.Bytes.{line_feed};
 ghost use Rattle.stn_text.specs.Lines.{words_of};
 ghost use Rattle.stn_exec.specs.Script.{is_skipped as skips};
-ghost use Rattle.stn_site.specs.Held.{Held};
-ghost use Rattle.stn_store.specs.Store.{Opens, IsUnopened, IsLack};
 ghost use Rattle.stn_refusal.specs.Printed.{refusal_text};
 ghost use Rattle.stn_shell.specs.Coprocess as spec;
-ghost use Rattle.stn_shell.specs.Coprocess.{standing, line_words, IsCommand, AsksFor, IsUndoneCommand, IsUndoneLine, EndsTurn, StopsAtLine, DoesAll, StopsShell, EndsShell};
-ghost use Rattle.stn_shell.specs.Endings.{Succeeds};
-ghost use Rattle.stn_shell.specs.Printing.{device_of, Prints, IsUnprinted, TellsText};
+ghost use Rattle.stn_shell.specs.Coprocess.{standing, line_words, DoesText, DoesWords, ReadsTexts, DoesLines, RunsShell, Turns};
+ghost use Rattle.stn_shell.specs.Outside.{outside, OnError};
 
-use crate::commands::answer_with;
-use crate::keeping::Kept;
 use crate::lines::read_line;
-use crate::printing::{print_now, tell, tell_failure};
 use crate::process::NO_TEXT;
 use itoa::Buffer;
 use std::alloc::Global;
 use std::io::{Read, Write};
 use stn_device::{Counted, MOST_BYTES};
+use stn_effects::{print_now, tell};
 use stn_line::{Line, LineFault, SiteLog, line, said};
+use stn_logs::{Kept, answer_with, find_log};
 use stn_refusal::{Code, Failure, Fault, Refusal};
 use stn_store::Store;
 use stn_text::first_word;
@@ -37,8 +35,8 @@ pub struct Progress {
     refused: bool,
 }
 
-/// Does each line of an input as the command on a log, and answers it, before it reads more. Its status is 0 where no line was refused
-/// and no device failed, else 1.
+/// Does each line of an input as the command on the log, and answers it, before it reads more. Its status is 0 where no line was refused,
+/// else 1; or a device failed, and the shell did not read on.
 pub fn run_shell<S: Store<Global>, R: Read, W: Write, E: Write>(
     alloc: Global,
     store: &mut S,
@@ -46,12 +44,11 @@ pub fn run_shell<S: Store<Global>, R: Read, W: Write, E: Write>(
     reader: &mut Counted<R>,
     out: &mut Counted<W>,
     err: &mut Counted<E>,
-) -> u8
-    ensures status { result ≤ 1 }
-    ensures ended { EndsShell S.fails (S.entries store.old) (S.entries store.new) log.now
-        (device_of R.remaining reader.old) (device_of R.remaining reader.new)
-        (device_of W.contents out.old) (device_of W.contents out.new)
-        (device_of E.contents err.old) (device_of E.contents err.new) result }
+) -> Result<u8, Failure>
+    ensures status { IfOk result (λ status. status ≤ 1) }
+    ensures ran { RunsShell S.fails log.now
+        (outside (S.entries store.old) (device_of R.remaining reader.old) (device_of W.contents out.old) (device_of E.contents err.old))
+        (outside (S.entries store.new) (device_of R.remaining reader.new) (device_of W.contents out.new) (device_of E.contents err.new)) result }
 {
     let mut progress = Progress {
         lines: 0,
@@ -70,13 +67,8 @@ pub fn run_shell<S: Store<Global>, R: Read, W: Write, E: Write>(
         err,
     );
     drop(kept);
-    match done {
-        Ok(()) => u8::from(progress.refused),
-        Err(failure) => {
-            tell_failure(alloc, failure, out, err);
-            1
-        }
-    }
+    done?;
+    Ok(u8::from(progress.refused))
 }
 
 // Does the lines of an input.
@@ -91,13 +83,9 @@ fn do_lines<S: Store<Global>, R: Read, W: Write, E: Write>(
     err: &mut Counted<E>,
 ) -> Result<(), Failure>
     requires { progress.old.lines + progress.old.room ≤ most_bytes }
-    ensures { MatchResult result
-        (λ _. DoesAll S.fails log.now
-        (standing progress.old (S.entries store.old) (device_of R.remaining reader.old) (device_of W.contents out.old) (device_of E.contents err.old))
-        (standing progress.new (S.entries store.new) (device_of R.remaining reader.new) (device_of W.contents out.new) (device_of E.contents err.new)))
-        (StopsShell S.fails log.now
-        (standing progress.old (S.entries store.old) (device_of R.remaining reader.old) (device_of W.contents out.old) (device_of E.contents err.old))
-        (standing progress.new (S.entries store.new) (device_of R.remaining reader.new) (device_of W.contents out.new) (device_of E.contents err.new))) }
+    ensures { DoesLines S.fails log.now
+        (standing progress.old (outside (S.entries store.old) (device_of R.remaining reader.old) (device_of W.contents out.old) (device_of E.contents err.old)))
+        (standing progress.new (outside (S.entries store.new) (device_of R.remaining reader.new) (device_of W.contents out.new) (device_of E.contents err.new))) result }
 {
     find_log(store, kept, log)?;
     'turns: loop {
@@ -106,20 +94,6 @@ fn do_lines<S: Store<Global>, R: Read, W: Write, E: Write>(
             return Ok(());
         }
     }
-}
-
-// Finds that a log can be opened, and keeps what it says.
-fn find_log<S: Store<Global>>(
-    store: &S,
-    kept: &mut Kept<Global>,
-    log: &SiteLog<'_>,
-) -> Result<(), Failure>
-    ensures { MatchResult result (λ _. (found : Held) × Opens (S.entries store.now) log.now.name.now log.now.site found)
-        (λ failure. IsUnopened (S.entries store.now) log.now.name.now failure ⊎ IsLack S.fails failure) }
-{
-    let known = kept.caught_up(store, log)?;
-    kept.keep(known);
-    Ok(())
 }
 
 // Reads a line, does it, and answers it. Whether there was one.
@@ -136,13 +110,9 @@ fn turn<S: Store<Global>, R: Read, W: Write, E: Write>(
     requires { progress.old.lines + progress.old.room ≤ most_bytes }
     ensures room { IfOk result (λ more. (more ≡ true → progress.new.room < progress.old.room)
         × (progress.new.lines + progress.new.room ≤ most_bytes)) }
-    ensures turned { MatchResult result
-        (λ more. EndsTurn S.fails log.now more
-        (standing progress.old (S.entries store.old) (device_of R.remaining reader.old) (device_of W.contents out.old) (device_of E.contents err.old))
-        (standing progress.new (S.entries store.new) (device_of R.remaining reader.new) (device_of W.contents out.new) (device_of E.contents err.new)))
-        (StopsAtLine S.fails log.now
-        (standing progress.old (S.entries store.old) (device_of R.remaining reader.old) (device_of W.contents out.old) (device_of E.contents err.old))
-        (standing progress.new (S.entries store.new) (device_of R.remaining reader.new) (device_of W.contents out.new) (device_of E.contents err.new))) }
+    ensures turned { Turns S.fails log.now
+        (standing progress.old (outside (S.entries store.old) (device_of R.remaining reader.old) (device_of W.contents out.old) (device_of E.contents err.old)))
+        (standing progress.new (outside (S.entries store.new) (device_of R.remaining reader.new) (device_of W.contents out.new) (device_of E.contents err.new))) result }
 {
     match read_line(alloc, reader, &mut progress.room)? {
         Some(text) => {
@@ -167,12 +137,9 @@ fn do_line<S: Store<Global>, W: Write, E: Write>(
     out: &mut Counted<W>,
     err: &mut Counted<E>,
 ) -> Result<bool, Failure>
-    ensures done { IfOk result (λ refused. spec.Does S.fails log.now number text.now (S.entries store.old) (S.entries store.new)
-        (device_of W.contents out.old) (device_of W.contents out.new)
-        (device_of E.contents err.old) (device_of E.contents err.new) refused) }
-    ensures stopped { IfErr result (spec.StopsDoing S.fails log.now number text.now (S.entries store.old) (S.entries store.new)
-        (device_of W.contents out.old) (device_of W.contents out.new)
-        (device_of E.contents err.old) (device_of E.contents err.new)) }
+    ensures { (unread : Device) → DoesText S.fails log.now number text.now
+        (outside (S.entries store.old) unread (device_of W.contents out.old) (device_of E.contents err.old))
+        (outside (S.entries store.new) unread (device_of W.contents out.new) (device_of E.contents err.new)) result }
 {
     if is_skipped(text) {
         return Ok(false);
@@ -186,7 +153,7 @@ fn do_line<S: Store<Global>, W: Write, E: Write>(
             print_answer(text_of(alloc, refusal)?, out)?;
             Ok(true)
         }
-        Err(failed) => Err(failed),
+        Err(Failure::Failed(fault)) => Err(Failure::Failed(fault)),
     }
 }
 
@@ -229,11 +196,9 @@ fn reply<S: Store<Global>, E: Write>(
     text: &[u8],
     err: &mut Counted<E>,
 ) -> Result<Vec<u8>, Failure>
-    ensures { MatchResult result
-        (λ answered. (line : Line) × AsksFor log.now (words_of text.now) line × Succeeds (S.entries store.old) (S.entries store.new) line answered.items
-        × (device_of E.contents err.new ≡ device_of E.contents err.old))
-        (λ failure. (S.entries store.new ≡ S.entries store.old) × IsUndoneLine S.fails log.now number (words_of text.now) (S.entries store.old)
-        (device_of E.contents err.old) (device_of E.contents err.new) failure) }
+    ensures { (unread out : Device) → Then (OnError (ReadsTexts log.now number (words_of text.now))) (DoesWords S.fails number)
+        (outside (S.entries store.old) unread out (device_of E.contents err.old))
+        (outside (S.entries store.new) unread out (device_of E.contents err.new)) (seen (λ answered. answered.items) result) }
 {
     let mut digits = Buffer::new();
     let site = digits.format(log.site.number());
@@ -305,11 +270,9 @@ fn reply_to<S: Store<Global>, E: Write>(
     words: &[&str],
     err: &mut Counted<E>,
 ) -> Result<Vec<u8>, Failure>
-    ensures { MatchResult result
-        (λ answered. (line : Line) × IsCommand (map (λ word. word.now) words.now) line × Succeeds (S.entries store.old) (S.entries store.new) line answered.items
-        × (device_of E.contents err.new ≡ device_of E.contents err.old))
-        (λ failure. (S.entries store.new ≡ S.entries store.old) × IsUndoneCommand S.fails number (map (λ word. word.now) words.now) (S.entries store.old)
-        (device_of E.contents err.old) (device_of E.contents err.new) failure) }
+    ensures { (unread out : Device) → DoesWords S.fails number (map (λ word. word.now) words.now)
+        (outside (S.entries store.old) unread out (device_of E.contents err.old))
+        (outside (S.entries store.new) unread out (device_of E.contents err.new)) (seen (λ answered. answered.items) result) }
 {
     match line(alloc, words) {
         Ok(asked) => {
@@ -339,7 +302,24 @@ fn is_of_shell(line: &Line<'_>) -> bool
         | Line::Shell { .. }
         | Line::Serve { .. }
         | Line::Send { .. } => false,
-        _ => true,
+        Line::Add { .. }
+        | Line::Amend { .. }
+        | Line::Withdraw { .. }
+        | Line::Done { .. }
+        | Line::Merge { .. }
+        | Line::Guard { .. }
+        | Line::Report { .. }
+        | Line::Next { .. }
+        | Line::Ready { .. }
+        | Line::Why { .. }
+        | Line::Repairs { .. }
+        | Line::Records { .. }
+        | Line::Steps { .. }
+        | Line::Bounds { .. }
+        | Line::Check { .. }
+        | Line::Rehearse { .. }
+        | Line::Draw { .. }
+        | Line::Explain { .. } => true,
     }
 }
 

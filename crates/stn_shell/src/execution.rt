@@ -1,25 +1,18 @@
 //! A command line, from its words to its status.
 
-ghost use Rattle.std.specs.Prelude.{◌≡◌, ◌⊎◌, ◌<◌, ◌≤◌, ◌-◌, ◌*◌, ◌^◌, ◌++◌, [], ◌∷◌, map, codes, None, Ok, ⊤, IfOk, IfErr, OnOk, MatchResult};
+ghost use Rattle.std.specs.Prelude.{◌≡◌, ◌<◌, ◌≤◌, ◌-◌, ◌*◌, ◌^◌, map, None, Ok, IfOk};
 ghost use Rattle.clap.specs.Words.{kind_of};
 ghost use Rattle.stn_device.specs.Counted.{failure_count};
-ghost use Rattle.stn_command.specs.Words.{and_then};
-ghost use Rattle.stn_shell.specs.Carried.{RunsScript, StopsScript, ServesAt, StopsAt, SendsFrom, StopsFrom, Answers, StopsCommand, IsCarriedOut, Stops, StopsListening};
-ghost use Rattle.stn_shell.specs.Connections.{Serves, StopsServing, Sends, StopsSending};
-ghost use Rattle.stn_shell.specs.Executed.{IsSaid, IsExecuted, SaysText, Ends};
-ghost use Rattle.stn_shell.specs.Peer.{strangers};
-ghost use Rattle.stn_shell.specs.Printing.{Device, device_of, Prints};
-ghost use Rattle.stn_store.specs.Store.{Opens, IsUnopened, IsLack};
-ghost use Rattle.stn_refusal.specs.declared.failure.Failure.TheVariants.{Failed};
-ghost use Rattle.stn_refusal.specs.declared.failure.Fault.TheVariants as fault;
+ghost use Rattle.stn_effects.specs.Effects.{seen};
+ghost use Rattle.stn_effects.specs.Printing.{Device, device_of};
+ghost use Rattle.stn_shell.specs.Carried.{RunsInput, Listens, ServesFound, ServesLog, SendsFound, SendsLog, Answers, Does};
+ghost use Rattle.stn_shell.specs.Executed.{IsSaid, IsExecuted, SaysText};
+ghost use Rattle.stn_shell.specs.Outside.{outside, Ends};
+ghost use Rattle.stn_store.specs.Files.{IsFileFault};
+ghost use Rattle.stn_store.specs.Steps.{Entries, LoadsLog};
 ghost use Rattle.std.specs.Duration.{as_nanos};
 
-use crate::commands::answer;
-use crate::connections::serve_each;
 use crate::coprocess::run_shell;
-use crate::partners::send_to_partner;
-use crate::peer::{Service, connect};
-use crate::printing::{print, print_now, tell, tell_failure, tell_fault};
 use std::alloc::Global;
 use std::fs::File;
 use std::io::{Read, Write};
@@ -27,8 +20,11 @@ use std::net::{Net, TcpListener, TcpStream};
 use std::rt::Files;
 use std::time::{Clock, Duration};
 use stn_device::{Counted, write_whole};
+use stn_effects::{print, print_now, tell, tell_failure, tell_fault};
+use stn_exchanges::{Service, connect, send_to_partner, serve_each};
 use stn_exec::run;
 use stn_line::{Line, LineFault, SiteLog, line, said};
+use stn_logs::answer;
 use stn_refusal::{Failure, Fault};
 use stn_replica::Replica;
 use stn_store::{FileStore, Store};
@@ -44,11 +40,10 @@ pub fn execute<
     requires out_counts { failure_count out.old < 2 ^ 64 - 1 }
     ensures status { result ≤ 2 }
 
-    // What files hold, and how they fail, is not known.
-    ensures executed { IsExecuted (λ _. ⊤) None None (map (λ word. word.now) words.entry.now)
-        (device_of R.remaining reader.old) (device_of R.remaining reader.new)
-        (device_of W.contents out.old) (device_of W.contents out.new)
-        (device_of E.contents err.old) (device_of E.contents err.new) result }
+    // What files hold is not known.
+    ensures executed { IsExecuted IsFileFault (map (λ word. word.now) words.entry.now)
+        (outside None (device_of R.remaining reader.old) (device_of W.contents out.old) (device_of E.contents err.old))
+        (outside None (device_of R.remaining reader.new) (device_of W.contents out.new) (device_of E.contents err.new)) result }
 {
     execute_over(rt, &mut FileStore::new(rt), words, reader, out, err)
 }
@@ -75,10 +70,9 @@ pub fn execute_over<
     ensures status { result ≤ 2 }
 
     // A command line was done or stopped, or the words are refused or ask for help, or memory ran out.
-    ensures executed { IsExecuted S.fails (S.entries store.old) (S.entries store.new) (map (λ word. word.now) words.entry.now)
-        (device_of R.remaining reader.old) (device_of R.remaining reader.new)
-        (device_of W.contents out.old) (device_of W.contents out.new)
-        (device_of E.contents err.old) (device_of E.contents err.new) result }
+    ensures executed { IsExecuted S.fails (map (λ word. word.now) words.entry.now)
+        (outside (S.entries store.old) (device_of R.remaining reader.old) (device_of W.contents out.old) (device_of E.contents err.old))
+        (outside (S.entries store.new) (device_of R.remaining reader.new) (device_of W.contents out.new) (device_of E.contents err.new)) result }
 {
     let alloc = rt.alloc();
     match line(alloc, words) {
@@ -113,20 +107,16 @@ fn end<
     requires reader_counts { failure_count reader.old < 2 ^ 64 - 1 }
     requires out_counts { failure_count out.old < 2 ^ 64 - 1 }
     ensures status { result ≤ 1 }
-    ensures ended { Ends S.fails (S.entries store.old) (S.entries store.new) line.now
-        (device_of R.remaining reader.old) (device_of R.remaining reader.new)
-        (device_of W.contents out.old) (device_of W.contents out.new)
-        (device_of E.contents err.old) (device_of E.contents err.new) result }
+    ensures ended { Ends (Does S.fails line.now)
+        (outside (S.entries store.old) (device_of R.remaining reader.old) (device_of W.contents out.old) (device_of E.contents err.old))
+        (outside (S.entries store.new) (device_of R.remaining reader.new) (device_of W.contents out.new) (device_of E.contents err.new)) result }
 {
-    match line {
-        Line::Shell { log } => run_shell(rt.alloc(), store, log, reader, out, err),
-        _ => match do_line(rt, store, line, reader, out) {
-            Ok(status) => status,
-            Err(failure) => {
-                tell_failure(rt.alloc(), failure, out, err);
-                1
-            }
-        },
+    match do_line(rt, store, line, reader, out, err) {
+        Ok(status) => status,
+        Err(failure) => {
+            tell_failure(rt.alloc(), failure, out, err);
+            1
+        }
     }
 }
 
@@ -180,25 +170,25 @@ fn do_line<
     T: AllocGlobal + Clock + Net<Listener = TcpListener, Stream = TcpStream>,
     R: Read,
     W: Write,
+    E: Write,
 >(
     rt: &T,
     store: &mut S,
     line: &Line<'_>,
     reader: &mut Counted<R>,
     out: &mut Counted<W>,
+    err: &mut Counted<E>,
 ) -> Result<u8, Failure>
     requires reader_counts { failure_count reader.old < 2 ^ 64 - 1 }
     requires out_counts { failure_count out.old < 2 ^ 64 - 1 }
-    ensures { MatchResult result
-        (λ status. (status ≤ 1) × IsCarriedOut (S.entries store.old) (S.entries store.new) line.now
-        (device_of R.remaining reader.old) (device_of R.remaining reader.new)
-        (device_of W.contents out.old) (device_of W.contents out.new) status)
-        (Stops S.fails (S.entries store.old) (S.entries store.new) line.now
-        (device_of R.remaining reader.old) (device_of R.remaining reader.new)
-        (device_of W.contents out.old) (device_of W.contents out.new)) }
+    ensures status { IfOk result (λ status. status ≤ 1) }
+    ensures done { Does S.fails line.now
+        (outside (S.entries store.old) (device_of R.remaining reader.old) (device_of W.contents out.old) (device_of E.contents err.old))
+        (outside (S.entries store.new) (device_of R.remaining reader.new) (device_of W.contents out.new) (device_of E.contents err.new)) result }
 {
     match line {
         Line::Run => run_input(rt.alloc(), reader, out),
+        Line::Shell { log } => run_shell(rt.alloc(), store, log, reader, out, err),
         Line::Serve {
             log,
             address,
@@ -216,7 +206,7 @@ fn do_line<
 
 // The status of what was done: 0.
 fn status_of(done: Result<(), Failure>) -> Result<u8, Failure>
-    ensures { result ≡ and_then done (λ _. Ok 0) }
+    ensures { result ≡ seen (λ _. 0) done }
 {
     match done {
         Ok(()) => Ok(0),
@@ -233,10 +223,8 @@ fn run_input<R: Read, W: Write>(
     requires reader_counts { failure_count reader.old < 2 ^ 64 - 1 }
     requires out_counts { failure_count out.old < 2 ^ 64 - 1 }
     ensures status { IfOk result (λ status. status ≤ 1) }
-    ensures done { IfOk result (RunsScript (device_of R.remaining reader.old) (device_of R.remaining reader.new)
-        (device_of W.contents out.old) (device_of W.contents out.new)) }
-    ensures stopped { IfErr result (StopsScript (device_of R.remaining reader.old) (device_of R.remaining reader.new)
-        (device_of W.contents out.old) (device_of W.contents out.new)) }
+    ensures ran { RunsInput (device_of R.remaining reader.old) (device_of R.remaining reader.new)
+        (device_of W.contents out.old) (device_of W.contents out.new) result }
 {
     let ran = run(alloc, reader, out)?;
     Ok(if ran.refused == 0 { 0 } else { 1 })
@@ -249,10 +237,9 @@ fn tell_answer<S: Store<Global>, W: Write>(
     line: &Line<'_>,
     out: &mut Counted<W>,
 ) -> Result<(), Failure>
-    ensures done { OnOk result (Answers (S.entries store.old) (S.entries store.new) line.now
-        (device_of W.contents out.old) (device_of W.contents out.new)) }
-    ensures stopped { IfErr result (StopsCommand S.fails (S.entries store.old) (S.entries store.new) line.now
-        (device_of W.contents out.old) (device_of W.contents out.new)) }
+    ensures { (unread err : Device) → Answers S.fails line.now
+        (outside (S.entries store.old) unread (device_of W.contents out.old) err)
+        (outside (S.entries store.new) unread (device_of W.contents out.new) err) result }
 {
     let text = answer(alloc, store, line)?;
     print(&text, out)
@@ -267,8 +254,7 @@ fn limit(seconds: u16) -> Duration
 
 // The replica of a log.
 fn open_replica<S: Store<Global>>(store: &S, log: &SiteLog<'_>) -> Result<Replica<Global>, Failure>
-    ensures opened { IfOk result (λ replica. Opens (S.entries store.now) log.now.name.now log.now.site replica) }
-    ensures failed { IfErr result (λ failure. IsUnopened (S.entries store.now) log.now.name.now failure ⊎ IsLack S.fails failure) }
+    ensures { LoadsLog S.fails log.now.name.now log.now.site (S.entries store.now) (S.entries store.now) result }
 {
     let plan = store.load(log.name, log.site)?;
     Ok(Replica::of(plan)?)
@@ -288,11 +274,9 @@ fn serve_at<
     limit: Duration,
     out: &mut Counted<W>,
 ) -> Result<(), Failure>
-    ensures { MatchResult result
-        (λ _. ServesAt (S.entries store.old) (S.entries store.new) log.now count
-        (device_of W.contents out.old) (device_of W.contents out.new))
-        (StopsAt S.fails (S.entries store.old) (S.entries store.new) log.now count
-        (device_of W.contents out.old) (device_of W.contents out.new)) }
+    ensures { (unread err : Device) → ServesLog S.fails log.now count
+        (outside (S.entries store.old) unread (device_of W.contents out.old) err)
+        (outside (S.entries store.new) unread (device_of W.contents out.new) err) result }
 {
     let mut replica = open_replica(store, log)?;
     let served = serve_replica(rt, store, log, address, count, limit, &mut replica, out);
@@ -315,17 +299,9 @@ fn serve_replica<
     replica: &mut Replica<Global>,
     out: &mut Counted<W>,
 ) -> Result<(), Failure>
-    ensures { MatchResult result
-        (λ _. (bound : Device) × Prints (device_of W.contents out.old) bound (codes "listening" ++ 10 ∷ [])
-        × Serves count strangers strangers replica.old.source log.now replica.old.state replica.new.state
-        (S.entries store.old) (S.entries store.new) bound (device_of W.contents out.new))
-        (λ failure. (IsLack S.fails failure × (S.entries store.new ≡ S.entries store.old)
-        × (device_of W.contents out.new ≡ device_of W.contents out.old))
-        ⊎ ((S.entries store.new ≡ S.entries store.old)
-        × StopsListening (device_of W.contents out.old) (device_of W.contents out.new) failure)
-        ⊎ ((bound : Device) × Prints (device_of W.contents out.old) bound (codes "listening" ++ 10 ∷ [])
-        × StopsServing S.fails count strangers strangers replica.old.source log.now replica.old.state replica.new.state
-        (S.entries store.old) (S.entries store.new) bound (device_of W.contents out.new) failure)) }
+    ensures { (unread err : Device) → ServesFound S.fails log.now count replica.old
+        (outside (S.entries store.old) unread (device_of W.contents out.old) err)
+        (outside (S.entries store.new) unread (device_of W.contents out.new) err) result }
 {
     store.can_save(log.name)?;
     let listener = listen(rt, address, out)?;
@@ -343,9 +319,9 @@ fn listen<T: Net<Listener = TcpListener, Stream = TcpStream>, W: Write>(
     address: &str,
     out: &mut Counted<W>,
 ) -> Result<TcpListener, Failure>
-    ensures said { OnOk result (Prints (device_of W.contents out.old) (device_of W.contents out.new)
-        (codes "listening" ++ 10 ∷ [])) }
-    ensures failed { IfErr result (StopsListening (device_of W.contents out.old) (device_of W.contents out.new)) }
+    ensures { (entries : Entries) (unread err : Device) → Listens
+        (outside entries unread (device_of W.contents out.old) err)
+        (outside entries unread (device_of W.contents out.new) err) (seen (λ _. tt) result) }
 {
     match TcpListener::bind(rt, address) {
         Ok(listener) => {
@@ -365,11 +341,9 @@ fn send_to<S: Store<Global>, T: AllocGlobal + Clock + Net<Stream = TcpStream>, W
     limit: Duration,
     out: &mut Counted<W>,
 ) -> Result<(), Failure>
-    ensures { MatchResult result
-        (λ _. SendsFrom (S.entries store.old) (S.entries store.new) log.now
-        (device_of W.contents out.old) (device_of W.contents out.new))
-        (StopsFrom S.fails (S.entries store.old) (S.entries store.new) log.now
-        (device_of W.contents out.old) (device_of W.contents out.new)) }
+    ensures { (unread err : Device) → SendsLog S.fails log.now
+        (outside (S.entries store.old) unread (device_of W.contents out.old) err)
+        (outside (S.entries store.new) unread (device_of W.contents out.new) err) result }
 {
     let mut replica = open_replica(store, log)?;
     let sent = send_replica(rt, store, log, address, limit, &mut replica, out);
@@ -387,13 +361,9 @@ fn send_replica<S: Store<Global>, T: AllocGlobal + Clock + Net<Stream = TcpStrea
     replica: &mut Replica<Global>,
     out: &mut Counted<W>,
 ) -> Result<(), Failure>
-    ensures { MatchResult result
-        (λ _. Sends replica.old.source log.now replica.old.state replica.new.state
-        (S.entries store.old) (S.entries store.new) (device_of W.contents out.old) (device_of W.contents out.new))
-        (λ failure. ((S.entries store.new ≡ S.entries store.old) × (failure ≡ Failed fault.Net)
-        × (device_of W.contents out.new ≡ device_of W.contents out.old))
-        ⊎ StopsSending S.fails replica.old.source log.now replica.old.state replica.new.state
-        (S.entries store.old) (S.entries store.new) (device_of W.contents out.old) (device_of W.contents out.new) failure) }
+    ensures { (unread err : Device) → SendsFound S.fails log.now replica.old
+        (outside (S.entries store.old) unread (device_of W.contents out.old) err)
+        (outside (S.entries store.new) unread (device_of W.contents out.new) err) result }
 {
     let mut peer = connect(rt, address, limit)?;
     send_to_partner(rt.alloc(), store, &mut peer, log, replica, out)

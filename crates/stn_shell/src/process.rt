@@ -1,13 +1,14 @@
 //! The program.
 
-ghost use Rattle.std.specs.Prelude.{◌<◌, ◌≤◌, ◌-◌, ◌^◌, map, None, ⊤, MatchResult};
+ghost use Rattle.std.specs.Prelude.{◌<◌, ◌≤◌, ◌-◌, ◌^◌, map, None, MatchResult};
 ghost use Rattle.std.specs.Process.{exit_status};
 ghost use Rattle.stn_device.specs.Counted.{failure_count};
 ghost use Rattle.stn_shell.specs.Executed.{IsExecuted, IsWordless};
-ghost use Rattle.stn_shell.specs.Printing.{device_of};
+ghost use Rattle.stn_effects.specs.Printing.{device_of};
+ghost use Rattle.stn_shell.specs.Outside.{outside};
+ghost use Rattle.stn_store.specs.Files.{IsFileFault};
 
 use crate::execution::execute;
-use crate::printing::{tell, tell_fault};
 use std::fs::File;
 use std::io::{ErrorKind, Read, Write};
 use std::net::{Net, TcpListener, TcpStream};
@@ -16,9 +17,10 @@ use std::rt::Files;
 use std::time::Clock;
 use std::{env, io};
 use stn_device::Counted;
+use stn_effects::{tell, tell_fault};
 use stn_refusal::Fault;
 
-//// What is said of a word that is no text.
+/// What is said of a word that is no text.
 pub const NO_TEXT: &[u8] = b"error: a word of the command line is not UTF-8\n";
 
 /// Why a process has no words.
@@ -95,14 +97,12 @@ pub fn run_process<
     requires out_counts { failure_count out.old < 2 ^ 64 - 1 }
     ensures status { exit_status result ≤ 2 }
     ensures ended { MatchResult words.entry
-        (λ words. IsExecuted (λ _. ⊤) None None (map (λ word. word.now) words.now)
-        (device_of R.remaining reader.old) (device_of R.remaining reader.new)
-        (device_of W.contents out.old) (device_of W.contents out.new)
-        (device_of E.contents err.old) (device_of E.contents err.new) (exit_status result))
+        (λ words. IsExecuted IsFileFault (map (λ word. word.now) words.now)
+        (outside None (device_of R.remaining reader.old) (device_of W.contents out.old) (device_of E.contents err.old))
+        (outside None (device_of R.remaining reader.new) (device_of W.contents out.new) (device_of E.contents err.new)) (exit_status result))
         (λ fault. IsWordless fault
-        (device_of R.remaining reader.old) (device_of R.remaining reader.new)
-        (device_of W.contents out.old) (device_of W.contents out.new)
-        (device_of E.contents err.old) (device_of E.contents err.new) (exit_status result)) }
+        (outside None (device_of R.remaining reader.old) (device_of W.contents out.old) (device_of E.contents err.old))
+        (outside None (device_of R.remaining reader.new) (device_of W.contents out.new) (device_of E.contents err.new)) (exit_status result)) }
 {
     match words {
         Ok(words) => ExitCode::from(execute(rt, words, reader, out, err)),

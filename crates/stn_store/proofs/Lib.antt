@@ -1,4 +1,5 @@
 pub mod Lacks
+pub mod Failed
 pub mod Decided
 pub mod Lookups
 pub mod SameLog

@@ -3,3 +3,4 @@ pub mod Progress
 pub mod Takes
 pub mod OneLog
 pub mod Saved
+pub mod SomeLog

@@ -1,4 +1,7 @@
 pub mod Bytes
 pub mod Log
 pub mod Store
+pub mod Steps
 pub mod Memory
+pub mod Merging
+pub mod Files

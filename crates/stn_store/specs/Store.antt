@@ -2,11 +2,12 @@
 use Rattle.std.specs.Prelude.{◌≡◌, ◌⊎◌, ◌↔◌, ℕ, ◌+◌, Bool, true, List, [], ◌∷◌, ◌++◌, take, Option, Some, None, is_some, option_map, Result, Ok, Err, ⊤}
 use Rattle.std.specs.{Bool.then_some, Option.option_or, Str.bytes_eq}
 use Rattle.stn_text.specs.Bytes.{most_text}
+pub use Rattle.stn_effects.specs.Effects.{IsLack}
 use Rattle.stn_site.specs.Held.{Held}
 use Rattle.stn_store.specs.{Log.Log, Log.log_held, Log.log_text, Log.IsLog, declared.log.fault.LoadFault.LoadFault, Log.Failures.load_failure}
-use Rattle.stn_refusal.specs.{declared.code.Code.TheVariants.LogThere, declared.failure.Failure.Failure, declared.failure.Fault.Fault, Refusals.refused}
-use Rattle.stn_refusal.specs.declared.failure.Failure.TheVariants.{Refused, Failed}
-use Rattle.stn_refusal.specs.declared.failure.Fault.TheVariants.{Memory, File}
+use Rattle.stn_refusal.specs.{declared.code.Code.TheVariants.LogThere, declared.failure.Failure.Failure, Refusals.refused}
+use Rattle.stn_refusal.specs.declared.failure.Failure.TheVariants.{Failed}
+use Rattle.stn_refusal.specs.declared.failure.Fault.TheVariants.{File}
 
 -- bytes that were put under a name
 pub record Entry : Type 0 where
@@ -62,11 +63,6 @@ IsTaken entries name failure = IsThere entries name true × (failure ≡ log_the
 abbrev pub IsUnopened : Option (List Entry) → List ℕ → Failure → Type 0
 IsUnopened entries name failure = IsMissing entries name failure
     ⊎ ((fault : LoadFault) × Means entries name (Err fault) × (failure ≡ load_failure fault))
-
--- memory ran out, or a device failed as those of the store do
-abbrev pub IsLack : (Fault → Type 0) → Failure → Type 0
-IsLack Fails (Failed fault) = (fault ≡ Memory) ⊎ Fails fault
-IsLack Fails (Refused refusal) = ⊥
 
 -- a log was saved, in place of what stood under its name
 abbrev pub saved_too : Option (List Entry) → List ℕ → Log → Option (List Entry)

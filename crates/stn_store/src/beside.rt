@@ -1,7 +1,8 @@
 //! Files that this program makes beside a log.
 
-ghost use Rattle.std.specs.Prelude.{IfErr, ⊤};
+ghost use Rattle.std.specs.Prelude.{IfErr};
 ghost use Rattle.stn_store.specs.Store.{IsLack};
+ghost use Rattle.stn_store.specs.Files.{IsFileFault};
 
 use crate::place::NEW_MODE;
 use std::fs::{self, File, Metadata, OpenOptions};
@@ -16,7 +17,7 @@ const OWN_MODE: u32 = 0o600;
 
 /// What a call on files answers.
 pub fn of_files<X: Drop>(answer: io::Result<X>) -> Result<X, Failure>
-    ensures { IfErr result (IsLack (λ _. ⊤)) }
+    ensures { IfErr result (IsLack IsFileFault) }
 {
     match answer {
         Ok(value) => Ok(value),
@@ -40,7 +41,7 @@ pub fn make_beside<T: Files + AllocGlobal>(
     log: &str,
     mode: u32,
 ) -> Result<(String, T::File), Failure>
-    ensures { IfErr result (IsLack (λ _. ⊤)) }
+    ensures { IfErr result (IsLack IsFileFault) }
 {
     for number in 0..u32::MAX {
         let path = format!(in rt.alloc(); "{log}.saving-{number}")?;
@@ -61,7 +62,7 @@ pub fn write_beside<T: Files<File = File> + AllocGlobal>(
     old: Option<&Metadata>,
     text: &[u8],
 ) -> Result<String, Failure>
-    ensures { IfErr result (IsLack (λ _. ⊤)) }
+    ensures { IfErr result (IsLack IsFileFault) }
 {
     let mode = if old.is_some() { OWN_MODE } else { NEW_MODE };
     let (path, file) = make_beside(rt, log, mode)?;
@@ -76,7 +77,7 @@ pub fn write_beside<T: Files<File = File> + AllocGlobal>(
 
 // Writes a log into a file.
 fn fill(file: File, old: Option<&Metadata>, text: &[u8]) -> Result<(), Failure>
-    ensures { IfErr result (IsLack (λ _. ⊤)) }
+    ensures { IfErr result (IsLack IsFileFault) }
 {
     if let Some(old) = old {
         of_files(keep(&file, old))?;
@@ -90,7 +91,7 @@ fn fill(file: File, old: Option<&Metadata>, text: &[u8]) -> Result<(), Failure>
 
 /// Waits until the device has what was written to a file, or the names of a folder. The log is saved by then.
 pub fn force(file: &File) -> Result<(), Failure>
-    ensures { IfErr result (IsLack (λ _. ⊤)) }
+    ensures { IfErr result (IsLack IsFileFault) }
 {
     match file.sync_all() {
         Ok(()) => Ok(()),

@@ -1,7 +1,6 @@
 //! Logs and texts as files.
 
-ghost use Rattle.std.specs.Prelude.{IfErr, ⊤};
-ghost use Rattle.stn_store.specs.Store.{IsLack};
+ghost use Rattle.stn_store.specs.Files.{IsFileFault};
 
 use crate::beside::of_files;
 use crate::lock::{Lock, can_lock};
@@ -38,14 +37,14 @@ impl<'a, T> FileStore<'a, T> {
     }
 }
 
-// What files hold, and how they fail, is known to no clause.
+// What files hold is known to no clause.
 impl<T: Files<File = File> + AllocGlobal> Store<Global> for FileStore<'_, T> {
-    ghost use Rattle.std.specs.Prelude.{None, ⊤};
+    ghost use Rattle.std.specs.Prelude.{None};
     ghost use Rattle.std.specs.String.{string_bytes};
 
     ghost entries = { λ _. None };
 
-    ghost fails = { λ _. ⊤ };
+    ghost fails = { IsFileFault };
 
     type Held = HeldFile;
 

@@ -2,8 +2,9 @@
 #![tactic(auto)]
 
 pub use files::FileStore;
-pub use log::{LoadFault, load, load_plan, one_log, save, spell_log};
+pub use log::{LoadFault, load, load_plan, one_log, save, some_log, spell_log};
 pub use memory::MemoryStore;
+pub use merging::{find_same, take_in};
 pub use store::Store;
 
 mod beside;
@@ -11,6 +12,7 @@ mod files;
 mod lock;
 mod log;
 mod memory;
+mod merging;
 mod place;
 mod reading;
 mod same;

@@ -1,7 +1,8 @@
 //! The lock of a log: an empty file beside it. It is never removed.
 
-ghost use Rattle.std.specs.Prelude.{IfErr, ⊤};
+ghost use Rattle.std.specs.Prelude.{IfErr};
 ghost use Rattle.stn_store.specs.Store.{IsLack};
+ghost use Rattle.stn_store.specs.Files.{IsFileFault};
 
 use crate::beside::{give_owner, make_file, of_files};
 use crate::place::NEW_MODE;
@@ -74,7 +75,7 @@ fn wait_for<T: Files<File = File>>(rt: &T, path: &str, mode: u32) -> io::Result<
 
 /// Finds out whether a log can be held, and waits for nobody.
 pub fn can_lock<T: Files<File = File> + AllocGlobal>(rt: &T, log: &str) -> Result<(), Failure>
-    ensures { IfErr result (IsLack (λ _. ⊤)) }
+    ensures { IfErr result (IsLack IsFileFault) }
 {
     let path = format!(in rt.alloc(); "{log}.lock")?;
     let _lock = of_files(open_lock(rt, path.as_str(), mode_at(rt, log)))?;
@@ -91,7 +92,7 @@ pub struct Lock {
 impl Lock {
     /// Waits until no other program holds a log, and holds it.
     pub fn take<T: Files<File = File> + AllocGlobal>(rt: &T, log: &str) -> Result<Lock, Failure>
-        ensures { IfErr result (IsLack (λ _. ⊤)) }
+        ensures { IfErr result (IsLack IsFileFault) }
     {
         let path = format!(in rt.alloc(); "{log}.lock")?;
         let file = of_files(wait_for(rt, path.as_str(), mode_at(rt, log)))?;

@@ -1,8 +1,9 @@
 //! The file of a log: where it is, and how it is replaced.
 
-ghost use Rattle.std.specs.Prelude.{◌≡◌, ◌⊎◌, IfErr, ⊤};
+ghost use Rattle.std.specs.Prelude.{◌≡◌, ◌⊎◌, IfErr};
 ghost use Rattle.stn_store.specs.Store.{log_there};
 ghost use Rattle.stn_store.specs.Store.{IsLack};
+ghost use Rattle.stn_store.specs.Files.{IsFileFault};
 
 use crate::beside::{force, make_beside, of_files, write_beside};
 use crate::lock::Lock;
@@ -26,7 +27,7 @@ pub struct Place {
 
 /// The path that a name leads to by now. It is no link.
 pub fn resolve<T: Files + AllocGlobal>(rt: &T, name: &str) -> Result<String, Failure>
-    ensures { IfErr result (IsLack (λ _. ⊤)) }
+    ensures { IfErr result (IsLack IsFileFault) }
 {
     match fs::symlink_metadata(rt, name) {
         Ok(found) if found.is_symlink() => {
@@ -59,7 +60,7 @@ impl Place {
     /// The place of a path that is no link. A log that is there and may not be replaced is a fault: one that is no file, has another
     /// name, or may not be written.
     pub fn find<T: Files<File = File>>(rt: &T, path: String) -> Result<Place, Failure>
-        ensures { IfErr result (IsLack (λ _. ⊤)) }
+        ensures { IfErr result (IsLack IsFileFault) }
     {
         match open_log(rt, path.as_str()) {
             Ok(log) => Ok(Place {
@@ -73,7 +74,7 @@ impl Place {
 
     // What the system says of the log that was found.
     fn found(&self) -> Result<Option<Metadata>, Failure>
-        ensures { IfErr result (IsLack (λ _. ⊤)) }
+        ensures { IfErr result (IsLack IsFileFault) }
     {
         match &self.log {
             Some(log) => Ok(Some(of_files(log.metadata())?)),
@@ -90,7 +91,7 @@ impl Place {
 
     /// Opens the log to be read.
     pub fn open<T: Files<File = File>>(&self, rt: &T) -> Result<File, Failure>
-        ensures { IfErr result (IsLack (λ _. ⊤)) }
+        ensures { IfErr result (IsLack IsFileFault) }
     {
         if of_files(self.stands(rt))? {
             of_files(fs::open(rt, self.path.as_str()))
@@ -107,9 +108,9 @@ impl Place {
         }
     }
 
-    /// Finds out whether the log can be written beside.
+    /// Finds out whether the log can be written beside: a file is made there, and removed.
     pub fn can_save<T: Files<File = File> + AllocGlobal>(&self, rt: &T) -> Result<(), Failure>
-        ensures { IfErr result (IsLack (λ _. ⊤)) }
+        ensures { IfErr result (IsLack IsFileFault) }
     {
         let folder = self.open_folder(rt)?;
         of_files(folder.sync_all())?;
@@ -117,13 +118,13 @@ impl Place {
         of_files(fs::remove_file(rt, path.as_str()))
     }
 
-    /// Saves a log where nothing is.
+    /// Saves a log where nothing is. Where only the last force of its folder fails, that is the answer, though the log stands there.
     pub fn make<T: Files<File = File> + AllocGlobal>(
         &self,
         rt: &T,
         text: &[u8],
     ) -> Result<(), Failure>
-        ensures { IfErr result (λ failure. (failure ≡ log_there) ⊎ IsLack (λ _. ⊤) failure) }
+        ensures { IfErr result (λ failure. (failure ≡ log_there) ⊎ IsLack IsFileFault failure) }
     {
         let folder = self.open_folder(rt)?;
         of_files(folder.sync_all())?;
@@ -139,14 +140,15 @@ impl Place {
         }
     }
 
-    /// Saves a log in place of the file that was found.
+    /// Saves a log in place of the file that was found. Where only the last force of its folder fails, that is the answer, though the new
+    /// log stands there.
     pub fn replace<T: Files<File = File> + AllocGlobal>(
         &self,
         rt: &T,
         lock: &Lock,
         text: &[u8],
     ) -> Result<(), Failure>
-        ensures { IfErr result (IsLack (λ _. ⊤)) }
+        ensures { IfErr result (IsLack IsFileFault) }
     {
         let folder = self.open_folder(rt)?;
         let found = self.found()?;
@@ -178,7 +180,7 @@ impl Place {
 
     // The folder of the log.
     fn open_folder<T: Files<File = File>>(&self, rt: &T) -> Result<File, Failure>
-        ensures { IfErr result (IsLack (λ _. ⊤)) }
+        ensures { IfErr result (IsLack IsFileFault) }
     {
         let folder = match Path::new(self.path.as_str()).parent() {
             Some(folder) if !folder.as_str().is_empty() => folder.as_str(),

@@ -30,7 +30,8 @@ pub trait Store<A: Allocator + Copy> {
         ensures named { IfOk result (λ held. held_name held ≡ name.now) }
         ensures failed { IfErr result (IsLack fails) };
 
-    /// Finds out whether a log can be held and saved under a name. Nothing is changed or waited for.
+    /// Finds out whether a log can be held and saved under a name. No log is changed, and nobody is waited for. Of files, the lock may be
+    /// made, and a file beside the log is made and removed.
     fn can_save(&self, name: &str) -> Result<(), Failure>
         ensures failed { IfErr result (IsLack fails) };
 

@@ -1,4 +1,5 @@
-ghost use Rattle.std.specs.Prelude.{◌≡◌, ℕ, List, Result};
+ghost use Rattle.std.specs.Prelude.{◌≡◌, ◌<◌, ◌^◌, ℕ, List, Result};
+ghost use Rattle.std.specs.List.{AllByRecursion};
 ghost use Rattle.stn_store.specs.Log.{Log, IsLog};
 ghost use Rattle.stn_store.specs.declared.log.fault.LoadFault.{LoadFault};
 
@@ -11,3 +12,8 @@ pub fn one_log()
     one_front();
     one_spelling();
 }
+
+/// The law that no bytes are without a meaning as a log: it cannot be that none is theirs.
+pub fn some_log()
+    ensures { (input : List ℕ) → AllByRecursion (λ byte. byte < 2 ^ 8) input → ¬ ((meaning : Result Log LoadFault) → ¬ IsLog input meaning) }
+{}

@@ -1,33 +1,47 @@
-use Rattle.std.proofs.Common.{refl, sym, inl, inr, true, ◌∙◌}
+use Rattle.std.proofs.Common.{Ok, Err, refl, sym, inl, ◌∙◌}
 use Rattle.std.proofs.lemmas.Result.{err_from_is_err_and}
+use Rattle.stn_effects.specs.Effects.{stopped, went}
+use Rattle.stn_effects.specs.Printing.{device_of}
+use Rattle.stn_shell.specs.Outside.{outside}
 use Rattle.stn_shell.proofs.coprocess.do_line.Goals as goal
 
-pub returns-in_err-text_of-in-Err-Refused-clause-stopped :
-    goal.returns-in_err-text_of-in-Err-Refused-clause-stopped
-returns-in_err-text_of-in-Err-Refused-clause-stopped g c =
+pub returns-then-is_skipped : goal.returns-then-is_skipped
+returns-then-is_skipped g c = λ unread. rw (sym c.is_skipped.ensures ∙ c.if-is_skipped.true) (refl, refl)
+
+pub returns-in_err-print_answer-in-Ok : goal.returns-in_err-print_answer-in-Ok
+returns-in_err-print_answer-in-Ok g c =
+    let p = err_from_is_err_and c.from_residual.result c.from_residual.ensures.1 in
+    rw (p.1, p.2) (λ unread. rw (sym c.is_skipped.ensures ∙ c.if-is_skipped.false)
+    (went (Ok c.in-Ok.answered.items) (outside (g.S.Store.entries c.reply.new.store) unread (device_of g.W.Write.contents c.args.out.now) (device_of g.E.Write.contents c.reply.new.err)) (c.in-Ok.ensures unread (device_of g.W.Write.contents c.args.out.now)) (stopped _ (c.in_err-print_answer-in-Ok.ensures.failed, refl, refl, refl) refl)))
+
+pub returns-in_ok-print_answer-in-Ok : goal.returns-in_ok-print_answer-in-Ok
+returns-in_ok-print_answer-in-Ok g c =
+    λ unread. rw (sym c.is_skipped.ensures ∙ c.if-is_skipped.false)
+    (went (Ok c.in-Ok.answered.items) (outside (g.S.Store.entries c.reply.new.store) unread (device_of g.W.Write.contents c.args.out.now) (device_of g.E.Write.contents c.reply.new.err)) (c.in-Ok.ensures unread (device_of g.W.Write.contents c.args.out.now)) (went tt (outside (g.S.Store.entries c.reply.new.store) unread (device_of g.W.Write.contents c.print_answer.new.out) (device_of g.E.Write.contents c.reply.new.err)) (c.in_ok-print_answer-in-Ok.ensures.printed, refl, refl, refl) (refl, refl)))
+
+pub returns-in_err-text_of-in-Err-Refused : goal.returns-in_err-text_of-in-Err-Refused
+returns-in_err-text_of-in-Err-Refused g c =
     let p = err_from_is_err_and c.from_residual-in_err-text_of-in-Err-Refused.result c.from_residual-in_err-text_of-in-Err-Refused.ensures.1 in
     let undone = rw c.in-Err-Refused.field-0-is at c.in-Err-Refused.ensures in
-    rw (p.1, p.2) (sym c.is_skipped.ensures ∙ c.if-is_skipped.false, inl ((undone.0, inr (c.in-Err-Refused.refusal, refl, undone.1)), refl))
+    rw (p.1, p.2) (λ unread. rw (sym c.is_skipped.ensures ∙ c.if-is_skipped.false)
+    (went (Err c.in-Err-Refused.refusal) (outside (g.S.Store.entries c.reply.new.store) unread (device_of g.W.Write.contents c.args.out.now) (device_of g.E.Write.contents c.reply.new.err)) (undone unread (device_of g.W.Write.contents c.args.out.now)) (stopped _ (inl (refl, refl), refl, refl, refl) refl)))
 
-pub returns-in_err-print_answer-in-Err-Refused-clause-stopped :
-    goal.returns-in_err-print_answer-in-Err-Refused-clause-stopped
-returns-in_err-print_answer-in-Err-Refused-clause-stopped g c =
+pub returns-in_err-print_answer-in-Err-Refused : goal.returns-in_err-print_answer-in-Err-Refused
+returns-in_err-print_answer-in-Err-Refused g c =
     let p = err_from_is_err_and c.from_residual-in_err-print_answer-in-Err-Refused.result c.from_residual-in_err-print_answer-in-Err-Refused.ensures.1 in
     let undone = rw c.in-Err-Refused.field-0-is at c.in-Err-Refused.ensures in
-    let text = c.in_ok-text_of-in-Err-Refused in
-    rw (p.1, p.2) (
-      sym c.is_skipped.ensures ∙ c.if-is_skipped.false,
-      inr (text.field-0.items, true, (c.in-Err-Refused.refusal, undone.1, text.ensures, undone.0), c.in_err-print_answer-in-Err-Refused.ensures.failed),
-    )
+    let failed = rw c.in_ok-text_of-in-Err-Refused.ensures at c.in_err-print_answer-in-Err-Refused.ensures.failed in
+    rw (p.1, p.2) (λ unread. rw (sym c.is_skipped.ensures ∙ c.if-is_skipped.false)
+    (went (Err c.in-Err-Refused.refusal) (outside (g.S.Store.entries c.reply.new.store) unread (device_of g.W.Write.contents c.args.out.now) (device_of g.E.Write.contents c.reply.new.err)) (undone unread (device_of g.W.Write.contents c.args.out.now)) (stopped _ (failed, refl, refl, refl) refl)))
 
-pub returns-in_ok-print_answer-in-Err-Refused-clause-done :
-    goal.returns-in_ok-print_answer-in-Err-Refused-clause-done
-returns-in_ok-print_answer-in-Err-Refused-clause-done g c =
+pub returns-in_ok-print_answer-in-Err-Refused : goal.returns-in_ok-print_answer-in-Err-Refused
+returns-in_ok-print_answer-in-Err-Refused g c =
     let undone = rw c.in-Err-Refused.field-0-is at c.in-Err-Refused.ensures in
-    let text = c.in_ok-text_of-in-Err-Refused in
-    inr (
-      sym c.is_skipped.ensures ∙ c.if-is_skipped.false,
-      text.field-0.items,
-      (c.in-Err-Refused.refusal, undone.1, text.ensures, undone.0),
-      c.in_ok-print_answer-in-Err-Refused.ensures.printed,
-    )
+    let printed = rw c.in_ok-text_of-in-Err-Refused.ensures at c.in_ok-print_answer-in-Err-Refused.ensures.printed in
+    λ unread. rw (sym c.is_skipped.ensures ∙ c.if-is_skipped.false)
+    (went (Err c.in-Err-Refused.refusal) (outside (g.S.Store.entries c.reply.new.store) unread (device_of g.W.Write.contents c.args.out.now) (device_of g.E.Write.contents c.reply.new.err)) (undone unread (device_of g.W.Write.contents c.args.out.now)) (went tt (outside (g.S.Store.entries c.reply.new.store) unread (device_of g.W.Write.contents c.print_answer-in-Err-Refused.new.out) (device_of g.E.Write.contents c.reply.new.err)) (printed, refl, refl, refl) (refl, refl)))
+
+pub returns-in-Err-Failed : goal.returns-in-Err-Failed
+returns-in-Err-Failed g c =
+    let undone = rw c.in-Err-Failed.field-0-is at c.in-Err-Failed.ensures in
+    λ unread. rw (sym c.is_skipped.ensures ∙ c.if-is_skipped.false) (stopped _ (undone unread (device_of g.W.Write.contents c.args.out.now)) refl)

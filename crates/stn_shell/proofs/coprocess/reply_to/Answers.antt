@@ -1,9 +1,38 @@
-use Rattle.std.proofs.Common.{refl, inl, inr}
+use Rattle.std.proofs.Common.{refl, sym, inl, inr, ◌∙◌}
+use Rattle.std.proofs.lemmas.Result.{err_from_is_err_and}
+use Rattle.stn_effects.specs.Effects.{stopped, went}
 use Rattle.clap.specs.Words.{kind_of}
+use Rattle.stn_effects.specs.Printing.{device_of}
+use Rattle.stn_shell.specs.Outside.{outside}
 use Rattle.stn_shell.proofs.coprocess.reply_to.Goals as goal
+
+pub returns-then-is_of_shell : goal.returns-then-is_of_shell
+returns-then-is_of_shell g c =
+    λ unread out. went c.in-Ok.asked (outside (g.S.Store.entries c.args.store.now) unread out (device_of g.E.Write.contents c.args.err.now)) ((((c.in-Ok.ensures.taken, c.in-Ok.ensures.found), sym c.is_of_shell.ensures ∙ c.if-is_of_shell.true), refl), refl, refl, refl)
+    (c.answer_with.ensures, refl, refl, refl)
+
+pub returns-in-Ok : goal.returns-in-Ok
+returns-in-Ok g c =
+    λ unread out. stopped _ (
+      inl (
+        inr (c.in-Ok.asked, (c.in-Ok.ensures.taken, c.in-Ok.ensures.found), sym c.is_of_shell.ensures ∙ c.if-is_of_shell.false, refl),
+        c.refused_at.ensures,
+      ),
+      refl,
+      refl,
+      refl,
+    ) refl
+
+pub returns-in_err-tell_mistake-in-Err-Words : goal.returns-in_err-tell_mistake-in-Err-Words
+returns-in_err-tell_mistake-in-Err-Words g c =
+    let p = err_from_is_err_and c.from_residual.result c.from_residual.ensures.1 in
+    rw (p.1, p.2) (λ unread out. stopped _ (inr (refl, c.in_err-tell_mistake-in-Err-Words.ensures.kept), refl, refl, refl) refl)
 
 pub returns-in-Err-Words : goal.returns-in-Err-Words
 returns-in-Err-Words g c =
     let refused = rw c.in-Err-Words.field-0-is at c.in-Err-Words.ensures.refused in
     let told = c.in_ok-tell_mistake-in-Err-Words.ensures.told in
-    (refl, inr (inl (inl (kind_of c.in-Err-Words.error, told.0, refused.1, told.1, told.2), c.refused_at-in-Err-Words.ensures)))
+    λ unread out. stopped _ (inl (inl (kind_of c.in-Err-Words.error, told.0, refused.1, told.1, told.2), c.refused_at-in-Err-Words.ensures), refl, refl, refl) refl
+
+pub returns : goal.returns
+returns g c = λ unread out. stopped _ (inr (refl, refl), refl, refl, refl) refl

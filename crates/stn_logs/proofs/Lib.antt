@@ -1,0 +1,5 @@
+mod Made
+mod Unsaved
+mod OneEnding
+mod Guarded
+mod Spelled

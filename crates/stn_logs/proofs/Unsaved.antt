@@ -1,0 +1,112 @@
+-- What a step of a command leaves; a command that gives no answer saves nothing.
+use Rattle.std.proofs.Common.{◌≡◌, ℕ, List, Option, Result, Ok, Err}
+use Rattle.stn_effects.specs.Effects.{Effect, Then, Makes, Reads, Gives}
+use Rattle.stn_effects.proofs.Endings.{ChangesNothing, KeepsIfStopped, StopsForLack, makes_same, reads_same, gives_same, gives_lacks, gives_never_stops, then_same, then_keeps, then_done, then_lacks}
+use Rattle.stn_lift.specs.PlanSource.{PlanSource, bare, files, base_of, steps_of}
+use Rattle.stn_records.specs.Content.{Content, no_content}
+use Rattle.stn_command.specs.Change.{change_refusal}
+use Rattle.stn_command.specs.Query.{IsSaid, IsQueryRefusal}
+use Rattle.stn_command.specs.Guarding.{IsGuarded}
+use Rattle.stn_command.specs.Named.{IsNamed, names_refusal}
+use Rattle.stn_command.specs.declared.names.Shown.{Shown}
+use Rattle.stn_line.specs.Explanations.Explained.{IsExplained}
+use Rattle.stn_line.specs.declared.words.Line.{Line}
+use Rattle.stn_site.specs.Held.{Held}
+use Rattle.stn_site.specs.Failures.{replica_failure}
+use Rattle.stn_store.specs.Log.{Log, log_held}
+use Rattle.stn_store.specs.Merging.{IsMergeRefusal}
+use Rattle.stn_store.specs.Store.{IsLack}
+use Rattle.stn_store.specs.Steps.{Entries, FindsFree, FindsText, LoadsLog, Saves, SavesNew}
+use Rattle.stn_logs.specs.Loosening.{HoldsLoosened, IsLooseningRefusal}
+use Rattle.stn_logs.specs.Words.{Asked, Update, change, guard, merge, make_bare, make, make_loose, explain, update, named_by, query, asked_of}
+use Rattle.stn_logs.specs.Commands.{Updated, based, SavesMade, MakesLog, FindsSource, IsChanged, IsMerged, IsUnguarded, Updates, nameless, ShowsNamed, IsExplainRefusal, DoesAsked, DoesLine}
+use Rattle.stn_refusal.specs.declared.failure.Failure.{Failure}
+use Rattle.stn_refusal.specs.declared.failure.Fault.{Fault}
+use Rattle.std.specs.Prelude.{option_map, codes, [], ◌∷◌, ◌++◌}
+
+module _ (Fails : Fault → Type 0) where
+  pub free_same : (name : List ℕ) → ChangesNothing (FindsFree Fails name)
+  free_same name old new (Ok done) is = is.0
+  free_same name old new (Err failure) is = is.0
+
+  pub text_same : (name : List ℕ) → ChangesNothing (FindsText Fails name)
+  text_same name old new (Ok text) is = is.0
+  text_same name old new (Err failure) is = is.0
+
+  pub load_same : (name : List ℕ) (site : ℕ) → ChangesNothing (LoadsLog Fails name site)
+  load_same name site old new (Ok held) is = is.0
+  load_same name site old new (Err failure) is = is.0
+
+  -- what may be saved, and the line that says so
+  module _ (name : List ℕ) (source : PlanSource) (state : Content) where
+    new_keeps : KeepsIfStopped (SavesNew Fails name (record { source = source; state = state }))
+    new_keeps old new failure is = is.0
+
+    pub made_keeps : KeepsIfStopped (SavesMade Fails name source state)
+    made_keeps = then_done (SavesNew Fails name (record { source = source; state = state })) (λ _. Gives (codes "made" ++ 10 ∷ []))
+        new_keeps (λ _. gives_never_stops (codes "made" ++ 10 ∷ []))
+
+  log_keeps : (name : List ℕ) (source : PlanSource) → KeepsIfStopped (MakesLog Fails name source)
+  log_keeps name source = then_keeps (Reads Fails (based (base_of source))) (λ made. SavesMade Fails name made no_content)
+      (reads_same Fails (based (base_of source))) (λ made. made_keeps name made no_content)
+
+  pub source_same : (domain plan : List ℕ) → ChangesNothing (FindsSource Fails domain plan)
+  source_same domain plan = then_same (FindsText Fails domain) (λ actions. Then (FindsText Fails plan) (λ steps. Gives (files actions steps)))
+      (text_same domain) (λ actions. then_same (FindsText Fails plan) (λ steps. Gives (files actions steps)) (text_same plan) (λ steps. gives_same (files actions steps)))
+
+  pub update_same : (asked : Update) (held : Held) → ChangesNothing (Updates Fails asked held)
+  update_same (change asked) held = makes_same Fails (IsChanged asked held) (λ cause. cause ≡ option_map replica_failure (change_refusal held asked))
+  update_same (merge other) held = then_same (LoadsLog Fails other held.site) (λ theirs. Makes Fails (IsMerged theirs held) (IsMergeRefusal held theirs))
+      (load_same other held.site) (λ theirs. makes_same Fails (IsMerged theirs held) (IsMergeRefusal held theirs))
+  update_same (guard owned) held = makes_same Fails (λ made. IsGuarded owned held made.held made.text) (IsUnguarded owned held)
+
+  -- the saving of a log, and then its answer
+  module _ (name : List ℕ) (made : Updated) where
+    abbrev pub SavesUpdated : Effect Entries (List ℕ)
+    SavesUpdated = Then (Saves Fails name (log_held made.held)) (λ _. Gives made.text)
+
+    save_keeps : KeepsIfStopped (Saves Fails name (log_held made.held))
+    save_keeps old new failure is = is.0
+
+    pub saved_keeps : KeepsIfStopped SavesUpdated
+    saved_keeps = then_done (Saves Fails name (log_held made.held)) (λ _. Gives made.text) save_keeps (λ _. gives_never_stops made.text)
+
+    save_lacks : StopsForLack Fails (Saves Fails name (log_held made.held))
+    save_lacks old new failure is = is.1
+
+    pub saved_lacks : StopsForLack Fails SavesUpdated
+    saved_lacks = then_lacks (Saves Fails name (log_held made.held)) (λ _. Gives made.text) Fails save_lacks (λ _. gives_lacks Fails made.text)
+
+  shows_same : (what : Shown) (plan : List ℕ) (held : Held) → ChangesNothing (ShowsNamed Fails what plan held)
+  shows_same what plan held = then_same (Reads Fails (nameless held.source))
+      (λ _. Then (FindsText Fails plan) (λ names. Makes Fails (IsNamed what names held) (λ cause. cause ≡ names_refusal held names)))
+      (reads_same Fails (nameless held.source)) (λ _. then_same (FindsText Fails plan)
+      (λ names. Makes Fails (IsNamed what names held) (λ cause. cause ≡ names_refusal held names)) (text_same plan)
+      (λ names. makes_same Fails (IsNamed what names held) (λ cause. cause ≡ names_refusal held names)))
+
+  asked_keeps : (asked : Asked) → KeepsIfStopped (DoesAsked Fails asked)
+  asked_keeps (make_bare log steps) = then_keeps (FindsFree Fails log.name.now) (λ _. MakesLog Fails log.name.now (bare steps))
+      (free_same log.name.now) (λ _. log_keeps log.name.now (bare steps))
+  asked_keeps (make log domain plan) = then_keeps (FindsFree Fails log.name.now)
+      (λ _. Then (FindsSource Fails domain plan) (λ source. MakesLog Fails log.name.now source)) (free_same log.name.now)
+      (λ _. then_keeps (FindsSource Fails domain plan) (λ source. MakesLog Fails log.name.now source) (source_same domain plan)
+      (λ source. log_keeps log.name.now source))
+  asked_keeps (make_loose log domain plan slack robust) = then_keeps (FindsFree Fails log.name.now)
+      (λ _. Then (FindsSource Fails domain plan) (λ source. Then (Makes Fails (HoldsLoosened robust source slack log.site) (IsLooseningRefusal robust source slack)) (λ state. SavesMade Fails log.name.now (bare (steps_of source)) state)))
+      (free_same log.name.now) (λ _. then_keeps (FindsSource Fails domain plan)
+      (λ source. Then (Makes Fails (HoldsLoosened robust source slack log.site) (IsLooseningRefusal robust source slack)) (λ state. SavesMade Fails log.name.now (bare (steps_of source)) state))
+      (source_same domain plan) (λ source. then_keeps (Makes Fails (HoldsLoosened robust source slack log.site) (IsLooseningRefusal robust source slack))
+      (λ state. SavesMade Fails log.name.now (bare (steps_of source)) state)
+      (makes_same Fails (HoldsLoosened robust source slack log.site) (IsLooseningRefusal robust source slack))
+      (λ state. made_keeps log.name.now (bare (steps_of source)) state)))
+  asked_keeps (explain word) = λ old new failure is. makes_same Fails (IsExplained word) (IsExplainRefusal word) old new (Err failure) is
+  asked_keeps (update log asked) = then_keeps (LoadsLog Fails log.name.now log.site) (λ held. Then (Updates Fails asked held) (λ made. SavesUpdated log.name.now made))
+      (load_same log.name.now log.site) (λ held. then_keeps (Updates Fails asked held) (λ made. SavesUpdated log.name.now made)
+      (update_same asked held) (λ made. saved_keeps log.name.now made))
+  asked_keeps (named_by log what plan) = then_keeps (LoadsLog Fails log.name.now log.site) (λ held. ShowsNamed Fails what plan held)
+      (load_same log.name.now log.site) (λ held old new failure. shows_same what plan held old new (Err failure))
+  asked_keeps (query log asked) = then_keeps (LoadsLog Fails log.name.now log.site) (λ held. Makes Fails (IsSaid asked held) (IsQueryRefusal asked held))
+      (load_same log.name.now log.site) (λ held old new failure. makes_same Fails (IsSaid asked held) (IsQueryRefusal asked held) old new (Err failure))
+
+pub line_keeps : (Fails : Fault → Type 0) (line : Line) (old new : Entries) (failure : Failure) → DoesLine Fails line old new (Err failure) → new ≡ old
+line_keeps Fails line = then_keeps (Reads Fails (asked_of line)) (λ asked. DoesAsked Fails asked) (reads_same Fails (asked_of line)) (λ asked. asked_keeps Fails asked)

@@ -1,0 +1,26 @@
+use Rattle.std.proofs.Common.{refl, ap, inl, ◌∙◌}
+use Rattle.std.proofs.lemmas.Result.{err_from_is_err_and}
+use Rattle.stn_site.specs.Held.{next_id}
+use Rattle.stn_command.specs.Change.{made_text}
+use Rattle.stn_store.proofs.Failed.{take_failed}
+use Rattle.stn_logs.proofs.changes.change_plan.Goals as goal
+
+pub returns-in_err-made : goal.returns-in_err-made
+returns-in_err-made g c =
+    let p = err_from_is_err_and c.from_residual.result c.from_residual.ensures.1 in
+    rw (p.1, p.2) (take_failed _ _ c.in_err-made.ensures.fault)
+
+pub returns-in_err-print : goal.returns-in_err-print
+returns-in_err-print g c =
+    let p = err_from_is_err_and c.from_residual-in_err-print.result c.from_residual-in_err-print.ensures.1 in
+    rw (p.1, p.2) (inl refl)
+
+pub returns : goal.returns
+returns g c = (
+  record {
+    id = next_id c.args.plan.now;
+    left = c.in_ok-made.ensures.left;
+    line = c.in_ok-print.ensures.printed ∙ rw c.new-text.ensures.items (ap made_text c.in_ok-made.ensures.made);
+  },
+  c.in_ok-made.ensures.accepted,
+)

@@ -1,0 +1,18 @@
+use Rattle.std.proofs.Common.{refl, ap, inl, inr, ⊎_elim}
+use Rattle.std.proofs.lemmas.Result.{err_from_is_err_and}
+use Rattle.stn_effects.specs.Effects.{stopped, went}
+use Rattle.stn_lift.specs.PlanSource.{plan_source}
+use Rattle.stn_store.proofs.Lacks.{lack_of_memory}
+use Rattle.stn_logs.specs.Commands.{based}
+use Rattle.stn_logs.proofs.Made.{saved_as}
+use Rattle.stn_logs.proofs.commands.make.Goals as goal
+
+pub returns-in_err-plan : goal.returns-in_err-plan
+returns-in_err-plan g c =
+    let p = err_from_is_err_and c.from_residual.result c.from_residual.ensures.1 in
+    rw (p.1, p.2) (stopped _ (refl, ⊎_elim (λ memory. inr (lack_of_memory _ _ memory)) inl c.in_err-plan.ensures.refused) refl)
+
+pub returns : goal.returns
+returns g c =
+    let is = c.in_ok-plan.ensures in
+    went (plan_source c.args.source.now) _ (refl, ap based is.accepted) (saved_as _ _ _ _ _ _ _ _ _ is.source is.empty c.save_made-text.ensures)

@@ -1,0 +1,17 @@
+use Rattle.std.proofs.Common.{refl}
+use Rattle.std.proofs.lemmas.Result.{err_from_is_err_and}
+use Rattle.stn_effects.specs.Effects.{stopped, went}
+use Rattle.stn_logs.proofs.commands.source_of_texts.Goals as goal
+
+pub returns-in_err-domain : goal.returns-in_err-domain
+returns-in_err-domain g c =
+    let p = err_from_is_err_and c.from_residual.result c.from_residual.ensures.1 in
+    rw (p.1, p.2) (stopped _ (refl, c.in_err-domain.ensures.failed) refl)
+
+pub returns-in_err-plan : goal.returns-in_err-plan
+returns-in_err-plan g c =
+    let p = err_from_is_err_and c.from_residual-in_err-plan.result c.from_residual-in_err-plan.ensures.1 in
+    rw (p.1, p.2) (went _ _ (refl, c.in_ok-domain.ensures.spelled) (stopped _ (refl, c.in_err-plan.ensures.failed) refl))
+
+pub returns : goal.returns
+returns g c = went _ _ (refl, c.in_ok-domain.ensures.spelled) (went _ _ (refl, c.in_ok-plan.ensures.spelled) (refl, refl))

@@ -1,0 +1,27 @@
+use Rattle.std.proofs.Common.{refl}
+use Rattle.std.proofs.lemmas.Result.{err_from_is_err_and}
+use Rattle.stn_effects.specs.Effects.{stopped, went}
+use Rattle.stn_logs.proofs.commands.update_log.Goals as goal
+
+pub returns-in_err-ours : goal.returns-in_err-ours
+returns-in_err-ours g c =
+    let p = err_from_is_err_and c.from_residual.result c.from_residual.ensures.1 in
+    rw (p.1, p.2) (stopped _ c.in_err-ours.ensures.loaded refl)
+
+pub returns-in_err-text : goal.returns-in_err-text
+returns-in_err-text g c =
+    let p = err_from_is_err_and c.from_residual-in_err-text.result c.from_residual-in_err-text.ensures.1 in
+    rw (p.1, p.2) (went _ _ c.in_ok-ours.ensures.loaded (stopped _ c.in_err-text.ensures refl))
+
+pub returns-in_err-saved : goal.returns-in_err-saved
+returns-in_err-saved g c =
+    let p = err_from_is_err_and c.from_residual-in_err-saved.result c.from_residual-in_err-saved.ensures.1 in
+    rw (p.1, p.2) (went _ _ c.in_ok-ours.ensures.loaded (went _ _ c.in_ok-text.ensures
+    (stopped _ (c.in_err-saved.ensures.kept, c.in_err-saved.ensures.failed) refl)))
+
+pub learn-requires : goal.learn-requires
+learn-requires g c = c.in_ok-saved.ensures.spelled
+
+pub returns : goal.returns
+returns g c = went _ _ c.in_ok-ours.ensures.loaded (went _ _ c.in_ok-text.ensures
+    (went tt _ (rw c.in_ok-ours.ensures.named at c.in_ok-saved.ensures.saved) (refl, refl)))

@@ -1,0 +1,123 @@
+//! What a command makes of a plan.
+
+ghost use Rattle.std.specs.Prelude.{◌≡◌, ◌⊎◌, Some, None, option_map, Ok, Err, OnOk, IfOk, IfErr, MatchResult};
+ghost use Rattle.stn_effects.specs.Effects.{seen};
+ghost use Rattle.stn_command.specs.Change.{change_refusal};
+ghost use Rattle.stn_command.specs.Guarding.{guard_text, IsGuarded};
+ghost use Rattle.stn_lift.specs.PlanSource.{plan_source, base_of};
+ghost use Rattle.stn_records.specs.Content.{no_content};
+ghost use Rattle.stn_site.specs.Failures.{replica_failure};
+ghost use Rattle.stn_logs.specs.Commands.{based, updated, IsChanged, IsUnguarded, Updates};
+ghost use Rattle.stn_logs.specs.Words.{merge, seen_update};
+ghost use Rattle.stn_refusal.specs.declared.failure.Failure.TheVariants.{Failed};
+ghost use Rattle.stn_refusal.specs.declared.failure.Fault.TheVariants as lack;
+
+use crate::words::Update;
+use std::alloc::Allocator;
+use std::rc::Rc;
+use stn_command::{Change, make_change, print_guard};
+use stn_guard::{OwnedSteps, add_guard};
+use stn_lift::{Base, Source};
+use stn_records::{Id, Site};
+use stn_refusal::Failure;
+use stn_site::SitePlan;
+use stn_store::{Store, take_in};
+use stn_time::Memory;
+
+/// A site's copy of the plan of a source. It holds nothing yet.
+pub fn opened<A: Allocator + Copy>(
+    alloc: A,
+    site: Site,
+    source: &Source<A>,
+) -> Result<SitePlan<A>, Failure>
+    ensures source { IfOk result (λ plan. plan.source ≡ plan_source source.now) }
+    ensures empty { IfOk result (λ plan. plan.state ≡ no_content) }
+    ensures accepted { OnOk result (base_of (plan_source source.now) ≡ Ok (plan_source source.now)) }
+    ensures refused { IfErr result (λ failure. (failure ≡ Failed lack.Memory) ⊎ (based (base_of (plan_source source.now)) ≡ Err failure)) }
+{
+    let base = Base::from_source(alloc, source)?;
+    let base = Rc::new(alloc, base)?;
+    Ok(SitePlan::new(alloc, site, base))
+}
+
+/// Makes an update of a site's copy of a plan: the text that says so. Where memory runs out, the copy may be updated by then.
+pub fn make_update<S: Store<A>, A: Allocator + Copy>(
+    alloc: A,
+    store: &S,
+    plan: &mut SitePlan<A>,
+    asked: &Update<'_, A>,
+) -> Result<Vec<u8, A>, Failure>
+    ensures { Updates S.fails (seen_update asked.now) plan.old (S.entries store.now) (S.entries store.now) (seen (λ text. updated plan.new text.items) result) }
+{
+    match asked {
+        Update::Change(asked) => change_plan(alloc, plan, asked),
+        Update::Merge(other) => merge_log(alloc, store, plan, *other),
+        Update::Guard(owned) => guard_plan(alloc, plan, owned),
+    }
+}
+
+// Makes a change: the line that says what was made.
+fn change_plan<A: Allocator + Copy>(
+    alloc: A,
+    plan: &mut SitePlan<A>,
+    asked: &Change,
+) -> Result<Vec<u8, A>, Failure>
+    ensures { MatchResult result (λ text. IsChanged asked.now plan.old (updated plan.new text.items) × (change_refusal plan.old asked.now ≡ None))
+        (λ failure. (failure ≡ Failed lack.Memory) ⊎ (Some failure ≡ option_map replica_failure (change_refusal plan.old asked.now))) }
+{
+    let made = make_change(plan, asked)?;
+    let mut text = Vec::new(alloc);
+    made.print(&mut text)?;
+    Ok(text)
+}
+
+// Takes in all that another log of the same plan says.
+fn merge_log<S: Store<A>, A: Allocator + Copy>(
+    alloc: A,
+    store: &S,
+    plan: &mut SitePlan<A>,
+    other: &str,
+) -> Result<Vec<u8, A>, Failure>
+    ensures { Updates S.fails (merge other.now) plan.old (S.entries store.now) (S.entries store.now) (seen (λ text. updated plan.new text.items) result) }
+{
+    let theirs = store.load(other, plan.site())?;
+    take_in(plan, &theirs)?;
+    drop(theirs);
+    Ok(copied(alloc, b"merged\n")?)
+}
+
+// Adds the guard of what a site holds: the lines that say which records it has.
+fn guard_plan<A: Allocator + Copy>(
+    alloc: A,
+    plan: &mut SitePlan<A>,
+    owned: &[OwnedSteps],
+) -> Result<Vec<u8, A>, Failure>
+    ensures { MatchResult result (λ text. IsGuarded owned.now plan.old plan.new text.items × IsUnguarded owned.now plan.old None)
+        (λ failure. (failure ≡ Failed lack.Memory) ⊎ IsUnguarded owned.now plan.old (Some failure)) }
+{
+    let ids = add_guard(plan, owned)?;
+    let text = lines_of(alloc, &ids);
+    drop(ids);
+    Ok(text?)
+}
+
+// The lines that say which records a guard has.
+fn lines_of<A: Allocator>(alloc: A, ids: &Option<Vec<Id, A>>) -> Result<Vec<u8, A>, Memory>
+    ensures { IfOk result (λ text. text.items ≡ guard_text (option_map (λ all. all.items) ids.now)) }
+{
+    let mut text = Vec::new(alloc);
+    match ids {
+        Some(ids) => print_guard(Some(ids), &mut text)?,
+        None => print_guard(None, &mut text)?,
+    }
+    Ok(text)
+}
+
+/// A copy of a text.
+pub fn copied<A: Allocator>(alloc: A, line: &[u8]) -> Result<Vec<u8, A>, Memory>
+    ensures { IfOk result (λ text. text.items ≡ line.now) }
+{
+    let mut text = Vec::new(alloc);
+    text.extend_from_slice(line)?;
+    Ok(text)
+}

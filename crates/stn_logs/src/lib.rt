@@ -1,0 +1,14 @@
+//! The commands on logs: what each changes or says, by the words of its command line.
+#![tactic(auto)]
+
+pub use commands::{answer, answer_with};
+pub use keeping::{Kept, find_log};
+pub use laws::{no_answer_nothing_saved, one_ending};
+
+mod changes;
+mod commands;
+mod explaining;
+mod keeping;
+mod laws;
+mod loosening;
+mod words;

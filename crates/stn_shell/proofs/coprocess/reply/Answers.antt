@@ -1,0 +1,29 @@
+use Rattle.std.proofs.Common.{ℕ, List, map, refl, ap, ◌∙◌, inl, inr}
+use Rattle.std.specs.Prelude.{decimal}
+use Rattle.std.proofs.lemmas.Result.{err_from_is_err_and}
+use Rattle.stn_effects.specs.Effects.{stopped, went}
+use Rattle.stn_effects.specs.Printing.{device_of}
+use Rattle.stn_text.specs.Lines.{words_of}
+use Rattle.stn_shell.specs.Coprocess.{line_words}
+use Rattle.stn_shell.specs.Outside.{outside}
+use Rattle.stn_shell.proofs.coprocess.reply.Goals as goal
+
+pub returns-in_err-words : goal.returns-in_err-words
+returns-in_err-words g c =
+    let p = err_from_is_err_and c.from_residual.result c.from_residual.ensures.1 in
+    rw (p.1, p.2) (λ unread out. stopped _ (inr (refl, refl), refl, refl, refl) refl)
+
+pub returns-in-Some : goal.returns-in-Some
+returns-in-Some g c =
+    let words = rw c.in-Some.is at c.in_ok-words.ensures.words in
+    let texts = rw c.in-Some.is at c.in_ok-words.ensures.texts in
+    let spelled = c.format-site.ensures.text ∙ ap decimal c.number.ensures.value in
+    let all = words ∙ ap (λ (site : List ℕ). line_words c.args.log.now.name.now site (words_of c.args.text.now)) spelled in
+    λ unread out. went (map (λ word. word.now) c.in-Some.words.items)
+    (outside (g.S.Store.entries c.args.store.now) unread out (device_of g.E.Write.contents c.args.err.now)) ((texts, all, refl), refl, refl, refl)
+    (rw c.deref.ensures.value at (c.reply_to.ensures unread out))
+
+pub returns-in-None : goal.returns-in-None
+returns-in-None g c =
+    let none = rw c.in-None.is at c.in_ok-words.ensures.none in
+    λ unread out. stopped _ (inl (none refl, c.tell.ensures, c.refused_at.ensures), refl, refl, refl) refl

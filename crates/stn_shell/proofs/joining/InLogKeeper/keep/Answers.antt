@@ -1,4 +1,0 @@
-use Rattle.stn_shell.proofs.joining.InLogKeeper.keep.Goals as goal
-
-pub returns : goal.returns
-returns g c = c.keep_join.ensures

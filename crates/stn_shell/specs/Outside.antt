@@ -1,0 +1,40 @@
+-- What there is outside of a program, and how effects on parts of it are effects on all.
+use Rattle.std.specs.Prelude.{◌≡◌, ◌⊎◌, ℕ, Ok, Err}
+use Rattle.stn_effects.specs.Effects.{Effect}
+use Rattle.stn_effects.specs.Printing.{Device, Tells}
+use Rattle.stn_store.specs.Steps.{Entries}
+use Rattle.stn_refusal.specs.declared.failure.Failure.{Failure}
+
+-- what its store holds, what is left to read, and what it wrote
+pub record Outside : Type 0 where
+  pub entries : Entries
+  pub unread : Device
+  pub out : Device
+  pub err : Device
+
+abbrev pub outside : Entries → Device → Device → Device → Outside
+outside entries unread out err = record { entries = entries; unread = unread; out = out; err = err }
+
+-- an effect on the store alone
+abbrev pub InStore : {X : Type 0} → Effect Entries X → Effect Outside X
+InStore Does old new ended = Does old.entries new.entries ended × (new.unread ≡ old.unread) × (new.out ≡ old.out) × (new.err ≡ old.err)
+
+-- on the output alone
+abbrev pub OnOutput : {X : Type 0} → Effect Device X → Effect Outside X
+OnOutput Does old new ended = Does old.out new.out ended × (new.entries ≡ old.entries) × (new.unread ≡ old.unread) × (new.err ≡ old.err)
+
+-- on the standard error alone
+abbrev pub OnError : {X : Type 0} → Effect Device X → Effect Outside X
+OnError Does old new ended = Does old.err new.err ended × (new.entries ≡ old.entries) × (new.unread ≡ old.unread) × (new.out ≡ old.out)
+
+-- why nothing further was done is told
+pub record TellsWhy (failure : Failure) (old new : Outside) : Type 0 where
+  pub told : Tells failure old.out new.out old.err new.err
+  pub entries : new.entries ≡ old.entries
+  pub unread : new.unread ≡ old.unread
+
+-- a program comes to its end, with a status; or it stops, tells why, and its status is 1
+abbrev pub Ends : Effect Outside ℕ → Outside → Outside → ℕ → Type 0
+Ends Does old new status =
+    Does old new (Ok status)
+    ⊎ ((failure : Failure) × (between : Outside) × Does old between (Err failure) × TellsWhy failure between new × (status ≡ 1))
