@@ -1,0 +1,10 @@
+pub mod AxisEnd
+pub mod AxisGaps
+pub mod Drawing
+pub mod Escaping
+pub mod Grown
+pub mod OnePicture
+pub mod Order
+pub mod Shown
+pub mod Sums
+pub mod Times

@@ -1,0 +1,13 @@
+use Rattle.std.proofs.Common.{◌++◌, append_assoc, ap, ◌∙◌}
+use Rattle.std.proofs.lemmas.Result.{IfOk-equal}
+use Rattle.stn_picture.specs.{Frame.counts_text, declared.parts.Part.TheVariants.Done, declared.parts.Part.TheVariants.Running}
+use Rattle.stn_picture.proofs.Grown.{then, last}
+use Rattle.stn_picture.proofs.frame.append_summary.Goals as goal
+
+pub returns : goal.returns
+returns g c =
+    let out = c.args.out.now.items in
+    let counts = c.in_ok-append_counts.ensures ∙ (λ i. out ++ counts_text (c.count_of.ensures i) c.args.chart.now.steps (c.count_of-2.ensures i)) in
+    let overdue = then out _ _ counts c.in_ok-append_overdue.ensures in
+    let now = then out _ _ overdue c.in_ok-append_now.ensures in
+    IfOk-equal c.extend_from_slice.result _ _ _ (last c.extend_from_slice.result out _ _ now c.extend_from_slice.ensures.items) (simp append_assoc)

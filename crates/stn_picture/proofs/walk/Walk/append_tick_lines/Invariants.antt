@@ -1,0 +1,7 @@
+use Rattle.std.proofs.Common.{◌≡◌, ◌++◌}
+use Rattle.std.specs.List.{flat_map, range_with_len}
+use Rattle.stn_picture.specs.{Walk.tick_line, WalkSeen.seen_walk}
+use Rattle.stn_picture.proofs.walk.Walk.append_tick_lines.Given as goal
+
+abbrev pub invariant-loop-tick : goal.invariant-loop-tick
+invariant-loop-tick g l = l.out.items ≡ l.initial.out.items ++ flat_map (tick_line (seen_walk l.self)) (range_with_len 0 l.tick)

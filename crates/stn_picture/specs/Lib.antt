@@ -1,0 +1,12 @@
+pub mod Axis
+pub mod Chart
+pub mod Escape
+pub mod Frame
+pub mod Parts
+pub mod Picture
+pub mod Places
+pub mod Rows
+pub mod Seen
+pub mod Style
+pub mod Walk
+pub mod WalkSeen

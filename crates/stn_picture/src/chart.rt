@@ -1,0 +1,69 @@
+//! What is drawn of a plan that has a schedule.
+ghost use Rattle.std.specs.Prelude.{◌≡◌, ◌+◌, ◌≤◌, ◌++◌, map, IfOk};
+ghost use Rattle.stn_lift.specs.PlanSource.{base_bounds};
+ghost use Rattle.stn_site.specs.Bounds.{live_bounds};
+ghost use Rattle.stn_site.specs.Report.{done_events};
+ghost use Rattle.stn_picture.specs.Chart.{chart_of, seen_look};
+ghost use Rattle.stn_picture.specs.Frame.{plan_text};
+ghost use Rattle.stn_picture.specs.Seen.{overdue_of};
+
+use crate::axis::{gap_of, gaps_in};
+use crate::floors::{Drawn, overdue_of};
+use crate::frame::append_plan;
+use crate::look::{Chart, Look};
+use crate::tables::{far_of, holders_in, rows_in};
+use std::alloc::Allocator;
+use stn_site::SitePlan;
+use stn_time::Memory;
+
+/// The picture of a plan with these windows.
+pub fn chart_text<'x, A: Allocator + Copy>(
+    plan: &SitePlan<A>,
+    look: &'x Look<'x>,
+    names: &'x [Vec<u8, A>],
+    drawn: &'x Drawn<A>,
+) -> Result<Vec<u8, A>, Memory>
+    ensures { IfOk result (λ text. text.items
+        ≡ plan_text (chart_of (seen_look look.now) (map (λ name. name.items) names.now) plan.now.source plan.now.state drawn.now.windows.items (overdue_of plan.now.source plan.now.state look.now.present drawn.now))) }
+{
+    let base = plan.base();
+    let live = plan.live_bounds()?;
+    let done = done_events(plan)?;
+    let rows = rows_in(plan.alloc(), &drawn.windows, base.steps())?;
+    let holders = holders_in(
+        plan.alloc(),
+        &drawn.windows,
+        base.steps(),
+        base.bounds(),
+        &live,
+    )?;
+    let far = far_of(&drawn.windows, base.events(), look.present);
+    let gap = gap_of(0, far);
+    let chart = Chart {
+        look,
+        names,
+        steps: base.steps(),
+        windows: &drawn.windows,
+        done: &done,
+        rows: &rows,
+        holders: &holders,
+        overdue: overdue_of(plan, drawn, look.present),
+        gap,
+        ticks: gaps_in(gap, far),
+    };
+    let mut text = Vec::new(plan.alloc());
+    append_plan(&mut text, &chart)?;
+    Ok(text)
+}
+
+// For the origin and each event, whether a live record says that it is done.
+fn done_events<A: Allocator + Copy>(plan: &SitePlan<A>) -> Result<Vec<bool, A>, Memory>
+    ensures { IfOk result (λ done. done.items ≡ done_events plan.now.source plan.now.state) }
+{
+    let flags = plan.done_flags();
+    let mut done = Vec::new(plan.alloc());
+    for event in 0..plan.base().events() + 1 {
+        done.push(flags[usize::from(event)])?;
+    }
+    Ok(done)
+}

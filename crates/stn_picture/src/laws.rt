@@ -1,0 +1,45 @@
+ghost use Rattle.std.specs.Prelude.{◌≡◌, ◌≢◌, ◌+◌, ◌*◌, ◌≤◌, true, false, ℕ, ℤ, List, Option};
+ghost use Rattle.std.specs.List.{list_all};
+ghost use Rattle.stn_lift.specs.PlanSource.{PlanSource};
+ghost use Rattle.stn_records.specs.Content.{Content};
+ghost use Rattle.stn_picture.specs.Axis.{gap_of, gaps_in};
+ghost use Rattle.stn_picture.specs.Chart.{Look, far_of, is_open_in, latest_in, row_in, soonest_in};
+ghost use Rattle.stn_picture.specs.Escape.{are_named, is_plain, shown};
+ghost use Rattle.stn_picture.specs.Picture.{IsPicture};
+ghost use Rattle.stn_picture.specs.Places.{height_of, line_left, line_width, place_on, row_height, row_top};
+
+use stn_conflict::{negative_cycle_is_conflict, one_named_cycle};
+
+/// The law that a plan and a state have one picture, drawn in one way with the same names: sites that hold the same print the
+/// same.
+pub fn one_picture()
+    ensures { (look : Look) → (names : List (List ℕ)) → (source : PlanSource) → (state : Content) → (text other : List ℕ)
+        → IsPicture look names source state text → IsPicture look names source state other → text ≡ other }
+{
+    one_named_cycle();
+    negative_cycle_is_conflict();
+}
+
+/// The law that a text is shown without a `<`, `>` or `"` and by bytes that ASCII prints, and that each `&` in it begins one
+/// of the names `&amp;`, `&lt;`, `&gt;` and `&quot;`.
+pub fn texts_are_escaped()
+    ensures { (text : List ℕ) → (list_all is_plain (shown text) ≡ true) × (are_named (shown text) ≡ true) }
+{}
+
+/// The law that each of so many steps has a row of its own, and that each row lies within the picture.
+pub fn steps_have_rows()
+    ensures apart { (windows : List (ℤ × ℤ)) → (steps one other : ℕ) → 1 ≤ one → one ≤ steps → 1 ≤ other → other ≤ steps → one ≢ other
+        → row_in windows steps one ≢ row_in windows steps other }
+    ensures within { (windows : List (ℤ × ℤ)) → (steps step : ℕ) → 1 ≤ step → step ≤ steps
+        → row_top (row_in windows steps step) + row_height ≤ height_of steps }
+{}
+
+/// The law that each event's soonest time, and its latest time unless it has none, stand on the axis.
+pub fn times_are_on_the_axis()
+    ensures soonest { (windows : List (ℤ × ℤ)) → (events event : ℕ) → (now : Option ℤ) → 1 ≤ event → event ≤ events
+        → soonest_in windows event ≤ latest_in windows event
+        → place_on (gap_of 0 (far_of windows events now) * gaps_in (gap_of 0 (far_of windows events now)) (far_of windows events now)) (soonest_in windows event) ≤ line_left + line_width }
+    ensures latest { (windows : List (ℤ × ℤ)) → (events event : ℕ) → (now : Option ℤ) → 1 ≤ event → event ≤ events
+        → is_open_in windows event ≡ false
+        → place_on (gap_of 0 (far_of windows events now) * gaps_in (gap_of 0 (far_of windows events now)) (far_of windows events now)) (latest_in windows event) ≤ line_left + line_width }
+{}
