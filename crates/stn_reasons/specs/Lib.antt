@@ -1,0 +1,4 @@
+pub mod Absent
+pub mod Refused
+pub mod Refusing
+pub mod Told

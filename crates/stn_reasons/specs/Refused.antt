@@ -1,0 +1,86 @@
+-- The word that refuses a command: the first that says nothing, in the order in which they are read.
+use Rattle.std.specs.Prelude.{ℕ, pos, int_lt, ◌++◌, List, [], ◌∷◌, map, Option, Some, None, Result, Ok, Err, if◌then◌else◌}
+use Rattle.std.specs.{Borrow.Bor, Option.option_or}
+use Rattle.stn_refusal.specs.declared.failure.Failure.{Failure}
+use Rattle.stn_line.specs.declared.words.EventChoice.{EventChoice}
+use Rattle.stn_line.specs.declared.words.Line.{Line}
+use Rattle.stn_line.specs.declared.words.Line.TheVariants.{Loosen, Add, Amend, Withdraw, Done, Guard, Next, Ready, Rehearse, Why, Check}
+use Rattle.stn_command.specs.{Words.and_then, Words.event_of, Words.id_of, Words.named, Words.no_such_word, Words.time_read, Steps.steps_read, Steps.all_owned}
+use Rattle.stn_reasons.specs.declared.refused.Form.{Form}
+use Rattle.stn_reasons.specs.declared.refused.Form.TheVariants as form
+use Rattle.stn_reasons.specs.declared.refused.RefusedWord.{RefusedWord as RefusedWordOfCode}
+
+-- a word that refuses a command, what it should be, and the refusal
+pub record RefusedWord : Type 0 where
+  pub word : List ℕ
+  pub form : Form
+  pub failure : Failure
+
+-- the same, as the code has it
+abbrev pub seen : RefusedWordOfCode → RefusedWord
+seen refused = record { word = refused.word.now; form = refused.form; failure = refused.failure }
+
+-- a word refuses a command where it says nothing
+abbrev pub unread : {X : Type 0} → List ℕ → Form → Result X Failure → Option RefusedWord
+unread word form (Ok value) = None
+unread word form (Err failure) = Some (record { word = word; form = form; failure = failure })
+
+abbrev pub no_event : List ℕ → Option RefusedWord
+no_event word = unread word form.Event (named (event_of word))
+
+abbrev pub no_id : List ℕ → Option RefusedWord
+no_id word = unread word form.Id (named (id_of word))
+
+abbrev pub no_time : List ℕ → Option RefusedWord
+no_time word = unread word form.Time (time_read word)
+
+abbrev pub no_steps : List ℕ → Option RefusedWord
+no_steps word = unread word form.Steps (steps_read word)
+
+-- a time below 0 is no tolerance
+abbrev pub no_tolerance : List ℕ → Option RefusedWord
+no_tolerance word = unread word form.Tolerance (and_then (time_read word) (λ time. if int_lt time (pos 0) then Err no_such_word else Ok time))
+
+-- a word that may be left out refuses nothing then
+abbrev pub where_given : (List ℕ → Option RefusedWord) → Option (Bor (List ℕ)) → Option RefusedWord
+where_given test None = None
+where_given test (Some word) = test word.now
+
+-- the words of two tolerances: both are times, and then neither is below 0
+abbrev pub no_tolerances : Option (Bor (List ℕ)) → Option (Bor (List ℕ)) → Option RefusedWord
+no_tolerances early late =
+    option_or (where_given no_time early) (option_or (where_given no_time late)
+    (option_or (where_given no_tolerance early) (where_given no_tolerance late)))
+
+-- the words of a bound: its events, and then its sides
+abbrev pub no_bound : List ℕ → List ℕ → Option (Bor (List ℕ)) → Option (Bor (List ℕ)) → Option RefusedWord
+no_bound from to lo hi = option_or (no_event from) (option_or (no_event to) (option_or (where_given no_time lo) (where_given no_time hi)))
+
+-- the steps that are chosen, and then the time now
+abbrev pub no_choice : EventChoice → List ℕ → Option RefusedWord
+no_choice choice now = option_or (where_given no_steps choice.steps) (no_time now)
+
+-- the first of the words that is no time
+abbrev pub no_times : List (List ℕ) → Option RefusedWord
+no_times [] = None
+no_times (word ∷ rest) = option_or (no_time word) (no_times rest)
+
+-- the first word of `--own` that, after those before it, gives no steps to a site: it has another form, or names a step of theirs
+abbrev pub no_owned : List (List ℕ) → List (List ℕ) → Option RefusedWord
+no_owned before [] = None
+no_owned before (word ∷ rest) = option_or (unread word form.Owned (all_owned (before ++ word ∷ []))) (no_owned (before ++ word ∷ []) rest)
+
+-- the word that refuses a command, where one does
+abbrev pub word_refused : Line → Option RefusedWord
+word_refused (Loosen log domain plan early late robust) = no_tolerances early late
+word_refused (Add log from to lo hi) = no_bound from.now to.now lo hi
+word_refused (Amend log id from to lo hi) = option_or (no_id id.now) (no_bound from.now to.now lo hi)
+word_refused (Withdraw log id) = no_id id.now
+word_refused (Done log event time) = option_or (no_event event.now) (no_time time.now)
+word_refused (Guard log owned) = no_owned [] (map (λ word. word.now) owned.items)
+word_refused (Next log now choice) = no_choice choice now.now
+word_refused (Ready log now choice) = no_choice choice now.now
+word_refused (Rehearse log now choice) = no_choice choice now.now
+word_refused (Why log event to) = option_or (no_event event.now) (where_given no_event to)
+word_refused (Check log times) = no_times (map (λ word. word.now) times.items)
+word_refused other = None

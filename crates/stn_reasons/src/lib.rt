@@ -1,0 +1,12 @@
+//! Which word of a command refuses it, and what the word should be, as people read it.
+#![tactic(auto)]
+
+pub use absent::absent_event;
+pub use laws::told_word_refuses;
+pub use refused::{Form, RefusedWord, refused_word};
+pub use telling::{append_counts, append_refused_word};
+
+mod absent;
+mod laws;
+mod refused;
+mod telling;

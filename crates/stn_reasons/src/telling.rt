@@ -1,0 +1,109 @@
+ghost use Rattle.std.specs.Prelude.{◌≡◌, ◌++◌, OnOk, OnErr, decimal};
+ghost use Rattle.stn_reasons.specs.Refused.{seen};
+ghost use Rattle.stn_reasons.specs.Told as spec;
+
+use crate::refused::{Form, RefusedWord};
+use itoa::Buffer;
+use std::alloc::Allocator;
+use stn_refusal::{Code, Failure};
+use stn_text::append_decimal;
+use stn_time::Memory;
+
+/// Appends the line for a word that refuses its command: the word, and what it is instead of what it should be. An event of the
+/// plan is one of so many steps, where that is known. If memory runs out, it appends nothing.
+pub fn append_refused_word<A: Allocator + Copy>(
+    alloc: A,
+    refused: &RefusedWord<'_>,
+    steps: Option<u16>,
+    out: &mut Vec<u8, A>,
+) -> Result<(), Memory>
+    ensures told { OnOk result (out.new.items ≡ out.old.items ++ spec.word_text steps (seen refused.now)) }
+    ensures kept { OnErr result (out.new.items ≡ out.old.items) }
+{
+    let mut line = Vec::new(alloc);
+    line.extend_from_slice(refused.word.as_bytes())?;
+    line.extend_from_slice(b": ")?;
+    append_form(refused.form, refused.failure, steps, &mut line)?;
+    line.extend_from_slice(b"\n")?;
+    out.extend_from_slice(&line)
+}
+
+/// Appends the line for times of which there are too many or too few, one for each event. If memory runs out, it appends
+/// nothing.
+pub fn append_counts<A: Allocator + Copy>(
+    alloc: A,
+    times: usize,
+    events: usize,
+    out: &mut Vec<u8, A>,
+) -> Result<(), Memory>
+    ensures told { OnOk result (out.new.items ≡ out.old.items ++ spec.counts_text times events) }
+    ensures kept { OnErr result (out.new.items ≡ out.old.items) }
+{
+    let mut line = Vec::new(alloc);
+    append_number(times, &mut line)?;
+    line.extend_from_slice(b" times for ")?;
+    append_number(events, &mut line)?;
+    line.extend_from_slice(b" events\n")?;
+    out.extend_from_slice(&line)
+}
+
+// Appends what a word is instead of what it should be.
+fn append_form<A: Allocator>(
+    form: Form,
+    failure: Failure,
+    steps: Option<u16>,
+    out: &mut Vec<u8, A>,
+) -> Result<(), Memory>
+    ensures { OnOk result (out.new.items ≡ out.old.items ++ spec.form_text steps form failure) }
+{
+    match form {
+        Form::Event => {
+            out.extend_from_slice(b"not an event (")?;
+            append_events(steps, out)?;
+            out.extend_from_slice(b")")
+        }
+        Form::Id => out.extend_from_slice(b"not an id (as 1.2)"),
+        Form::Time => out.extend_from_slice(time_text(failure)),
+        Form::Tolerance => out.extend_from_slice(b"a tolerance below 0"),
+        Form::Steps => out.extend_from_slice(b"not steps (as 2,4-6)"),
+        Form::Owned => out.extend_from_slice(
+            b"not a site and its steps (as 2:4-6), or a step that is given already",
+        ),
+    }
+}
+
+// What a word that should be a time is instead.
+fn time_text(failure: Failure) -> &'static [u8]
+    ensures { result.now ≡ spec.time_text failure }
+{
+    match failure.code() {
+        Some(code) if code == Code::TooFine.number() => b"finer than a millisecond (0.001)",
+        Some(code) if code == Code::OutOfRange.number() => {
+            b"more than a year from the origin (31536000 seconds)"
+        }
+        _ => b"not a time (seconds, as 5, 2.5 or 0.001)",
+    }
+}
+
+// Appends the events of a plan of so many steps.
+fn append_events<A: Allocator>(steps: Option<u16>, out: &mut Vec<u8, A>) -> Result<(), Memory>
+    ensures { OnOk result (out.new.items ≡ out.old.items ++ spec.events_text steps) }
+{
+    match steps {
+        None => out.extend_from_slice(b"as z, s1, e1"),
+        Some(0) => out.extend_from_slice(b"z"),
+        Some(1) => out.extend_from_slice(b"z, s1, e1"),
+        Some(steps) => {
+            append_decimal(out, b"z, s1 to s", steps)?;
+            append_decimal(out, b", e1 to e", steps)
+        }
+    }
+}
+
+// Appends the decimal digits of a number.
+fn append_number<A: Allocator>(number: usize, out: &mut Vec<u8, A>) -> Result<(), Memory>
+    ensures { OnOk result (out.new.items ≡ out.old.items ++ decimal number) }
+{
+    let mut buffer = Buffer::new();
+    out.extend_from_slice(buffer.format(number).as_bytes())
+}
