@@ -41,7 +41,7 @@ class Shell:
     """One shell on the log of a site."""
 
     def __init__(self, program, log, site):
-        words = [program, "shell", str(log), str(site)]
+        words = [program, "shell", "--", str(log), str(site)]
         self.process = subprocess.Popen(words, stdin=subprocess.PIPE, stdout=subprocess.PIPE, text=True)
 
     def ask(self, *words):

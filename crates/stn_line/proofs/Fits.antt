@@ -17,7 +17,7 @@ use Rattle.clap.specs.declared.builder.value_parser.ValueParser.TheVariants as p
 use Rattle.clap.specs.declared.parser.matches.ValueSource.TheVariants.{CommandLine, DefaultValue}
 use Rattle.clap.specs.declared.error.kind.ErrorKind.TheVariants as kind
 
-find_each : {X : Type 0} (P : X → Type 0) (f : X → Bool) (xs : List X) (a : X) → Each P xs → find f xs ≡ Some a → P a × (f a ≡ true)
+pub find_each : {X : Type 0} (P : X → Type 0) (f : X → Bool) (xs : List X) (a : X) → Each P xs → find f xs ≡ Some a → P a × (f a ≡ true)
 find_each P f [] a each found = cc
 find_each P f (x ∷ xs) a each found = go (f x) refl found (find_each P f xs a each.1)
   where
@@ -26,11 +26,11 @@ find_each P f (x ∷ xs) a each found = go (f x) refl found (find_each P f xs a 
     go false t e rest = rest e
 
 -- neither step has a fault
-no_first : (a b : Kinds) → or_else a b ≡ [] → a ≡ []
+pub no_first : (a b : Kinds) → or_else a b ≡ [] → a ≡ []
 no_first [] b e = refl
 no_first (k ∷ ks) b e = e
 
-no_second : (a b : Kinds) → or_else a b ≡ [] → b ≡ []
+pub no_second : (a b : Kinds) → or_else a b ≡ [] → b ≡ []
 no_second [] b e = e
 no_second (k ∷ ks) b e = cc
 

@@ -1,4 +1,5 @@
 mod Fits
 mod OfStn
 pub mod Shapes
+mod Topics
 mod Values

@@ -1,6 +1,6 @@
 -- The general law at the program's own commands.
 use Rattle.std.proofs.Common.{map, Option, Bor, option_map, subst, false, Bool, codes, cond, sym, ◌∷◌, ◌++◌, ◌≡◌, ◌≢◌, ◌⊎◌, true, [], refl, inl, inr, Some, None, List}
-use Rattle.std.specs.{Prelude.IsSomeAnd, Prelude.find, Str.bytes_eq}
+use Rattle.std.specs.{Prelude.IfSome, Prelude.IsSomeAnd, Prelude.find, Str.bytes_eq}
 use Rattle.std.proofs.lemmas.Slice.Eq.{bytes_eq-Decides}
 use Rattle.clap.specs.{Facts.parser_of_value, Values.is_request, Matches.found_of, Matches.subcommand_name_of, Simple.subcommand_rows, Simple.subcommand_rows_of, declared.parser.matches.ArgMatches.ArgMatches, declared.parser.matches.ArgMatches.TheViews.out-ArgMatches, Walk.action_of, Walk.arg_by_id, Walk.rows_of, declared.builder.value_parser.ValueParser.ValueParser}
 use Rattle.clap.specs.Words.{Row, Rule, Shape, Text, built, fault_of, is_simple, is_simple_and_free, subcommand_of}
@@ -8,8 +8,8 @@ use Rattle.clap.specs.declared.builder.action.ArgAction.TheVariants.{Append, Set
 use Rattle.clap.specs.declared.builder.value_parser.ValueParser.TheVariants.{String, Unsigned}
 use Rattle.clap.specs.declared.builder.value_parser.ValueParser.TheVariants as parser
 use Rattle.stn_line.specs.Commands.{commands, program, stn}
-use Rattle.stn_line.specs.Given.{Each, HasWords, HasWordsAmong, HoldsWord, HoldsWords, IsGiven, IsOneOf}
-use Rattle.stn_line.proofs.{Values.at_value, Values.entered_is, Fits.IsPlainIn, Fits.ReadsPlainly, Fits.command_given}
+use Rattle.stn_line.specs.Given.{Each, HasWords, HasWordsAmong, HoldsWord, HoldsWords, IsEntered, IsGiven, IsOneOf}
+use Rattle.stn_line.proofs.{Values.at_value, Values.entered_is, Fits.IsPlainIn, Fits.ReadsPlainly, Fits.command_given, Topics.names_no_help}
 
 pub stn_simple : is_simple stn ≡ true
 unfolding stn
@@ -97,7 +97,7 @@ all_plain = (
                                                 reads refl refl refl (one refl refl refl refl, (one refl refl refl refl, (one refl refl refl refl, (one refl refl refl refl, (one refl refl refl refl, (asks refl refl refl, tt)))))),
                                                 (
                                                   reads refl refl refl (one refl refl refl refl, (one refl refl refl refl, (one refl refl refl refl, (one refl refl refl refl, (asks refl refl refl, tt))))),
-                                                  tt,
+                                                  (reads refl refl refl (many refl refl refl refl refl, tt), tt),
                                                 ),
                                               ),
                                             ),
@@ -128,6 +128,14 @@ is_required : (built stn).top.subcommand_required ≡ true
 unfolding stn
 is_required = refl
 
+is_asked : (built stn).top.disable_help_subcommand ≡ false
+unfolding stn
+is_asked = refl
+
+all_single : Each (λ s. s.aliases ≡ []) (built stn).subs
+unfolding stn
+all_single = (refl, (refl, (refl, (refl, (refl, (refl, (refl, (refl, (refl, (refl, (refl, (refl, (refl, (refl, (refl, (refl, (refl, (refl, (refl, (refl, (refl, (refl, (refl, (refl, (refl, (refl, tt))))))))))))))))))))))))))
+
 -- what is given, by the rule of each word
 word_holds : (rows : List Row) (rule : Rule) → IsGiven rows rule → HoldsWord rule.required rule.parser rule.id rows
 word_holds rows rule given = go rule.required rule.parser refl refl
@@ -146,13 +154,19 @@ some_weaker : {X : Type 0} (o : Option X) (P Q : X → Type 0) → ((x : X) → 
 some_weaker None P Q weaker is = is
 some_weaker (Some x) P Q weaker is = weaker x is
 
--- words without a fault name a command, and hold what it requires
-pub stn_given : (words : List Text) → fault_of stn words ≡ [] → IsSomeAnd (subcommand_of stn words) (λ p. HasWords p.0 p.1)
+some_both : {X : Type 0} (o : Option X) (P Q : X → Type 0) → IsSomeAnd o P → IfSome o Q → IsSomeAnd o (λ x. P x × Q x)
+some_both None P Q is other = is
+some_both (Some x) P Q is other = (is, other)
+
+-- words without a fault name a command other than `help`, and hold what it requires
+pub stn_given : (words : List Text) → fault_of stn words ≡ [] → IsSomeAnd (subcommand_of stn words) (λ p. IsEntered p.0 p.1)
 unfolding stn
-stn_given words none = some_weaker (subcommand_of stn words) (λ p. HasWordsAmong (built stn).subs p.0 p.1) (λ p. HasWords p.0 p.1)
+stn_given words none = some_both (subcommand_of stn words) (λ p. HasWords p.0 p.1) (λ p. p.0 ≢ codes "help")
+    (some_weaker (subcommand_of stn words) (λ p. HasWordsAmong (built stn).subs p.0 p.1) (λ p. HasWords p.0 p.1)
     (λ p. some_weaker (find (λ command. bytes_eq command.name p.0) (built stn).subs) (λ command. Each (IsGiven p.1) command.rules)
     (λ command. HoldsWords p.1 command.rules) (λ command. words_hold p.1 command.rules))
-    (command_given stn words is_required all_plain none)
+    (command_given stn words is_required all_plain none))
+    (names_no_help stn words is_asked all_single none)
 
 is_one_of : (P : Shape → Type 0) (commands : List Shape) (name : Text) → IsSomeAnd (find (λ command. bytes_eq command.name name) commands) P
     → IsOneOf name (map (λ command. command.name) commands)
@@ -175,13 +189,20 @@ is_rest (n ∷ names) rest name (inr is) none = is_rest names rest name is none.
 abbrev pub others : List Text
 others = codes "run" ∷ codes "bare" ∷ codes "init" ∷ codes "loosen" ∷ codes "add" ∷ codes "amend" ∷ codes "withdraw" ∷ codes "done" ∷ codes "merge" ∷ codes "guard" ∷ codes "report" ∷ codes "next" ∷ codes "ready" ∷ codes "why" ∷ codes "repairs" ∷ codes "records" ∷ codes "steps" ∷ codes "bounds" ∷ codes "check" ∷ codes "rehearse" ∷ codes "draw" ∷ codes "explain" ∷ codes "shell" ∷ []
 
-pub is_last : (name : Text) (rows : List Row) → HasWords name rows → Each (λ n. name ≢ n) others → IsOneOf name (codes "serve" ∷ codes "send" ∷ [])
-is_last name rows has none = is_rest others (codes "serve" ∷ codes "send" ∷ []) name (is_one_of (λ command. HoldsWords rows command.rules) (built (program commands)).subs name has) none
+pub is_last : (name : Text) (rows : List Row) → IsEntered name rows → Each (λ n. name ≢ n) others → IsOneOf name (codes "serve" ∷ codes "send" ∷ [])
+is_last name rows has none =
+    no_help (is_rest others (codes "serve" ∷ codes "send" ∷ codes "help" ∷ []) name (is_one_of (λ command. HoldsWords rows command.rules) (built (program commands)).subs name has.0) none)
+  where
+    no_help : IsOneOf name (codes "serve" ∷ codes "send" ∷ codes "help" ∷ []) → IsOneOf name (codes "serve" ∷ codes "send" ∷ [])
+    no_help (inl serve) = inl serve
+    no_help (inr (inl send)) = inr (inl send)
+    no_help (inr (inr (inl is))) = absurd (has.1 is)
+    no_help (inr (inr (inr none))) = elim none [ ]
 
 -- what the matches of the entered command hold, by its name
 pub entered_has : (m : ArgMatches) (r : Option (Bor Text × Bor ArgMatches)) (x : Bor Text × Bor ArgMatches) → option_map (λ p. p.0.now) r ≡ subcommand_name_of m
     → option_map (λ p. rows_of (found_of p.1.now)) r ≡ option_map (λ p. p.1) (subcommand_rows (out-ArgMatches m).subcommand) → r ≡ Some x
-    → IsSomeAnd (subcommand_rows_of m) (λ command. HasWords command.0 command.1) → (name : Text) → x.0.now ≡ name → HasWords name (rows_of (found_of x.1.now))
+    → IsSomeAnd (subcommand_rows_of m) (λ command. IsEntered command.0 command.1) → (name : Text) → x.0.now ≡ name → IsEntered name (rows_of (found_of x.1.now))
 entered_has m r x names rows is has name named =
-    subst (λ n. HasWords n (rows_of (found_of x.1.now))) named
-    (at_value (x.0.now, rows_of (found_of x.1.now)) (subcommand_rows_of m) (λ command. HasWords command.0 command.1) (entered_is m r x names rows is) has)
+    subst (λ n. IsEntered n (rows_of (found_of x.1.now))) named
+    (at_value (x.0.now, rows_of (found_of x.1.now)) (subcommand_rows_of m) (λ command. IsEntered command.0 command.1) (entered_is m r x names rows is) has)

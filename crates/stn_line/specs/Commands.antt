@@ -94,11 +94,10 @@ commands = command (codes "run") []
     ∷ on_log (codes "send") (word_rule (codes "ADDR") ∷ number_option_rule (codes "seconds") 1 most_seconds ∷ [])
     ∷ []
 
--- the program: help and the version are flags, and one of the commands has to be named
+-- the program: help and the version are flags, one of the commands has to be named, and `help` is one that clap adds
 abbrev pub top : App
 top = record {
   top = record (new_shape (codes "stn")) {
-    disable_help_subcommand = true;
     has_version = true;
     arg_required_else_help = true;
     subcommand_required = true;

@@ -1,6 +1,6 @@
 -- For proofs alone: no public clause cites these words.
 -- What the words of an accepted command hold.
-use Rattle.std.specs.Prelude.{◌≡◌, ◌⊎◌, Bool, true, false, List, [], ◌∷◌, Option, Some, IsSomeAnd, IfSome, ℕ, ⊤, find}
+use Rattle.std.specs.Prelude.{◌≡◌, ◌≢◌, ◌⊎◌, codes, Bool, true, false, List, [], ◌∷◌, Option, Some, IsSomeAnd, IfSome, ℕ, ⊤, find}
 use Rattle.std.specs.Str.{bytes_eq}
 use Rattle.clap.specs.{Facts.parser_of_value, declared.builder.value_parser.ValueParser.ValueParser}
 use Rattle.clap.specs.Words.{Accepts, IsUnsignedIn, Row, Rule, Shape, Text, built, first_of}
@@ -52,3 +52,7 @@ HoldsWords rows rules = Each (λ (rule : Rule). HoldsWord rule.required rule.par
 -- one of the program's commands has this name, and its words are given
 abbrev pub HasWords : Text → List Row → Type 0
 HasWords name rows = IsSomeAnd (find (λ command. bytes_eq command.name name) (built (program commands)).subs) (λ command. HoldsWords rows command.rules)
+
+-- the same of a command that is done: clap itself answers `help`
+abbrev pub IsEntered : Text → List Row → Type 0
+IsEntered name rows = HasWords name rows × (name ≢ codes "help")

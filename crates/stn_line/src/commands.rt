@@ -338,7 +338,6 @@ fn top<'a>(alloc: Global) -> Command<'a>
         .version("0.1.0")
         .arg_required_else_help(true)
         .subcommand_required(true)
-        .disable_help_subcommand(true)
 }
 
 // A command, as a row says it.

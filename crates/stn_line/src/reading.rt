@@ -2,7 +2,7 @@ ghost use Rattle.std.specs.Prelude.{◌≡◌, ◌≤◌, ◌∷◌, IfErr, IfOk
 ghost use Rattle.clap.specs.Words.{fault_of, found_of, rows_of, subcommand_of, subcommand_rows_of};
 ghost use Rattle.stn_line.specs.Commands.{most_read_steps, most_seconds, stn as program};
 ghost use Rattle.stn_records.specs.Id.{most_sites};
-ghost use Rattle.stn_line.specs.Given.{HasWords, IsOneOf, IsThere, IsNumberThere, IsNumberWhereGiven};
+ghost use Rattle.stn_line.specs.Given.{HasWords, IsEntered, IsOneOf, IsThere, IsNumberThere, IsNumberWhereGiven};
 ghost use Rattle.stn_line.specs.Lines.{IsFaultOf, IsChoice, IsFlag, IsLineOf, IsNumber, IsOnLog, IsOption, IsSeconds, IsWord, IsWords};
 
 use crate::commands::stn;
@@ -32,7 +32,7 @@ pub fn line<'a>(alloc: Global, words: &'a [&'a str]) -> Result<Line<'a>, LineFau
 
 // The command line of accepted words.
 fn read<'a>(alloc: Global, matches: &ArgMatches<'a>) -> Result<Line<'a>, AllocError>
-    requires { IsSomeAnd (subcommand_rows_of matches.now) (λ command. HasWords command.0 command.1) }
+    requires { IsSomeAnd (subcommand_rows_of matches.now) (λ command. IsEntered command.0 command.1) }
     ensures { IfOk result (λ line. IsSomeAnd (subcommand_rows_of matches.now) (λ command. IsLineOf line command.0 command.1)) }
 {
     let (name, words) = matches.subcommand().unwrap();
@@ -41,7 +41,7 @@ fn read<'a>(alloc: Global, matches: &ArgMatches<'a>) -> Result<Line<'a>, AllocEr
 
 // The command of a name, with its words.
 fn command<'a>(alloc: Global, name: &str, words: &ArgMatches<'a>) -> Result<Line<'a>, AllocError>
-    requires { HasWords name.now (rows_of (found_of words.now)) }
+    requires { IsEntered name.now (rows_of (found_of words.now)) }
     ensures { IfOk result (λ line. IsLineOf line name.now (rows_of (found_of words.now))) }
 {
     match name {

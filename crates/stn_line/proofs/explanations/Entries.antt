@@ -3,9 +3,11 @@ use Rattle.std.proofs.Common.{arith, refl, ◌+◌, true≢false, ◌≡◌, ◌
 use Rattle.std.specs.List.{list_all}
 use Rattle.std.proofs.lemmas.List.{append_assoc, append-nil, map_more, take_all}
 use Rattle.std.proofs.lemmas.List.Elements.{All-nil, All-cons, All-map}
+use Rattle.std.proofs.lemmas.{Bool.Decides.Decides-eqb, Slice.Eq.bytes_eq-Decides}
+use Rattle.stn_text.specs.{Bytes.line_feed, Lines.is_word, Lines.lines_of}
 use Rattle.stn_refusal.specs.declared.code.Code.TheVariants as code
 use Rattle.stn_refusal.specs.declared.failure.Fault.TheVariants as fault
-use Rattle.stn_line.specs.{Explanations.Explained.IsMeaning, Explanations.Explained.AreMeanings, Explanations.Explained.IsExplained, Explanations.Explained.NamesNothing, Explanations.Subjects.subjects, Explanations.Subjects.word_of, Explanations.Table.IsEntry, Explanations.Table.IsTable, Explanations.Table.is_some, Explanations.Table.says, declared.explanations.subject.Subject.Subject, declared.explanations.table.Entry.Entry}
+use Rattle.stn_line.specs.{Explanations.Explained.IsMeaning, Explanations.Explained.AreMeanings, Explanations.Explained.IsExplained, Explanations.Explained.NamesNothing, Explanations.Subjects.subjects, Explanations.Subjects.word_of, Explanations.Table.IsEntry, Explanations.Table.IsTable, Explanations.Table.is_alone, Explanations.Table.is_ended, Explanations.Table.says, declared.explanations.subject.Subject.Subject, declared.explanations.table.Entry.Entry}
 use Rattle.stn_line.specs.declared.explanations.subject.Subject.TheVariants as subject
 
 -- what holds of all subjects of the list holds of each
@@ -65,22 +67,46 @@ at_each P all (subject.Fault fault.Memory) = all 49 (subject.Fault fault.File) (
 all_named : (P : Subject → Type 0) (entries : List Entry) → map (λ entry. entry.subject) entries ≡ subjects → All (λ entry. P entry.subject) entries → All P subjects
 all_named P entries are hold = subst (All P) are (All-map P (λ entry. entry.subject) entries hold)
 
-some : (text : List ℕ) → is_some text ≡ true → text ≢ []
-some [] is none = absurd (true≢false (sym is))
-some (x ∷ xs) is none = absurd (true≢false (ap is_some none))
-
 both : (a b : Bool) → (a && b) ≡ true → (a ≡ true) × (b ≡ true)
 both true true is = (refl, refl)
 both true false is = absurd (true≢false (sym is))
 both false b is = absurd (true≢false (sym is))
+
+alone : (text : List ℕ) (lines : List (List ℕ)) → is_alone text lines ≡ true → lines ≡ text ∷ []
+alone text [] is = absurd (true≢false (sym is))
+alone text (line ∷ []) is = ap (λ first. first ∷ []) ((bytes_eq-Decides line text).0 is)
+alone text (line ∷ other ∷ rest) is = absurd (true≢false (sym is))
+
+is_some : (line : List ℕ) → is_word line ≡ true → line ≢ []
+is_some [] is none = absurd (true≢false (sym is))
+is_some (byte ∷ rest) is none = absurd (true≢false (ap is_word none))
+
+all_some : (lines : List (List ℕ)) → list_all is_word lines ≡ true → All (λ line. line ≢ []) lines
+all_some [] is = All-nil (λ line. line ≢ [])
+all_some (line ∷ rest) is =
+    let parts = both (is_word line) (list_all is_word rest) is in
+    All-cons (λ one. one ≢ []) line rest (is_some line parts.0) (all_some rest parts.1)
+
+ended : (text : List ℕ) → is_ended text ≡ true → (front : List ℕ) × (text ≡ front ++ line_feed ∷ [])
+ended [] is = absurd (true≢false (sym is))
+ended (byte ∷ []) is = ([], ap (λ last. last ∷ []) ((Decides-eqb byte line_feed).0 is))
+ended (byte ∷ other ∷ rest) is = let more = ended (other ∷ rest) is in (byte ∷ more.0, ap (λ text. byte ∷ text) more.1)
+
+said_entry : (entry : Entry) → says entry ≡ true → IsEntry entry
+said_entry entry is =
+    let texts = both (is_alone entry.meaning.now (lines_of entry.meaning.now)) (list_all is_word (lines_of entry.more.now) && is_ended entry.more.now) is in
+    let lines = both (list_all is_word (lines_of entry.more.now)) (is_ended entry.more.now) texts.1 in
+    record {
+      meaning = alone entry.meaning.now (lines_of entry.meaning.now) texts.0;
+      more = record { each = all_some (lines_of entry.more.now) lines.0; ended = ended entry.more.now lines.1 };
+    }
 
 -- each of the entries says something
 all_say : (entries : List Entry) → list_all says entries ≡ true → All IsEntry entries
 all_say [] is = All-nil IsEntry
 all_say (entry ∷ rest) is =
     let parts = both (says entry) (list_all says rest) is in
-    let texts = both (is_some entry.meaning.now) (is_some entry.more.now) parts.0 in
-    All-cons IsEntry entry rest (record { meaning = some entry.meaning.now texts.0; more = some entry.more.now texts.1 }) (all_say rest parts.1)
+    All-cons IsEntry entry rest (said_entry entry parts.0) (all_say rest parts.1)
 
 pub all_entries : (entries : List Entry) → IsTable entries → All IsEntry entries
 all_entries entries table = all_say entries table.said

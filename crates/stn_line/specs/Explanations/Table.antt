@@ -1,20 +1,29 @@
 -- For proofs alone: no public clause cites these words.
 -- What is said of all subjects.
-use Rattle.std.specs.Prelude.{◌≡◌, ◌≢◌, ◌&&◌, ℕ, Bool, true, false, List, [], ◌∷◌, map}
-use Rattle.std.specs.List.{list_all}
-use Rattle.stn_line.specs.{Explanations.Subjects.subjects, declared.explanations.table.Entry.Entry}
+use Rattle.std.specs.Prelude.{◌≡◌, ◌==◌, ◌&&◌, ℕ, Bool, true, false, List, [], ◌∷◌, map}
+use Rattle.std.specs.{List.list_all, Str.bytes_eq}
+use Rattle.stn_text.specs.{Bytes.line_feed, Lines.is_word, Lines.lines_of}
+use Rattle.stn_line.specs.{Explanations.Explained.AreWholeLines, Explanations.Subjects.subjects, declared.explanations.table.Entry.Entry}
 
--- neither text of the entry is empty
+-- the meaning is one line, and what more is said is whole lines, none of them empty
 pub record IsEntry (entry : Entry) : Type 0 where
-  pub meaning : entry.meaning.now ≢ []
-  pub more : entry.more.now ≢ []
+  pub meaning : lines_of entry.meaning.now ≡ entry.meaning.now ∷ []
+  pub more : AreWholeLines entry.more.now
 
-abbrev pub is_some : List ℕ → Bool
-is_some [] = false
-is_some (byte ∷ rest) = true
+-- the lines are the text alone
+abbrev pub is_alone : List ℕ → List (List ℕ) → Bool
+is_alone text [] = false
+is_alone text (line ∷ []) = bytes_eq line text
+is_alone text (line ∷ other ∷ rest) = false
+
+-- the last byte is LF
+abbrev pub is_ended : List ℕ → Bool
+is_ended [] = false
+is_ended (byte ∷ []) = byte == line_feed
+is_ended (byte ∷ other ∷ rest) = is_ended (other ∷ rest)
 
 abbrev pub says : Entry → Bool
-says entry = is_some entry.meaning.now && is_some entry.more.now
+says entry = is_alone entry.meaning.now (lines_of entry.meaning.now) && (list_all is_word (lines_of entry.more.now) && is_ended entry.more.now)
 
 -- an entry for each subject, in their order, and each says something
 pub record IsTable (entries : List Entry) : Type 0 where

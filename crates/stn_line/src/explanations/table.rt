@@ -6,9 +6,10 @@ use stn_refusal::{Code, Fault};
 /// What is said of a subject.
 pub struct Entry {
     pub subject: Subject,
-    /// A few words on what it means.
+    /// A few words on what it means, on one line.
     pub meaning: &'static str,
-    /// What its second word is, what usually causes it, and what to do: a line for each, and no empty line.
+    /// What its second word is, what usually causes it, and what to do: a line for each, and no empty line, since a shell ends
+    /// its answer with one.
     pub more: &'static str,
 }
 
@@ -302,7 +303,8 @@ What to do: load the log, and save it: it is written in the new version.\n",
         meaning: "two different plans",
         more: "\
 Only logs of one plan can be merged: the same number of steps, or the same bytes of the domain and of the plan.\n\
-Usual causes: a comment or a blank was changed in one of the files, one log is loosened and the other is not, or the tolerances differ.\n\
+Usual causes: a comment or a blank was changed in one of the files, or one log is loosened and the other is not.\n\
+Logs that were loosened with other tolerances are of one plan: made under one SITE they clash (40), under two the bounds of both count.\n\
 What to do: copy the first log to the other sites, or make each from the same files by the same command.\n",
     },
     Entry {
@@ -348,9 +350,11 @@ What to do: use the same version of the program at both sites.\n",
         subject: Subject::Refusal(Code::Line),
         meaning: "a word or a line has the wrong form",
         more: "\
-The second word is the line of the script, counted from 1; 0 is the command line.\n\
+The second word is the line of the script, or of a shell's input, counted from 1; 0 is the command itself.\n\
 Usual causes: a word that is no event (events are z, s1, e1 ..), a word that is no id (as 1.2), a command that has one word too many or too few, a tolerance of `loosen` below 0, and in `check` not one time for each event.\n\
-A script's heading is refused so if a block of it has no line `end`.\n\
+`--steps` takes STEPS as `2,4-6`, counted from 1; `--own` takes SITE:STEPS, as `2:4-6`, and no step may be named by two of them.\n\
+`--plan` names the steps of a bare or loosened plan, by a file with as many steps.\n\
+A script's heading is refused so if a block of it has no line `end`; a shell's line, if it is not a command on the log that is there.\n\
 What to do: `stn COMMAND --help` says which words a command takes.\n",
     },
     Entry {
@@ -408,9 +412,9 @@ What to do: ask `stn records LOG SITE` whether the record is there before you tr
         subject: Subject::Fault(Fault::Bound),
         meaning: "an input is too long",
         more: "\
-A log, a script or the replies to `send` have at most 16,777,216 bytes.\n\
-Usual cause: a file that is not a log or a script.\n\
-What to do: give the right file.\n",
+A log, a script, the input of a shell or the replies to `send` have at most 16,777,216 bytes.\n\
+Usual causes: a file that is not a log or a script, or a shell that was asked very often.\n\
+What to do: give the right file; after a shell, begin another one.\n",
     },
     Entry {
         subject: Subject::Fault(Fault::Memory),

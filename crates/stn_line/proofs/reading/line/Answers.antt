@@ -1,6 +1,6 @@
 use Rattle.std.proofs.Common.{◌≢◌, ◌∙◌, true≢false, map, ap, sym, subst, IsSomeAnd, inl, inr}
 use Rattle.clap.specs.{Kinds.HasKind, declared.error.kind.ErrorKind.TheVariants.OutOfMemory, Words.fault_of, Words.kind_of, Words.is_simple, Words.is_simple_and_free, Words.subcommand_of}
-use Rattle.stn_line.specs.{Given.HasWords, Lines.IsLineOf}
+use Rattle.stn_line.specs.{Given.IsEntered, Lines.IsLineOf}
 use Rattle.stn_line.proofs.OfStn.{stn_free, stn_given, stn_simple}
 use Rattle.stn_line.proofs.reading.line.Goals as goal
 
@@ -10,7 +10,7 @@ read-requires c =
     let app = c.in_ok-stn.ensures.app in
     let rows = (c.in-Ok.ensures.matches (ap is_simple app ∙ stn_simple)).1 ∙ ap (λ a. subcommand_of a words) app in
     let none = ap (λ a. fault_of a words) (sym app) ∙ c.in-Ok.ensures.kinds (ap is_simple_and_free app ∙ stn_free) in
-    subst (λ o. IsSomeAnd o (λ command. HasWords command.0 command.1)) (sym rows) (stn_given words none)
+    subst (λ o. IsSomeAnd o (λ command. IsEntered command.0 command.1)) (sym rows) (stn_given words none)
 
 pub returns-in_ok-read-in-Ok-clause-found : goal.returns-in_ok-read-in-Ok-clause-found
 returns-in_ok-read-in-Ok-clause-found c =
