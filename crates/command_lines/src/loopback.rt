@@ -14,11 +14,12 @@ use std::net::{Shutdown, TcpListener, TcpStream};
 use std::time::Duration;
 use std::{fs, io};
 use stn_device::Counted;
+use stn_exchanges::{Peer, Service, meet, send_on, serve_on};
 use stn_line::SiteLog;
 use stn_records::Site;
 use stn_replica::Replica;
 use stn_session::{ReplyFault, receive_replies, send_requests, serve};
-use stn_shell::{Peer, Service, execute, meet, send_on, serve_on};
+use stn_shell::execute;
 use stn_store::{FileStore, load};
 
 // How many milliseconds a session or an exchange may take.

@@ -5,8 +5,8 @@ use std::alloc::Global;
 use std::io;
 use std::io::{Error, Write};
 use stn_line::{Line, line};
+use stn_logs::answer;
 use stn_refusal::{Failure, Refusal};
-use stn_shell::answer;
 use stn_store::MemoryStore;
 
 /// Puts a text whose lines `|` parts under a name.

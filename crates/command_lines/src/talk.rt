@@ -5,10 +5,10 @@ use std::alloc::Global;
 use std::io;
 use std::io::Error;
 use stn_device::{Counted, Ear, MemoryCallers, Partner};
+use stn_exchanges::{send_on, serve_on};
 use stn_line::SiteLog;
 use stn_records::Site;
 use stn_replica::Replica;
-use stn_shell::{send_on, serve_on};
 use stn_store::{MemoryStore, Store};
 
 fn site_of(number: u8) -> io::Result<Site> {

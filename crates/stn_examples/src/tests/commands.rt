@@ -50,16 +50,16 @@ pub enum Asked {
     Starts,
 }
 
-// The starts of all steps.
-fn starts<'a>() -> Choice<'a> {
+// All events that are left, or the starts of all steps.
+fn chosen<'a>(starts: bool) -> Choice<'a> {
     Choice {
         steps: None,
-        starts: true,
+        starts,
     }
 }
 
 fn say_asked<'a>(
-    plan: SitePlan<&'a Refusing<Global>>,
+    plan: &SitePlan<&'a Refusing<Global>>,
     asked: Asked,
 ) -> Result<Vec<u8, &'a Refusing<Global>>, Failure> {
     let now = Ms::new(0).unwrap();
@@ -67,14 +67,14 @@ fn say_asked<'a>(
         Asked::Report => say(plan, &Query::Report),
         Asked::Repairs => say(plan, &Query::Repairs),
         Asked::Draw => say(plan, &Query::Draw),
-        Asked::Next => say(plan, &Query::Next(now)),
-        Asked::Ready => say(plan, &Query::Ready(now)),
-        Asked::Rehearse => say(plan, &Query::Rehearse(now)),
+        Asked::Next => say(plan, &Query::Foresee(Outlook::Next, now, chosen(false))),
+        Asked::Ready => say(plan, &Query::Foresee(Outlook::Ready, now, chosen(false))),
+        Asked::Rehearse => say(plan, &Query::Foresee(Outlook::Rehearse, now, chosen(false))),
         Asked::Records => say(plan, &Query::Ask(Question::Records)),
         Asked::Steps => say(plan, &Query::Ask(Question::Steps)),
         Asked::Bounds => say(plan, &Query::Ask(Question::Bounds)),
         Asked::Why => say(plan, &Query::Ask(Question::Why(Event::new(2).unwrap()))),
-        Asked::Starts => say(plan, &Query::Among(Outlook::Ready, now, starts())),
+        Asked::Starts => say(plan, &Query::Foresee(Outlook::Ready, now, chosen(true))),
         Asked::Apart => {
             let start = Event::new(1).unwrap();
             let end = Event::new(2).unwrap();
@@ -96,7 +96,9 @@ fn said<'a>(
         return None;
     }
     heap.refuse(number);
-    Some(say_asked(plan, asked))
+    let said = say_asked(&plan, asked);
+    drop(plan);
+    Some(said)
 }
 
 // Whether this is said, or memory was lacking.

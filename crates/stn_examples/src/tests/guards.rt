@@ -10,6 +10,7 @@ use stn_refusing::{Outcome, Refusing};
 use stn_replica::StepRange;
 use stn_site::{ReplicaFault, SitePlan};
 use stn_time::Ms;
+use stn_world::World;
 
 // What site 1 of a bare plan of so many steps holds at first.
 fn bare_plan<A: Allocator + Copy>(alloc: A, steps: u16) -> Option<SitePlan<A>> {
@@ -208,6 +209,77 @@ fn second_site_acts_first(alloc: Global) -> Option<bool> {
 #[test]
 fn the_start_is_known_before_the_end(rt: HostRuntime) {
     assert!(rt; second_site_acts_first(rt.alloc()) == Some(true));
+}
+
+// A site of a world adds a bound.
+fn add_in(
+    world: &mut World<Global>,
+    site: u32,
+    events: (u16, u16),
+    least: i64,
+    most: i64,
+) -> Option<()> {
+    let from = Event::new(events.0)?;
+    let to = Event::new(events.1)?;
+    let least = Ms::new(least)?;
+    let most = Ms::new(most)?;
+    world.add(site, from, to, least, most).ok()?;
+    Some(())
+}
+
+fn done_in(world: &mut World<Global>, site: u32, event: u16, time: i64) -> Option<()> {
+    let event = Event::new(event)?;
+    let time = Ms::new(time)?;
+    world.done(site, event, time).ok()?;
+    Some(())
+}
+
+// A world whose first site adds the same two bounds, and then those of the guard; the second takes them in.
+fn guarded_world(alloc: Global) -> Option<World<Global>> {
+    let base = Base::bare(alloc, 2).ok()?;
+    let base = Rc::new(alloc, base).ok()?;
+    let mut world = World::new(alloc, base, 2).ok()?;
+    add_in(&mut world, 1, (2, 3), 0, 4_000)?;
+    add_in(&mut world, 1, (0, 2), 0, 10_000)?;
+    add_in(&mut world, 1, (0, 2), 5_000, 7_000)?;
+    add_in(&mut world, 1, (0, 3), 7_000, 9_000)?;
+    world.merge(2, 1).ok()?;
+    Some(world)
+}
+
+// Whether both sites of the world hold just what a site holds that made the guard.
+fn world_holds_the_guard(alloc: Global) -> Option<bool> {
+    let (plan, beside) = two_guarded_sites(alloc)?;
+    let world = guarded_world(alloc)?;
+    let first = world.replica(1)?.records();
+    let second = world.replica(2)?.records();
+    let all = first.holds(plan.records()) && second.holds(beside.records());
+    Some(all && plan.records().holds(first) && beside.records().holds(second))
+}
+
+#[test]
+fn a_guard_is_steps_of_a_world(rt: HostRuntime) {
+    assert!(rt; world_holds_the_guard(rt.alloc()) == Some(true));
+}
+
+// Whether all bounds that a site of a world holds have a schedule.
+fn has_windows(world: &World<Global>, site: u32) -> Option<bool> {
+    Some(world.replica(site)?.plan().windows().ok()?.is_some())
+}
+
+// Both sites act out of contact, as late and as early as the guard leaves them, and then hear of each other.
+fn acts_apart_in_a_world(alloc: Global) -> Option<bool> {
+    let mut world = guarded_world(alloc)?;
+    done_in(&mut world, 1, 2, 5_000)?;
+    done_in(&mut world, 2, 3, 9_000)?;
+    world.merge(1, 2).ok()?;
+    world.merge(2, 1).ok()?;
+    Some(has_windows(&world, 1)? && has_windows(&world, 2)?)
+}
+
+#[test]
+fn guarded_sites_of_a_world_keep_a_schedule(rt: HostRuntime) {
+    assert!(rt; acts_apart_in_a_world(rt.alloc()) == Some(true));
 }
 
 // Three starts, each at most two seconds after the one before, the first by eight seconds: six and five part the first two,

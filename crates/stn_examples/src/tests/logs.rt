@@ -4,9 +4,9 @@ use crate::tests::sweep::{Call, judged, requests};
 use std::alloc::{Allocator, Global};
 use std::process::Abort;
 use stn_line::{Line, line};
+use stn_logs::answer;
 use stn_refusal::{Failure, Fault};
 use stn_refusing::{Outcome, Refusing};
-use stn_shell::answer;
 use stn_store::MemoryStore;
 
 // What stands in the store is under these.

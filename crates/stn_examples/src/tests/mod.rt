@@ -9,4 +9,5 @@ mod readers;
 mod records;
 mod refusals;
 mod requests;
+mod shells;
 mod sweep;
