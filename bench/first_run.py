@@ -1,5 +1,5 @@
 #!/usr/bin/env python3
-"""Tries what ./stn says and does while the program is not built, once it is built, and when its sources have changed since.
+"""Tries what ./stn says and does before the program is built, once it is built, and when its sources have changed since.
 
 usage: bench/first_run.py [NAME ..]    with no name: every trial
 
@@ -8,6 +8,7 @@ builds a stand-in for the program. Only in the last trial the real `rt` runs a s
 It says `passed`, or what failed, with status 1.
 """
 import os
+import re
 import shutil
 import subprocess
 import sys
@@ -97,10 +98,25 @@ class Copy:
 
 
 UNBUILT = "stn: the program is not built yet"
-CHANGED = "stn: the sources have changed since the program was built"
-NO_RT = ", and rt is not on the path"
+WAITS = "half an hour to three quarters"
+NEWER = "stn: the sources are newer than the program"
+NO_RT = "rt, the tool of the Rattle toolchain, is not on the path"
 UNPROVED = ", so this run is unproved"
 FROM_BUILD = ": stn_text, kept\n"
+
+
+def stored(words):
+    """What the program prints for these words, by the stored run that the gate compares with it."""
+    lines = (TOP / "crates" / "command_lines" / "stdout").read_text().splitlines()
+    place = lines.index(f"> :told {words}") + 1
+    ends = next(at for at in range(place, len(lines)) if not lines[at].startswith("out|"))
+    return "".join(line.removeprefix("out|") + "\n" for line in lines[place:ends]).encode()
+
+
+def commands():
+    """The commands of the program, by its table."""
+    table = (TOP / "crates" / "stn_line" / "src" / "commands.rt").read_text()
+    return re.findall(r'^        name: "(\w+)",', table, re.M)
 
 
 def no_words(copy):
@@ -108,7 +124,29 @@ def no_words(copy):
     copy.build()
     copy.check("no words, built", copy.run(), b"program: \n", 7, "usage: ")
     copy.change()
-    copy.check("no words, changed", copy.run(), b"", 2, "usage: ", CHANGED)
+    copy.check("no words, changed", copy.run(), b"program: \n", 7, "usage: ", NEWER)
+
+
+def told_at_once(copy):
+    """Help, the version and a wrong word, without rt."""
+    for words in (["--help"], ["-h"], ["--version"], ["-V"]):
+        printed = stored("--help" if "h" in words[0] else "--version")
+        copy.check(f"not built: {words[0]}", copy.run(*words, rt=False), printed, 0)
+    copy.check("not built: help", copy.run("help", rt=False), stored("--help"), 0)
+    names = commands()
+    for name in names:
+        for words in ([name, "--help"], ["help", name]):
+            copy.check(f"not built: {' '.join(words)}", copy.run(*words, rt=False), stored(f"{name} --help"), 0)
+    check("each has its own help", len({stored(f"{name} --help") for name in names}) == len(names) > 20, names)
+    listed = re.search(r"^Commands:\n((?:  .*\n)*)", stored("--help").decode(), re.M)[1]
+    check("the help lists the commands", [line.split()[0] for line in listed.splitlines()] == [*names, "help"], listed)
+    copy.check("not built: help of no command", copy.run("help", "fly", rt=False), b"", 2, "stn: no such command: fly", "--help")
+    for word in ("fly", "--fly", "reports", "Commands:", "a b", "add\nbare", "-", "*"):
+        copy.check(f"not built, no command: {word!r}", copy.run(word, rt=False), b"", 2, f"stn: no such command: {word}", "--help")
+    for name in names:
+        if name != "run":
+            copy.check(f"not built: {name}", copy.run(name, "a b"), b"", 2, UNBUILT, name, "build", WAITS)
+    check("nothing was built", not (copy.top / "out").exists())
 
 
 def unproved(copy):
@@ -119,8 +157,6 @@ def unproved(copy):
         copy.check(f"an unproved run of status {status}", found, printed, status, UNBUILT + UNPROVED, "build proves", "said by the program\n")
         check("of what rt says, only the program's own words are left", "run=ended" not in found[1] and "checked:" not in found[1], found)
     copy.check("wrong words", copy.run("run", "a b", ends="2"), b"tried -- run a b\n", 2, UNBUILT + UNPROVED)
-    for word in ("--help", "-V"):
-        copy.check(f"an option: {word}", copy.run(word), f"tried -- {word}\n".encode(), 0, UNBUILT + UNPROVED)
     copy.check("a limit", copy.run("run", ends="limit"), b"", 2, UNPROVED, "stn: no answer: the cause\n", "60 seconds", "1 MiB", "build")
     copy.check("a fault", copy.run("run", ends="fault"), b"", 2, UNPROVED, "checked: fault: the cause", "stn: no answer")
     copy.check("a refused crate", copy.run("run", ends="refused"), b"", 2, UNPROVED, "error: no such name", "stn: no answer")
@@ -128,11 +164,10 @@ def unproved(copy):
 
 
 def building(copy):
-    found = copy.run("report", "a b")
     crates = [line.split(":")[0] for line in (TOP / "crates.txt").read_text().splitlines()]
     count = sum(not name.startswith("#") for name in crates[:crates.index("stn") + 1])
     last = f"stn: {count} of {count}: stn\n"
-    copy.check("another command builds first", found, b"program: report a b\n", 7, UNBUILT, "no files of yours", FROM_BUILD, "minute", last)
+    copy.check("a build", copy.run("build"), copy.path(), 0, WAITS, FROM_BUILD, "minute", last)
     copy.check("the path of a built program", copy.run("build", rt=False), copy.path(), 0)
     copy.check("a built program runs", copy.run("run", given=b"x\n"), b"program: run\nx\n", 7)
     found = copy.run("fly", "")
@@ -145,35 +180,40 @@ def building(copy):
 
 def failing(copy):
     copy.check("a build that fails", copy.run("build", ends="fails"), b"", 2, "stn_text NOT PROVED")
-    copy.check("a command that needs it", copy.run("report", ends="fails"), b"", 2, UNBUILT, "stn_text NOT PROVED")
+    copy.check("a command that needs it", copy.run("report", ends="fails"), b"", 2, UNBUILT)
     copy.build()
     copy.change()
     copy.check("a build anew that fails", copy.run("build", ends="fails"), b"", 2, "stn_text NOT PROVED")
-    copy.check("what was built stays", copy.run("run", rt=False), b"program: run\n", 7, CHANGED)
+    copy.check("what was built stays", copy.run("run", rt=False), b"program: run\n", 7, NEWER, "build")
 
 
 def changed(copy):
     copy.build()
     (copy.top / "crates" / "stn_text" / "src" / "lib.rt").touch()
-    copy.check("a source that was only touched", copy.run("run"), b"program: run\n", 7)
+    found = copy.run("run")
+    copy.check("a source that was only touched", found, b"program: run\n", 7)
+    check("and nothing is said", found[1] == "", found)
     copy.change()
-    copy.check("a changed source", copy.run("run", given=b"x"), b"tried -- run\nx", 0, CHANGED + UNPROVED)
-    copy.check("another command", copy.run("report"), b"program: report\n", 7, CHANGED, FROM_BUILD)
-    copy.check("after it", copy.run("run", rt=False), b"program: run\n", 7)
-    (copy.top / "crates" / "stn_text" / "specs" / "more.antt").touch()
-    copy.check("a new source", copy.run("run"), b"tried -- run\n", 0, CHANGED)
-    (copy.top / "crates" / "stn_text" / "specs" / "more.antt").unlink()
-    copy.check("a removed one", copy.run("run"), b"program: run\n", 7)
+    for words in (["run"], ["report"], ["--help"]):
+        copy.check(f"a changed source: {words[0]}", copy.run(*words), f"program: {words[0]}\n".encode(), 7, NEWER, "build")
+    copy.build()
+    more = copy.top / "crates" / "stn_text" / "specs" / "more.antt"
+    more.touch()
+    copy.check("a new source", copy.run("report"), b"program: report\n", 7, NEWER)
+    more.unlink()
+    found = copy.run("report")
+    copy.check("a removed one", found, b"program: report\n", 7)
+    check("and nothing is said", found[1] == "", found)
 
 
 def no_rt(copy):
-    for words in (["run"], ["report"], ["build"]):
-        copy.check(f"no rt, not built: {words[0]}", copy.run(*words, rt=False), b"", 2, UNBUILT + NO_RT)
+    for words in (["run"], ["build"]):
+        copy.check(f"no rt, not built: {words[0]}", copy.run(*words, rt=False), b"", 2, NO_RT)
     copy.build()
     copy.check("no rt, built", copy.run("run", rt=False), b"program: run\n", 7)
     copy.change()
-    copy.check("no rt, changed: run", copy.run("run", rt=False), b"program: run\n", 7, CHANGED + NO_RT, "as it was built last")
-    copy.check("no rt, changed: build", copy.run("build", rt=False), b"", 2, CHANGED + NO_RT)
+    copy.check("no rt, changed: run", copy.run("run", rt=False), b"program: run\n", 7, NEWER)
+    copy.check("no rt, changed: build", copy.run("build", rt=False), b"", 2, NO_RT)
 
 
 def linked(copy):
@@ -201,7 +241,7 @@ def for_real(copy):
     check("rt says nothing more", len(done.stderr.splitlines()) == 2, done.stderr)
 
 
-TRIED = [no_words, unproved, building, failing, changed, no_rt, linked, for_real]
+TRIED = [no_words, told_at_once, unproved, building, failing, changed, no_rt, linked, for_real]
 
 
 def main():
