@@ -32,7 +32,7 @@ from pathlib import Path
 TOP = Path(__file__).resolve().parent.parent
 CRATES = TOP / "crates"
 README = TOP / "README.md"
-LISTED = [README, TOP / "docs" / "GUIDE.md"]
+LISTED = [README, TOP / "docs" / "GUIDE.md", TOP / "docs" / "READING.md"]
 HELP = CRATES / "stn_line" / "src" / "help.rt"
 FORMATS = TOP / "docs" / "FORMATS.md"
 DOCUMENTS = [README, *sorted((TOP / "docs").glob("*.md")), TOP / "bench" / "README.md"]
