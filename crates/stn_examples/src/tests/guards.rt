@@ -223,15 +223,27 @@ fn add_in(
     let to = Event::new(events.1)?;
     let least = Ms::new(least)?;
     let most = Ms::new(most)?;
-    world.add(site, from, to, least, most).ok()?;
-    Some(())
+    match world.add(site, from, to, least, most) {
+        Ok(_) => Some(()),
+        Err(_) => None,
+    }
 }
 
 fn done_in(world: &mut World<Global>, site: u32, event: u16, time: i64) -> Option<()> {
     let event = Event::new(event)?;
     let time = Ms::new(time)?;
-    world.done(site, event, time).ok()?;
-    Some(())
+    if world.done(site, event, time).is_ok() {
+        Some(())
+    } else {
+        None
+    }
+}
+
+fn merge_in(world: &mut World<Global>, into: u32, from: u32) -> Option<()> {
+    match world.merge(into, from) {
+        Ok(_) => Some(()),
+        Err(_) => None,
+    }
 }
 
 // A world whose first site adds the same two bounds, and then those of the guard; the second takes them in.
@@ -243,7 +255,7 @@ fn guarded_world(alloc: Global) -> Option<World<Global>> {
     add_in(&mut world, 1, (0, 2), 0, 10_000)?;
     add_in(&mut world, 1, (0, 2), 5_000, 7_000)?;
     add_in(&mut world, 1, (0, 3), 7_000, 9_000)?;
-    world.merge(2, 1).ok()?;
+    merge_in(&mut world, 2, 1)?;
     Some(world)
 }
 
@@ -272,8 +284,8 @@ fn acts_apart_in_a_world(alloc: Global) -> Option<bool> {
     let mut world = guarded_world(alloc)?;
     done_in(&mut world, 1, 2, 5_000)?;
     done_in(&mut world, 2, 3, 9_000)?;
-    world.merge(1, 2).ok()?;
-    world.merge(2, 1).ok()?;
+    merge_in(&mut world, 1, 2)?;
+    merge_in(&mut world, 2, 1)?;
     Some(has_windows(&world, 1)? && has_windows(&world, 2)?)
 }
 
