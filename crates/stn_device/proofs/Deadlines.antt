@@ -1,6 +1,5 @@
 -- Time that passes over several calls of a stream, by a deadline.
-use Rattle.std.proofs.Common.{◌≡◌, ℕ, ◌<◌, ◌≤◌, Option, None, Some}
-use Rattle.std.specs.Prelude.{⊤}
+use Rattle.std.{proofs.Common.{◌≡◌, ℕ, ◌<◌, ◌≤◌, Option, None, Some}, specs.Prelude.⊤}
 
 -- calls were made before the deadline alone, and are over by then
 abbrev pub Waits : ℕ → Option ℕ → Option ℕ → Type 0

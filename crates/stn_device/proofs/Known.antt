@@ -1,8 +1,5 @@
 -- Known bytes over several calls of a device.
-use Rattle.std.proofs.Common.{◌≡◌, ℕ, ◌+◌, ◌-◌, ◌^◌, ◌<◌, ◌≤◌, min, List, ◌++◌, length, take, drop, Option, Result, Ok, Err, true, sym, ap, subst, ◌∙◌, arith, append_assoc, append-nil, length-append}
-use Rattle.std.proofs.{lemmas.Bool.false≢true, lemmas.List.take-append-drop, KnownBytes.Appends-trans, KnownBytes.Consumes-trans}
-use Rattle.std.specs.Io.KnownBytes.{Appends, Consumes}
-use Rattle.std.specs.Result.{is_ok, OnOk}
+use Rattle.std.{proofs.{Common.{◌≡◌, ℕ, ◌+◌, ◌-◌, ◌^◌, ◌<◌, ◌≤◌, min, List, ◌++◌, length, take, drop, Option, Result, Ok, Err, true, sym, ap, subst, ◌∙◌, arith, append_assoc, append-nil, length-append}, lemmas.{Bool.false≢true, List.take-append-drop}, KnownBytes.{Appends-trans, Consumes-trans}}, specs.{Io.KnownBytes.{Appends, Consumes}, Result.{is_ok, OnOk}}}
 use Rattle.stn_device.specs.Bytes.{ConsumesAtMost}
 
 -- the fault of an answer

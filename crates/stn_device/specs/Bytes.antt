@@ -1,6 +1,5 @@
-use Rattle.std.specs.Prelude.{◌≡◌, ◌⊎◌, ℕ, ◌≤◌, List, ◌++◌, length, Option}
-use Rattle.std.specs.Io.KnownBytes.{Appends, Consumes, IsAtEnd}
-use Rattle.stn_device.specs.{Counted.counted_device, Counted.CountsFailure, declared.counted.Counted.Counted}
+use Rattle.std.specs.{Prelude.{◌≡◌, ◌⊎◌, ℕ, ◌≤◌, List, ◌++◌, length, Option}, Io.KnownBytes.{Appends, Consumes, IsAtEnd}}
+use Rattle.stn_device.specs.{Counted.{counted_device, CountsFailure}, declared.counted.Counted.Counted}
 
 -- so many bytes of a script, a session, a log or a stream of replies are read at most
 abbrev pub most_bytes : ℕ

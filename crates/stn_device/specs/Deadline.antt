@@ -1,19 +1,18 @@
 -- A deadline, and how time passes at a stream: in nanoseconds of the stream's clock, where that is known.
-use Rattle.std.specs.Prelude.{◌≡◌, ◌⊎◌, ℕ, ◌+◌, ◌<◌, ◌≤◌, min, Option, Some, None, Result, IsErr, ⊤}
-use Rattle.std.specs.Duration.{as_nanos, max_nanos}
-use Rattle.stn_device.specs.{declared.deadline.Deadline.Deadline, declared.deadline.UntilDeadline.UntilDeadline}
+use Rattle.std.specs.{Prelude.{◌≡◌, ◌⊎◌, ℕ, ◌+◌, ◌<◌, ◌≤◌, min, Option, Some, None, Result, IsErr, ⊤}, Duration.{as_nanos, max_nanos}}
+use Rattle.stn_device.specs.declared.deadline.{Deadline.Deadline, UntilDeadline.UntilDeadline}
 
 -- the moment from which it counts
-abbrev pub start_of : Deadline → ℕ
-start_of deadline = as_nanos deadline.from
+abbrev pub deadline_start : Deadline → ℕ
+deadline_start deadline = as_nanos deadline.from
 
 -- how long after that its time is over
 abbrev pub limit_of : Deadline → ℕ
 limit_of deadline = as_nanos deadline.limit
 
 -- the moment at which the time is over: no clock shows a later one than the last
-abbrev pub end_of : Deadline → ℕ
-end_of deadline = min (start_of deadline + limit_of deadline) max_nanos
+abbrev pub deadline_end : Deadline → ℕ
+deadline_end deadline = min (deadline_start deadline + limit_of deadline) max_nanos
 
 -- the stream whose calls have a deadline
 abbrev pub timed_stream : {S : Type 0} → UntilDeadline S → S

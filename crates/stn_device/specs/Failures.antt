@@ -1,7 +1,7 @@
 -- What is printed where an input can't be read, or an output not be written.
-use Rattle.stn_refusal.specs.{declared.failure.Failure.Failure, declared.failure.Failure.TheVariants.Failed, Refusals.out_of_memory}
+use Rattle.stn_refusal.specs.{declared.failure.Failure.{Failure, TheVariants.Failed}, Refusals.out_of_memory}
 use Rattle.stn_refusal.specs.declared.failure.Fault.TheVariants as device
-use Rattle.stn_device.specs.{declared.whole.ReadFault.ReadFault, declared.whole.OutputFault.OutputFault}
+use Rattle.stn_device.specs.declared.whole.{ReadFault.ReadFault, OutputFault.OutputFault}
 use Rattle.stn_device.specs.declared.whole.ReadFault.TheVariants as read
 use Rattle.stn_device.specs.declared.whole.OutputFault.TheVariants as output
 

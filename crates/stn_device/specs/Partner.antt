@@ -1,7 +1,6 @@
 -- Another site, as a session or an exchange sees it.
-use Rattle.std.specs.Prelude.{◌≡◌, ◌⊎◌, ℕ, ◌+◌, ◌-◌, ◌^◌, ◌≤◌, min, Bool, true, List, length, Option, None, Some, ⊤}
-use Rattle.std.specs.Io.KnownBytes.{Consumes, Keeps, IsAtEnd}
-use Rattle.stn_device.specs.{Bytes.most_bytes, Counted.counted_device, Counted.failure_count, declared.partner.Partner.Partner, declared.partner.Ear.Ear}
+use Rattle.std.specs.{Prelude.{◌≡◌, ◌⊎◌, ℕ, ◌+◌, ◌-◌, ◌^◌, ◌≤◌, min, Bool, true, List, length, Option, None, Some, ⊤}, Io.KnownBytes.{Consumes, Keeps, IsAtEnd}}
+use Rattle.stn_device.specs.{Bytes.most_bytes, Counted.{counted_device, failure_count}, declared.partner.{Partner.Partner, Ear.Ear}}
 
 -- what it has left to say and what it was told, and whether it was told that this is the end, where these are known; and how many
 -- reads and writes failed

@@ -1,9 +1,7 @@
 //! Other sites that come, one after the other.
 
 ghost use Rattle.std.specs.Prelude.{◌≡◌, ◌⊎◌, ◌++◌, [], ◌∷◌, Some, OnOk, OnErr, IfOk, IfErr};
-ghost use Rattle.stn_device.specs.Counted.{failure_count};
-ghost use Rattle.stn_device.specs.Partner.{partner_state, heard_bytes, heard_end};
-ghost use Rattle.stn_device.specs.Callers.{CallersState, Comes, gone_too, comer_saying, callers_of, has_room};
+ghost use Rattle.stn_device.specs.{Counted.failure_count, Partner.{partner_state, heard_bytes, heard_end}, Callers.{CallersState, Comes, gone_too, comer_saying, callers_of, has_room}};
 ghost use Rattle.stn_refusal.specs.declared.failure.Failure.TheVariants.{Failed};
 ghost use Rattle.stn_refusal.specs.declared.failure.Fault.TheVariants as fault;
 

@@ -1,8 +1,5 @@
-ghost use Rattle.std.specs.Prelude.{◌≡◌, ◌<◌, ◌-◌, length, Ok, OnOk, OnErr, IfOk};
-ghost use Rattle.std.specs.Io.{ReadsAtMost, WritesAtMost};
-ghost use Rattle.std.specs.Io.KnownBytes.{Keeps, ReadConsumes, WriteAppends};
-ghost use Rattle.stn_device.specs.Counted.{counted_device, failure_count, CountsFailure, KeepsCount};
-ghost use Rattle.stn_device.specs.Partner.{IsEnded};
+ghost use Rattle.std.specs.{Prelude.{◌≡◌, ◌<◌, ◌-◌, length, Ok, OnOk, OnErr, IfOk}, Io.{ReadsAtMost, WritesAtMost, KnownBytes.{Keeps, ReadConsumes, WriteAppends}}};
+ghost use Rattle.stn_device.specs.{Counted.{counted_device, failure_count, CountsFailure, KeepsCount}, Partner.IsEnded};
 
 use crate::partner::Finish;
 use std::io;

@@ -1,12 +1,7 @@
 //! Streams whose calls end by a deadline.
 
-ghost use Rattle.std.specs.Prelude.{◌≡◌, ◌≢◌, ◌↔◌, ◌+◌, ◌<◌, IsSome, IfSome, IfOk, IfErr, OnOk, OnErr};
-ghost use Rattle.std.specs.Duration.{as_nanos};
-ghost use Rattle.std.specs.Io.{ReadsAtMost, WritesAtMost};
-ghost use Rattle.std.specs.Io.KnownBytes.{Keeps, ReadConsumes, WriteAppends};
-ghost use Rattle.std.specs.IoError.{error_kind};
-ghost use Rattle.stn_device.specs.Deadline.{start_of, limit_of, end_of, timed_stream, deadline_of, ShowsTime, IsTimeLeft, PassesAtMost, KeepsDeadline};
-ghost use Rattle.stn_device.specs.Partner.{IsEnded};
+ghost use Rattle.std.specs.{Prelude.{◌≡◌, ◌≢◌, ◌↔◌, ◌+◌, ◌<◌, IsSome, IfSome, IfOk, IfErr, OnOk, OnErr}, Duration.as_nanos, Io.{ReadsAtMost, WritesAtMost, KnownBytes.{Keeps, ReadConsumes, WriteAppends}}, IoError.error_kind};
+ghost use Rattle.stn_device.specs.{Deadline.{deadline_start, limit_of, deadline_end, timed_stream, deadline_of, ShowsTime, IsTimeLeft, PassesAtMost, KeepsDeadline}, Partner.IsEnded};
 
 use crate::partner::Finish;
 use std::io::{self, Error, ErrorKind, Read, Write};
@@ -37,7 +32,7 @@ pub struct Deadline {
 impl Deadline {
     /// So long after a moment.
     pub fn after(from: Duration, limit: Duration) -> Deadline
-        ensures from { start_of result ≡ as_nanos from }
+        ensures from { deadline_start result ≡ as_nanos from }
         ensures limit { limit_of result ≡ as_nanos limit }
     {
         Deadline { from, limit }
@@ -45,7 +40,7 @@ impl Deadline {
 
     /// So long after now. The timer may fail.
     pub fn start<T: Timer>(timer: &T, limit: Duration) -> io::Result<Deadline>
-        ensures from { IfOk result (λ deadline. ShowsTime (T.time timer.now) (start_of deadline)) }
+        ensures from { IfOk result (λ deadline. ShowsTime (T.time timer.now) (deadline_start deadline)) }
         ensures limit { IfOk result (λ deadline. limit_of deadline ≡ as_nanos limit) }
     {
         Ok(Deadline::after(timer.now()?, limit))
@@ -53,8 +48,8 @@ impl Deadline {
 
     /// How much time is left at a moment; `None` where none is.
     pub fn left(self, now: Duration) -> Option<Duration>
-        ensures in_time { IsSome result ↔ (as_nanos now < end_of self) }
-        ensures rest { IfSome result (λ left. as_nanos now + as_nanos left ≡ end_of self) }
+        ensures in_time { IsSome result ↔ (as_nanos now < deadline_end self) }
+        ensures rest { IfSome result (λ left. as_nanos now + as_nanos left ≡ deadline_end self) }
     {
         let left = self.from.saturating_add(self.limit).saturating_sub(now);
         if left.is_zero() { None } else { Some(left) }
@@ -118,7 +113,7 @@ impl<S> UntilDeadline<S> {
 impl<S: TimedStream> UntilDeadline<S> {
     // How much time is left. A fault where none is, or where the timer fails.
     fn left(&self) -> io::Result<Duration>
-        ensures left { IfOk result (λ left. IsTimeLeft (end_of (deadline_of self.now)) (S.time (timed_stream self.now)) (as_nanos left)) }
+        ensures left { IfOk result (λ left. IsTimeLeft (deadline_end (deadline_of self.now)) (S.time (timed_stream self.now)) (as_nanos left)) }
         ensures over { IfErr result (λ error. error_kind error ≢ ErrorKind.Interrupted) }
     {
         match self.stream.now() {
@@ -137,7 +132,7 @@ impl<S: TimedStream> Read for UntilDeadline<S> {
     fn read(&mut self, buf: &mut [u8]) -> io::Result<usize>
         ensures bound { ReadsAtMost result buf.new }
         ensures bytes { ReadConsumes (S.remaining (timed_stream self.old)) (S.remaining (timed_stream self.new)) result buf.new }
-        ensures deadline { KeepsDeadline (end_of (deadline_of self.old)) (S.time (timed_stream self.old)) (S.time (timed_stream self.new)) result }
+        ensures deadline { KeepsDeadline (deadline_end (deadline_of self.old)) (S.time (timed_stream self.old)) (S.time (timed_stream self.new)) result }
         ensures again { IfErr result (λ error. error_kind error ≢ ErrorKind.Interrupted) }
         ensures stays { deadline_of self.new ≡ deadline_of self.old }
     {
@@ -158,7 +153,7 @@ impl<S: TimedStream> Write for UntilDeadline<S> {
     fn write(&mut self, buf: &[u8]) -> io::Result<usize>
         ensures bound { WritesAtMost result buf.now }
         ensures bytes { WriteAppends (S.contents (timed_stream self.old)) (S.contents (timed_stream self.new)) result buf.now }
-        ensures deadline { KeepsDeadline (end_of (deadline_of self.old)) (S.time (timed_stream self.old)) (S.time (timed_stream self.new)) result }
+        ensures deadline { KeepsDeadline (deadline_end (deadline_of self.old)) (S.time (timed_stream self.old)) (S.time (timed_stream self.new)) result }
         ensures again { IfErr result (λ error. error_kind error ≢ ErrorKind.Interrupted) }
         ensures stays { deadline_of self.new ≡ deadline_of self.old }
     {

@@ -1,7 +1,6 @@
 //! Another site: what it says is read, and what it is told is written.
 
-ghost use Rattle.std.specs.Prelude.{◌≡◌, [], false, OnOk, OnErr};
-ghost use Rattle.std.specs.Io.KnownBytes.{Keeps};
+ghost use Rattle.std.specs.{Prelude.{◌≡◌, [], false, OnOk, OnErr}, Io.KnownBytes.Keeps};
 ghost use Rattle.stn_device.specs.Partner.{partner_state, IsEnded, Parts, heard_bytes, heard_end};
 
 use crate::counted::Counted;

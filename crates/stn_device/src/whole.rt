@@ -1,10 +1,6 @@
-ghost use Rattle.std.specs.Prelude.{◌≡◌, ◌≢◌, ◌<◌, ◌≤◌, ◌+◌, length, Err, OnOk, OnErr, IfOk, IfSome, IsErrOf};
-ghost use Rattle.std.specs.Io.KnownBytes.{Appends, Consumes, IsAtEnd};
-ghost use Rattle.stn_device.specs.Counted.{counted_device, CountsFailure, KeepsCount};
-ghost use Rattle.stn_device.specs.Bytes.{ConsumesAtMost, AppendsPart, UsesUpTo};
-ghost use Rattle.stn_device.specs.declared.whole.ReadFault.TheVariants.{Memory};
+ghost use Rattle.std.specs.{Prelude.{◌≡◌, ◌≢◌, ◌<◌, ◌≤◌, ◌+◌, length, Err, OnOk, OnErr, IfOk, IfSome, IsErrOf}, Io.KnownBytes.{Appends, Consumes, IsAtEnd}};
+ghost use Rattle.stn_device.specs.{Counted.{counted_device, CountsFailure, KeepsCount}, Bytes.{ConsumesAtMost, AppendsPart, UsesUpTo}, declared.whole.ReadFault.TheVariants.Memory, Failures.{read_failure, output_failure}};
 ghost use Rattle.stn_device.specs.declared.whole.OutputFault.TheVariants as output;
-ghost use Rattle.stn_device.specs.Failures.{read_failure, output_failure};
 
 use crate::counted::Counted;
 use std::alloc::{AllocError, Allocator};

@@ -1,7 +1,5 @@
-use Rattle.std.proofs.Common.{ℕ, pos, zero, suc, ◌*◌, ◌≤◌, All, refl, arith}
-use Rattle.std.proofs.{lemmas.List.Elements.All-nil, lemmas.List.Elements.All-push, lemmas.Int.ints, lemmas.Bool.false≢true, lemmas.Bool.Decides.nat_tests, lemmas.List.take_all}
-use Rattle.stn_net.specs.{Difference.NamesEvents, Schedule.Meets, Horizon.horizon_bound, Horizon.horizon_bounds}
-use Rattle.stn_net.proofs.Horizons.{length-horizon_bounds}
+use Rattle.std.proofs.{Common.{ℕ, pos, zero, suc, ◌*◌, ◌≤◌, All, refl, arith}, lemmas.{List.{take_all, Elements.{All-nil, All-push}}, Int.ints, Bool.{false≢true, Decides.nat_tests}}}
+use Rattle.stn_net.{specs.{Difference.NamesEvents, Schedule.Meets, Horizon.{horizon_bound, horizon_bounds}}, proofs.Horizons.length-horizon_bounds}
 use Rattle.stn_lift.specs.PlanSource.{bare, IsSoundSource}
 
 -- the horizon bounds of some of the events name these events

@@ -1,12 +1,7 @@
 -- How many bounds a plan has.
-use Rattle.std.proofs.Common.{◌≡◌, ℕ, ◌+◌, ◌-◌, ◌*◌, ◌<◌, ◌≤◌, ℤ, zero, suc, Bool, true, false, not, ◌&&◌, eqb, nat_lt, cond, [], ◌∷◌, ◌++◌, length, refl, arith, length-append}
-use Rattle.std.proofs.{Math.Nat.mul-le-mul_left, lemmas.Bool.eq-eqb, lemmas.Bool.Decides.nat_tests}
-use Rattle.std.specs.Ordering.{int_cmp}
-use Rattle.stn_net.specs.{Event.most_steps, Difference.Difference, Horizon.horizon_bounds}
-use Rattle.stn_net.proofs.Horizons.{length-horizon_bounds}
-use Rattle.stn_lift.specs.BaseBounds.{step_of, order_bound, pair_order, event_orders, orders, duration_bound, duration_bounds}
-use Rattle.stn_lift.specs.PlanSource.{most_base_bounds}
-use Rattle.stn_lift.proofs.SoundBounds.{bounds}
+use Rattle.std.{proofs.{Common.{◌≡◌, ℕ, ◌+◌, ◌-◌, ◌*◌, ◌<◌, ◌≤◌, ℤ, zero, suc, Bool, true, false, not, ◌&&◌, eqb, nat_lt, cond, [], ◌∷◌, ◌++◌, length, refl, arith, length-append}, Math.Nat.mul-le-mul_left, lemmas.Bool.{eq-eqb, Decides.nat_tests}}, specs.Ordering.int_cmp}
+use Rattle.stn_net.{specs.{Event.most_steps, Difference.Difference, Horizon.horizon_bounds}, proofs.Horizons.length-horizon_bounds}
+use Rattle.stn_lift.{specs.{BaseBounds.{step_of, order_bound, pair_order, event_orders, orders, duration_bound, duration_bounds}, PlanSource.most_base_bounds}, proofs.SoundBounds.bounds}
 
 pub length-duration_bounds : (duration : ℕ → ℤ) (steps : ℕ) → length (duration_bounds duration steps) ≡ steps
 unfolding duration_bounds

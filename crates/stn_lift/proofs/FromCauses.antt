@@ -1,21 +1,12 @@
 -- The cause of a fault gives the fault: of the text of a plan, and of the steps of a plan in a domain.
-use Rattle.std.proofs.Common.{◌≡◌, ◌<◌, ◌≤◌, ◌+◌, ℕ, Bool, true, false, cond, nat_lt, List, [], ◌∷◌, ◌++◌, length, Option, Result, Ok, Err, IsOk, refl, sym, ap, subst, ◌∙◌, arith, All}
-use Rattle.std.specs.Option.{option_to_list}
-use Rattle.std.proofs.lemmas.Bool.{lt-ltb, le-ltb, ltb-true, ltb-false}
-use Rattle.std.proofs.lemmas.List.Elements.{All-head, All-tail}
+use Rattle.std.{proofs.{Common.{◌≡◌, ◌<◌, ◌≤◌, ◌+◌, ℕ, Bool, true, false, cond, nat_lt, List, [], ◌∷◌, ◌++◌, length, Option, Result, Ok, Err, IsOk, refl, sym, ap, subst, ◌∙◌, arith, All}, lemmas.{Bool.{lt-ltb, le-ltb, ltb-true, ltb-false}, List.Elements.{All-head, All-tail}}}, specs.Option.option_to_list}
 use Rattle.stn_text.specs.Faults.{◌>>=◌, Unless}
 use Rattle.stn_pddl.specs.Schemas.{ActionSchema}
-use Rattle.stn_lift.specs.{declared.plan.fault.PlanFault.PlanFault, declared.fault.LiftFault.LiftFault, Plan.Lines.lines_of}
+use Rattle.stn_lift.{specs.{declared.{plan.fault.PlanFault.PlanFault, fault.LiftFault.LiftFault}, Plan.{Lines.lines_of, Steps.{PlannedStep, most_text, most_steps, line_step, steps_of, limited, plan_of}, Faults.{IsFirstLineFault, IsPlanCause as IsPlanCause}}, Activities.{Activity, activity_of, activities, IsFirstRefusedStep, IsLiftCause as IsLiftCause}}, proofs.{StepFacts.plan_of-many, plan.FaultFacts.lines_fault, Steps.cause_of}}
 use Rattle.stn_lift.specs.declared.plan.fault.PlanFault.TheVariants as plan
 use Rattle.stn_lift.specs.declared.fault.LiftFault.TheVariants as lifting
 use Rattle.stn_lift.specs.Plan.Steps as read
-use Rattle.stn_lift.specs.Plan.Steps.{PlannedStep, most_text, most_steps, line_step, steps_of, limited, plan_of}
-use Rattle.stn_lift.specs.Plan.Faults.{IsFirstFault, IsCause as IsPlanCause}
 use Rattle.stn_lift.specs.Activities as lifted
-use Rattle.stn_lift.specs.Activities.{Activity, activity_of, activities, IsFirstRefused, IsCause as IsLiftCause}
-use Rattle.stn_lift.proofs.StepFacts.{plan_of-many}
-use Rattle.stn_lift.proofs.plan.FaultFacts.{lines_fault}
-use Rattle.stn_lift.proofs.Steps.{cause_of}
 
 -- after lines without a fault
 lines_then : (earlier later : List (ℕ × List ℕ)) (fault : PlanFault) → All (λ line. IsOk (line_step line)) earlier → steps_of later ≡ Err fault
@@ -39,7 +30,7 @@ module _ (text : List ℕ) where
   unfolding plan_of
   short_text fault short is = let fits : nat_lt most_text (length text) ≡ false = le-ltb _ _ short in rw (fits, is) refl
 
-  by_line : (fault : PlanFault) → (length text ≤ most_text) × IsFirstFault (lines_of text) fault → plan_of text ≡ Err fault
+  by_line : (fault : PlanFault) → (length text ≤ most_text) × IsFirstLineFault (lines_of text) fault → plan_of text ≡ Err fault
   by_line fault (short, is) =
       short_text fault short (ap steps_of is.whole ∙ lines_then is.earlier (is.line ∷ is.later) fault is.none_before (first_line is.line is.later fault is.its_fault))
 
@@ -105,16 +96,16 @@ unfolding activities
 first_step actions before step steps fault is = ap (λ r. r >>= λ first. activities actions (before + 1) steps >>= λ others. Ok (first ∷ others)) is
 
 module _ (actions : List ActionSchema) (steps : List PlannedStep) where
-  by_step : (fault : LiftFault) → IsFirstRefused actions steps fault → activities actions 0 steps ≡ Err fault
+  by_step : (fault : LiftFault) → IsFirstRefusedStep actions steps fault → activities actions 0 steps ≡ Err fault
   by_step fault is =
       ap (activities actions 0) is.whole ∙ steps_then actions 0 is.earlier (is.step ∷ is.later) fault is.none_before (subst (λ n. activities actions n (is.step ∷ is.later) ≡ Err fault) (omega arith) (first_step actions (length is.earlier) is.step is.later fault is.refused))
 
-  pub lift_fault_of : (fault : LiftFault) → lifted.is_memory fault ≡ false → IsLiftCause actions steps fault → activities actions 0 steps ≡ Err fault
+  pub lift_fault_of : (fault : LiftFault) → lifted.is_lift_memory fault ≡ false → IsLiftCause actions steps fault → activities actions 0 steps ≡ Err fault
   lift_fault_of (lifting.UnknownAction step) some is = by_step _ is
   lift_fault_of (lifting.Arity step) some is = by_step _ is
   lift_fault_of (lifting.DurationDiffers step) some is = by_step _ is
   lift_fault_of (lifting.PastHorizon step) some is = by_step _ is
   lift_fault_of lifting.Memory some is = cc
 
-  pub lift_cause_for : (fault : LiftFault) → lifted.is_memory fault ≡ false → activities actions 0 steps ≡ Err fault → IsLiftCause actions steps fault
+  pub lift_cause_for : (fault : LiftFault) → lifted.is_lift_memory fault ≡ false → activities actions 0 steps ≡ Err fault → IsLiftCause actions steps fault
   lift_cause_for fault some is = cause_of actions steps fault (subst (λ memory. Unless memory (activities actions 0 steps ≡ Err fault)) (sym some) is)

@@ -1,18 +1,9 @@
 -- The base of a plan in a domain.
-use Rattle.std.specs.{Prelude.slice_index_or, List.All, List.AllByRecursion}
-use Rattle.std.proofs.Common.{◌≡◌, ℕ, ◌+◌, ◌*◌, ◌<◌, ◌≤◌, ℤ, pos, ◌+ℤ◌, ◌≤ℤ◌, zero, suc, List, [], ◌∷◌, length, take, Ok, refl, sym, ap, subst, ◌∙◌, arith}
-use Rattle.std.proofs.{lemmas.Int.ints, lemmas.List.length-map}
+use Rattle.std.{specs.{Prelude.slice_index_or, List.{All, AllByRecursion}}, proofs.{Common.{◌≡◌, ℕ, ◌+◌, ◌*◌, ◌<◌, ◌≤◌, ℤ, pos, ◌+ℤ◌, ◌≤ℤ◌, zero, suc, List, [], ◌∷◌, length, take, Ok, refl, sym, ap, subst, ◌∙◌, arith}, lemmas.{Int.ints, List.length-map}}}
 use Rattle.stn_time.specs.Time.{horizon}
-use Rattle.stn_net.specs.{Event.most_steps, Difference.NamesEvents, Horizon.horizon_bounds, Schedule.times_of, Schedule.IsSchedule}
-use Rattle.stn_pddl.specs.Tree.Scan.{most_text}
-use Rattle.stn_pddl.specs.{Schemas.ActionSchema, Domains.domain_of}
-use Rattle.stn_lift.specs.Plan.Steps.{PlannedStep, plan_of}
-use Rattle.stn_lift.specs.{Footprints.Footprint, Activities.Activity, Activities.activities}
-use Rattle.stn_lift.specs.BaseBounds.{times_behind, event_times, events_interfere, duration_of, lifted_bounds, KeepsOrder}
-use Rattle.stn_lift.specs.Timelines.{IsTimed, IsLifted, IsWhole, numbered_bounds}
-use Rattle.stn_lift.specs.PlanSource.{files, of_lift, base_of, source_with, activities_of, most_base_bounds, IsSoundSource, IsBase}
-use Rattle.stn_lift.proofs.SoundBounds.{bounds, first_horizons, all_named, planned_possible, order_keeps}
-use Rattle.stn_lift.proofs.{FewBounds.few_bounds, Steps.length-activities, Texts.lifted-Ok, Texts.texts_lifted}
+use Rattle.stn_net.specs.{Event.most_steps, Difference.NamesEvents, Horizon.horizon_bounds, Schedule.{times_of, IsSchedule}}
+use Rattle.stn_pddl.specs.{Tree.Scan.most_text, Schemas.ActionSchema, Domains.domain_of}
+use Rattle.stn_lift.{specs.{Plan.Steps.{PlannedStep, plan_of}, Footprints.Footprint, Activities.{Activity, activities}, BaseBounds.{times_behind, event_times, events_interfere, duration_of, lifted_bounds, KeepsOrder}, Timelines.{IsTimed, IsLifted, IsWholeTimeline, numbered_bounds}, PlanSource.{files, of_lift, base_of, source_with, activities_of, most_base_bounds, IsSoundSource, IsBase}}, proofs.{SoundBounds.{bounds, first_horizons, all_named, planned_possible, order_keeps}, FewBounds.few_bounds, Steps.length-activities, Texts.{lifted-Ok, texts_lifted}}}
 
 -- a time lies from 0 to the horizon
 abbrev IsWithin : ℤ → Type 0
@@ -87,7 +78,7 @@ module _ (steps : List Activity) (durations times : List ℤ) (footprints : List
   counted : length durations ≡ length steps
   counted = ap length made.lasting ∙ rw length-map refl
 
-  pub is_whole : length steps ≤ most_steps → IsWhole durations times footprints
+  pub is_whole : length steps ≤ most_steps → IsWholeTimeline durations times footprints
   is_whole small = record { few = omega (arith, counted); many_times = made.many_times; many_footprints = made.many_footprints }
 
   module _ (domain plan : List ℕ) (actions : List ActionSchema) (planned : List PlannedStep) (domain_is : domain_of domain ≡ Ok actions) (plan_is : plan_of plan ≡ Ok planned)

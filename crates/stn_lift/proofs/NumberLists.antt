@@ -1,14 +1,8 @@
 -- Numbers of atoms, as a numbering grows.
-use Rattle.std.proofs.Common.{◌≡◌, ℕ, ◌+◌, ◌<◌, List, [], ◌∷◌, ◌++◌, map, length, take, get_or, IsPermutation, sym, ap, subst, ◌∙◌, ⊎_elim, append_assoc, arith}
-use Rattle.std.specs.List.{AllZip, AllByRecursion}
-use Rattle.std.proofs.lemmas.List.{map-append, take_more, get_or-map, length-map}
-use Rattle.std.proofs.lemmas.List.Elements.{All-from_recursion, Contains-push, Contains-push_cases, Contains-append_left}
-use Rattle.std.proofs.lemmas.List.Sorted.{IsPermutation-sym, Contains-permutation}
+use Rattle.std.{proofs.{Common.{◌≡◌, ℕ, ◌+◌, ◌<◌, List, [], ◌∷◌, ◌++◌, map, length, take, get_or, IsPermutation, sym, ap, subst, ◌∙◌, ⊎_elim, append_assoc, arith}, lemmas.List.{map-append, take_more, get_or-map, length-map, Elements.{All-from_recursion, Contains-push, Contains-push_cases, Contains-append_left}, Sorted.{IsPermutation-sym, Contains-permutation}}}, specs.List.{AllZip, AllByRecursion}}
 use Rattle.indexmap.proofs.SetLemmas.{AllZip-push}
-use Rattle.stn_pddl.specs.Schemas.{TermSchema, AtomSchema}
-use Rattle.stn_pddl.specs.Tree.Names.{folded}
-use Rattle.stn_lift.specs.Footprints.{GroundAtom, Footprint, name_of, ground}
-use Rattle.stn_lift.specs.Numbering.{Numbering, IsNameAt, IsNumberOf, Extends, AreNumbersOf, IsNumbered}
+use Rattle.stn_pddl.specs.{Schemas.{TermSchema, AtomSchema}, Tree.Names.folded}
+use Rattle.stn_lift.specs.{Footprints.{GroundAtom, Footprint, term_name, ground}, Numbering.{Numbering, IsNameAt, IsNumberOf, KeepsNumbers, AreNumbersOf, IsNumbered}}
 
 pub zip_weaker : {A B : Type 0} (R S : A → B → Type 0) → ((a : A) (b : B) → R a b → S a b) → (xs : List A) (ys : List B) → AllZip R xs ys → AllZip S xs ys
 zip_weaker R S each [] [] all = all
@@ -17,16 +11,16 @@ zip_weaker R S each (a ∷ xs) [] all = absurd all
 zip_weaker R S each (a ∷ xs) (b ∷ ys) all = (each a b all.0, zip_weaker R S each xs ys all.1)
 
 -- what has a number keeps it
-pub kept_itself : (numbering : Numbering) → Extends numbering numbering
+pub kept_itself : (numbering : Numbering) → KeepsNumbers numbering numbering
 kept_itself numbering = record { names = λ number name there. there; spellings = λ number spelling there. there }
 
-pub kept_along : (first second third : Numbering) → Extends first second → Extends second third → Extends first third
+pub kept_along : (first second third : Numbering) → KeepsNumbers first second → KeepsNumbers second third → KeepsNumbers first third
 kept_along first second third one two = record {
   names = λ number name there. two.names number name (one.names number name there);
   spellings = λ number spelling there. two.spellings number spelling (one.spellings number spelling there);
 }
 
-module _ (old new : Numbering) (kept : Extends old new) where
+module _ (old new : Numbering) (kept : KeepsNumbers old new) where
   pub names_kept : (spelling : List ℕ) (atom : GroundAtom) → AllZip (IsNameAt old.names) spelling atom → AllZip (IsNameAt new.names) spelling atom
   names_kept spelling atom = zip_weaker (IsNameAt old.names) (IsNameAt new.names) kept.names spelling atom
 
@@ -54,10 +48,10 @@ module _ (args : List (List ℕ)) where
   -- one term more
   pub spelled_more : (names : List (List ℕ)) (spelling : List ℕ) (first : List ℕ) (terms : List TermSchema) (place number : ℕ) (term : TermSchema)
       → place < length terms → term ≡ get_or terms place term
-      → AllZip (IsNameAt names) spelling (first ∷ map (λ t. folded (name_of args t)) (take place terms)) → IsNameAt names number (folded (name_of args term))
-      → AllZip (IsNameAt names) (spelling ++ number ∷ []) (first ∷ map (λ t. folded (name_of args t)) (take (place + 1) terms))
+      → AllZip (IsNameAt names) spelling (first ∷ map (λ t. folded (term_name args t)) (take place terms)) → IsNameAt names number (folded (term_name args term))
+      → AllZip (IsNameAt names) (spelling ++ number ∷ []) (first ∷ map (λ t. folded (term_name args t)) (take (place + 1) terms))
   spelled_more names spelling first terms place number term within here all one =
-      let f : TermSchema → List ℕ = λ t. folded (name_of args t) in
+      let f : TermSchema → List ℕ = λ t. folded (term_name args t) in
       let more : take (place + 1) terms ≡ take place terms ++ term ∷ [] = take_more terms place term within ∙ ap (λ t. take place terms ++ t ∷ []) (sym here) in
       let mapped : map f (take (place + 1) terms) ≡ map f (take place terms) ++ f term ∷ [] = ap (map f) more ∙ map-append f (take place terms) (term ∷ []) in
       subst (λ ts. AllZip (IsNameAt names) (spelling ++ number ∷ []) (first ∷ ts)) (sym mapped)

@@ -1,8 +1,5 @@
 -- Sets in their order, and what their keys say.
-use Rattle.std.proofs.Common.{◌≡◌, ℕ, ◌<◌, Bool, true, false, cond, List, [], ◌∷◌, ◌++◌, map, zero, suc, Option, Some, None, slice_get, refl, sym, ap, ◌∙◌, ⊎_elim, Decides, arith}
-use Rattle.std.specs.{List.IsDistinct, List.list_any, Option.option_map}
-use Rattle.std.proofs.{lemmas.Bool.false≢true, lemmas.Bool.cases_lt, lemmas.Map.Keys.apart_from_distinct, lemmas.List.map-append}
-use Rattle.std.proofs.lemmas.Option.{slice_get-map, slice_get_within, get_or_from_slice_get, same_Some}
+use Rattle.std.{proofs.{Common.{◌≡◌, ℕ, ◌<◌, Bool, true, false, cond, List, [], ◌∷◌, ◌++◌, map, zero, suc, Option, Some, None, slice_get, refl, sym, ap, ◌∙◌, ⊎_elim, Decides, arith}, lemmas.{Bool.{false≢true, cases_lt}, Map.Keys.apart_from_distinct, List.map-append, Option.{slice_get-map, slice_get_within, get_or_from_slice_get, same_Some}}}, specs.{List.{IsDistinct, list_any}, Option.option_map}}
 use Rattle.indexmap.specs.IndexSet.{insert_key}
 use Rattle.stn_lift.specs.Numbering.{AreDifferent}
 

@@ -1,8 +1,6 @@
 -- Names and spellings are equal where they say the same.
-use Rattle.std.proofs.Common.{◌≡◌, ℕ, Vec, Decides, nat_eq, refl}
-use Rattle.std.specs.Cmp.Lexicographic.{pointwise}
-use Rattle.std.proofs.{lemmas.Slice.Eq.bytes_eq-Decides, lemmas.Slice.Eq.slice_eq-Decides, lemmas.Bool.Decides.Decides-eqb}
-use Rattle.stn_pddl.specs.{declared.tree.name.Name.Name, Tree.Names.folded, Tree.Names.is_same_word}
+use Rattle.std.{proofs.{Common.{◌≡◌, ℕ, Vec, Decides, nat_eq, refl}, lemmas.{Slice.Eq.{bytes_eq-Decides, slice_eq-Decides}, Bool.Decides.Decides-eqb}}, specs.Cmp.Lexicographic.pointwise}
+use Rattle.stn_pddl.specs.{declared.tree.name.Name.Name, Tree.Names.{folded, is_same_word}}
 use Rattle.stn_lift.specs.AtomViews.{folded_name, spelling_of}
 
 pub names_decide : (a b : Name) → Decides (is_same_word a.bytes.now b.bytes.now) (folded_name a ≡ folded_name b)

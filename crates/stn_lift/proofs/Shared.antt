@@ -1,7 +1,5 @@
 -- Numbers in two lists in order.
-use Rattle.std.proofs.Common.{◌≡◌, ℕ, ◌+◌, ◌<◌, ◌≤◌, false, eqb, List, [], ◌∷◌, length, get_or, drop, refl, sym, arith, suc, length-drop, add-one}
-use Rattle.std.proofs.{Math.Seq.drop-cons, lemmas.Bool.ne_eqb, lemmas.List.get_or-drop, lemmas.List.Elements.All-from_get_or, lemmas.List.Elements.recursion_from_All}
-use Rattle.std.specs.{List.AllByRecursion, List.list_any, List.Sorted.IsNonDecreasing}
+use Rattle.std.{proofs.{Common.{◌≡◌, ℕ, ◌+◌, ◌<◌, ◌≤◌, false, eqb, List, [], ◌∷◌, length, get_or, drop, refl, sym, arith, suc, length-drop, add-one}, Math.Seq.drop-cons, lemmas.{Bool.ne_eqb, List.{get_or-drop, Elements.{All-from_get_or, recursion_from_All}}}}, specs.List.{AllByRecursion, list_any, Sorted.IsNonDecreasing}}
 use Rattle.stn_lift.specs.Footprints.{share}
 
 -- a number below all others is not among them

@@ -1,11 +1,6 @@
 -- What is in two lists at once, by atoms and by their numbers.
-use Rattle.std.specs.{Prelude.slice_index_or, List.AllZip, List.list_any}
-use Rattle.std.proofs.Common.{◌≡◌, ℕ, Bool, true, nat_eq, List, [], ◌∷◌, Some, zero, suc, Contains, Decides, refl, sym, ap, subst, ◌∙◌}
-use Rattle.std.proofs.{lemmas.Bool.Decides.Decides-eqb, lemmas.Bool.Decides.same_from_decides, lemmas.List.Folds.Any-from_list_any, lemmas.List.Folds.list_any-from_Any, lemmas.Option.same_Some, lemmas.Slice.Eq.bytes_eq-Decides, lemmas.Slice.Eq.slice_eq-Decides}
-use Rattle.stn_lift.specs.Footprints.{GroundAtom, Footprint, no_footprint, is_same_atom, IsInBoth, share, touches, interfere}
-use Rattle.stn_lift.specs.Numbering.{Numbering, AreDifferent, IsUnambiguous, IsNameAt, IsNumberOf, AreNumbersOf, IsNumbered}
-use Rattle.stn_lift.specs.Timelines.{numbers_at}
-use Rattle.stn_lift.proofs.NumberLists.{numbers_none}
+use Rattle.std.{specs.{Prelude.slice_index_or, List.{AllZip, list_any}}, proofs.{Common.{◌≡◌, ℕ, Bool, true, nat_eq, List, [], ◌∷◌, Some, zero, suc, Contains, Decides, refl, sym, ap, subst, ◌∙◌}, lemmas.{Bool.Decides.{Decides-eqb, same_from_decides}, List.Folds.{Any-from_list_any, list_any-from_Any}, Option.same_Some, Slice.Eq.{bytes_eq-Decides, slice_eq-Decides}}}}
+use Rattle.stn_lift.{specs.{Footprints.{GroundAtom, Footprint, no_footprint, is_same_atom, IsInBoth, share, touches, interfere}, Numbering.{Numbering, AreDifferent, IsUnambiguous, IsNameAt, IsNumberOf, AreNumbersOf, IsNumbered}, Timelines.numbers_at}, proofs.NumberLists.numbers_none}
 
 -- the test finds an element that is in both lists, and none where there is none
 pub share-Decides : {X : Type 0} (same : X → X → Bool) → ((a b : X) → Decides (same a b) (a ≡ b)) → (xs ys : List X) → Decides (share same xs ys) (IsInBoth xs ys)

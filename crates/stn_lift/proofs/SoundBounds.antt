@@ -1,11 +1,7 @@
 -- What holds of the bounds of a plan.
-use Rattle.std.proofs.Common.{◌≡◌, ◌≢◌, ℕ, ◌+◌, ◌*◌, ◌<◌, ◌≤◌, ℤ, pos, ◌+ℤ◌, ◌≤ℤ◌, ◌<ℤ◌, zero, suc, Bool, true, false, not, ◌&&◌, eqb, nat_lt, cond, List, [], ◌∷◌, ◌++◌, length, get_or, take, Ordering, Less, Equal, Greater, refl, sym, ap, subst, ◌∙◌, arith, append_assoc, length-append}
-use Rattle.std.specs.{List.All, List.AllByRecursion, Ordering.int_cmp, Ordering.MatchOrdering, Cmp.int_ranks}
-use Rattle.std.proofs.{lemmas.Bool.Decides.nat_tests, lemmas.Int.ints, lemmas.List.get_or_default, lemmas.List.take-append-le, lemmas.List.take_all, lemmas.List.Elements.All-from_recursion, lemmas.List.Elements.recursion_from_All}
-use Rattle.stn_time.specs.Time.{horizon}
-use Rattle.stn_time.proofs.Each.{each_joined, each_parted, each_pushed}
-use Rattle.stn_net.specs.{Difference.Difference, Difference.NamesEvents, Horizon.horizon_bound, Horizon.horizon_bounds, Schedule.Meets, Schedule.IsSchedule}
-use Rattle.stn_net.proofs.Horizons.{length-horizon_bounds}
+use Rattle.std.{proofs.{Common.{◌≡◌, ◌≢◌, ℕ, ◌+◌, ◌*◌, ◌<◌, ◌≤◌, ℤ, pos, ◌+ℤ◌, ◌≤ℤ◌, ◌<ℤ◌, zero, suc, Bool, true, false, not, ◌&&◌, eqb, nat_lt, cond, List, [], ◌∷◌, ◌++◌, length, get_or, take, Ordering, Less, Equal, Greater, refl, sym, ap, subst, ◌∙◌, arith, append_assoc, length-append}, lemmas.{Bool.Decides.nat_tests, Int.ints, List.{get_or_default, take-append-le, take_all, Elements.{All-from_recursion, recursion_from_All}}}}, specs.{List.{All, AllByRecursion}, Ordering.{int_cmp, MatchOrdering}, Cmp.int_ranks}}
+use Rattle.stn_time.{specs.Time.horizon, proofs.Each.{each_joined, each_parted, each_pushed}}
+use Rattle.stn_net.{specs.{Difference.{Difference, NamesEvents}, Horizon.{horizon_bound, horizon_bounds}, Schedule.{Meets, IsSchedule}}, proofs.Horizons.length-horizon_bounds}
 use Rattle.stn_lift.specs.BaseBounds.{step_of, duration_bound, order_bound, pair_order, event_orders, orders, duration_bounds, IsOrderedPair, KeepsOrder}
 
 -- by which events interfere, and when each is planned

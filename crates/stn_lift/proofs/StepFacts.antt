@@ -1,12 +1,7 @@
 -- How the steps of a text are read one after another.
-use Rattle.std.proofs.Common.{◌≡◌, ℕ, ℤ, pos, negsuc, ◌≤ℤ◌, Bool, true, false, ◌||◌, cond, ◌≤◌, ◌<◌, nat_lt, length, List, [], ◌∷◌, ◌++◌, Option, Some, None, IfSome, Result, Ok, Err, refl, sym, ap, ◌∙◌, append_assoc, subst, arith, rules}
-use Rattle.std.specs.{Int.is_negative, List.All, Option.option_to_list, Option.option_map_or}
-use Rattle.std.proofs.{lemmas.Bool.or_parts, lemmas.Bool.le-ltb, lemmas.Bool.lt-ltb, lemmas.Bool.Decides.nat_tests, lemmas.List.append-nil}
-use Rattle.std.proofs.lemmas.List.Elements.{All-nil, All-cons, All-append}
+use Rattle.std.{proofs.{Common.{◌≡◌, ℕ, ℤ, pos, negsuc, ◌≤ℤ◌, Bool, true, false, ◌||◌, cond, ◌≤◌, ◌<◌, nat_lt, length, List, [], ◌∷◌, ◌++◌, Option, Some, None, IfSome, Result, Ok, Err, refl, sym, ap, ◌∙◌, append_assoc, subst, arith, rules}, lemmas.{Bool.{or_parts, le-ltb, lt-ltb, Decides.nat_tests}, List.{append-nil, Elements.{All-nil, All-cons, All-append}}}}, specs.{Int.is_negative, List.All, Option.{option_to_list, option_map_or}}}
 use Rattle.stn_text.specs.Faults.{◌>>=◌, Fails, Unless}
-use Rattle.stn_lift.specs.{declared.plan.fault.PlanFault.PlanFault, Plan.Tokens.Lexeme, Plan.Tokens.tokens_of, Plan.Lines.lines_of}
-use Rattle.stn_lift.specs.declared.plan.fault.PlanFault.TheVariants.{TooLong, Negative, TooManySteps}
-use Rattle.stn_lift.specs.Plan.Steps.{most_text, most_steps, PlannedStep, Form, IsPlan, IsTimely, form_of, time_at, duration_of, step_at, timed_step, step_of, line_step, steps_of, limited, plan_of, is_memory}
+use Rattle.stn_lift.specs.{declared.plan.fault.PlanFault.{PlanFault, TheVariants.{TooLong, Negative, TooManySteps}}, Plan.{Tokens.{Lexeme, tokens_of}, Lines.lines_of, Steps.{most_text, most_steps, PlannedStep, Form, IsPlan, IsTimely, form_of, time_at, duration_of, step_at, timed_step, step_of, line_step, steps_of, limited, plan_of, is_memory}}}
 
 -- names that were read before those that are found
 abbrev pub behind_names : List (List ℕ) → Result (List (List ℕ) × List Lexeme) PlanFault → Result (List (List ℕ) × List Lexeme) PlanFault

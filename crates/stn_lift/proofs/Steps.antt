@@ -1,16 +1,10 @@
 -- The steps of a source, one by one and together.
-use Rattle.std.proofs.Common.{◌≡◌, ℕ, ◌+◌, ◌≤◌, List, [], ◌∷◌, ◌++◌, length, Result, Ok, Err, IsOk, refl, ap, subst, ◌∙◌, arith}
-use Rattle.std.specs.Result.{result_unwrap_or}
+use Rattle.std.{proofs.Common.{◌≡◌, ℕ, ◌+◌, ◌≤◌, List, [], ◌∷◌, ◌++◌, length, Result, Ok, Err, IsOk, refl, ap, subst, ◌∙◌, arith}, specs.Result.result_unwrap_or}
 use Rattle.stn_text.specs.Faults.{◌>>=◌, Fails}
 use Rattle.stn_net.specs.Event.{most_steps}
 use Rattle.stn_pddl.specs.{declared.fault.DomainFault.DomainFault, Schemas.ActionSchema, Domains.domain_of}
-use Rattle.stn_lift.specs.{declared.plan.fault.PlanFault.PlanFault, Plan.Steps.PlannedStep, Plan.Steps.plan_of}
-use Rattle.stn_lift.proofs.StepFacts.{plan_of-few}
+use Rattle.stn_lift.{specs.{declared.{plan.fault.PlanFault.PlanFault, fault.LiftFault.{LiftFault, TheVariants.{UnknownAction, Arity, DurationDiffers, PastHorizon, Memory}}}, Plan.Steps.{PlannedStep, plan_of}, Activities.{Activity, activity_of, activities, IsFirstRefusedStep, IsLiftCause, is_lift_memory}, PlanSource.{files, of_lift, steps_in, lifted, activities_of, steps_of}}, proofs.StepFacts.plan_of-few}
 pub use Rattle.stn_lift.proofs.StepFacts.{bind_ok}
-use Rattle.stn_lift.specs.declared.fault.LiftFault.{LiftFault}
-use Rattle.stn_lift.specs.declared.fault.LiftFault.TheVariants.{UnknownAction, Arity, DurationDiffers, PastHorizon, Memory}
-use Rattle.stn_lift.specs.Activities.{Activity, activity_of, activities, IsFirstRefused, IsCause, is_memory}
-use Rattle.stn_lift.specs.PlanSource.{files, of_lift, steps_in, lifted, activities_of, steps_of}
 
 -- each step has one activity
 pub length-activities : (actions : List ActionSchema) (before : ℕ) (steps : List PlannedStep) (found : List Activity)
@@ -75,7 +69,7 @@ parts_of actions before (step ∷ steps) fault e = by (activity_of actions (befo
         }
 
 -- the fault of the steps is that of the first that is refused
-first_refused : (actions : List ActionSchema) (steps : List PlannedStep) (fault : LiftFault) → activities actions 0 steps ≡ Err fault → IsFirstRefused actions steps fault
+first_refused : (actions : List ActionSchema) (steps : List PlannedStep) (fault : LiftFault) → activities actions 0 steps ≡ Err fault → IsFirstRefusedStep actions steps fault
 first_refused actions steps fault e =
     let parts = parts_of actions 0 steps fault e in
     record {
@@ -87,7 +81,7 @@ first_refused actions steps fault e =
       none_before = parts.none_before;
     }
 
-pub cause_of : (actions : List ActionSchema) (steps : List PlannedStep) (fault : LiftFault) → Fails is_memory fault (activities actions 0 steps) → IsCause actions steps fault
+pub cause_of : (actions : List ActionSchema) (steps : List PlannedStep) (fault : LiftFault) → Fails is_lift_memory fault (activities actions 0 steps) → IsLiftCause actions steps fault
 cause_of actions steps (UnknownAction step) is = first_refused actions steps _ is
 cause_of actions steps (Arity step) is = first_refused actions steps _ is
 cause_of actions steps (DurationDiffers step) is = first_refused actions steps _ is

@@ -1,17 +1,13 @@
 -- The base of two texts, from what their readers and the lifting give.
-use Rattle.std.proofs.Common.{◌≡◌, ℕ, List, [], Result, Ok, Err, ap, ◌∙◌}
-use Rattle.std.specs.Result.{result_unwrap_or}
+use Rattle.std.{proofs.Common.{◌≡◌, ℕ, List, [], Result, Ok, Err, ap, ◌∙◌}, specs.Result.result_unwrap_or}
 use Rattle.stn_text.specs.Faults.{Fails}
 use Rattle.stn_pddl.specs.{declared.fault.DomainFault.DomainFault, Schemas.ActionSchema, Domains.domain_of}
 use Rattle.stn_pddl.specs.declared.fault.DomainFault.TheVariants as domain_fault
 use Rattle.stn_pddl.specs.Faults as pddl
-use Rattle.stn_lift.specs.{declared.plan.fault.PlanFault.PlanFault, Plan.Steps.PlannedStep, Plan.Steps.plan_of, declared.fault.LiftFault.LiftFault, Faults.of_domain, Faults.of_plan, Faults.of_lifting, Activities.Activity, Activities.activities}
+use Rattle.stn_lift.specs.{declared.{plan.fault.PlanFault.PlanFault, fault.{LiftFault.{LiftFault, TheVariants.{UnknownAction, Arity, DurationDiffers, PastHorizon, Memory}}, BaseFault.TheVariants.{Domain, Plan, Lift, TooManySteps}}}, Plan.Steps.{PlannedStep, plan_of}, Faults.{of_domain, of_plan, of_lifting}, Activities.{Activity, activities}, PlanSource.{PlanSource, files, of_lift, steps_in, lifted, activities_of, source_with, source_with_lifted, base_of, is_memory}}
 use Rattle.stn_lift.specs.declared.plan.fault.PlanFault.TheVariants as plan_fault
 use Rattle.stn_lift.specs.Plan.Steps as timed
-use Rattle.stn_lift.specs.declared.fault.BaseFault.TheVariants.{Domain, Plan, Lift, TooManySteps}
-use Rattle.stn_lift.specs.declared.fault.LiftFault.TheVariants.{UnknownAction, Arity, DurationDiffers, PastHorizon, Memory}
 use Rattle.stn_lift.specs.Activities as lifting
-use Rattle.stn_lift.specs.PlanSource.{PlanSource, files, of_lift, steps_in, lifted, activities_of, source_with, source_with_lifted, base_of, is_memory}
 
 -- a fault of a text or of a step is not that a bare plan has too many steps
 pub domain_not_many : (fault : DomainFault) → of_domain fault ≡ TooManySteps → ⊥
@@ -85,7 +81,7 @@ module _ (domain plan : List ℕ) where
 
     -- a step with a fault
     pub steps_refused : (steps : List PlannedStep) (other : PlanSource) (fault : LiftFault) → plan_of plan ≡ Ok steps
-        → Fails lifting.is_memory fault (source_with_lifted other (activities actions 0 steps)) → Fails is_memory (of_lifting fault) (base_of (files domain plan))
+        → Fails lifting.is_lift_memory fault (source_with_lifted other (activities actions 0 steps)) → Fails is_memory (of_lifting fault) (base_of (files domain plan))
     steps_refused steps other fault plan_is h = rw (lifted-Ok actions steps domain_is plan_is) (by fault (activities actions 0 steps) h)
       where
         refused : (fault : LiftFault) (found : Result (List Activity) LiftFault) → source_with_lifted other found ≡ Err fault
@@ -93,7 +89,7 @@ module _ (domain plan : List ℕ) where
         refused fault (Ok found) h = cc
         refused fault (Err given) h = cc
 
-        by : (fault : LiftFault) (found : Result (List Activity) LiftFault) → Fails lifting.is_memory fault (source_with_lifted other found)
+        by : (fault : LiftFault) (found : Result (List Activity) LiftFault) → Fails lifting.is_lift_memory fault (source_with_lifted other found)
             → Fails is_memory (of_lifting fault) (source_with (files domain plan) (of_lift found))
         by (UnknownAction step) found h = refused _ found h
         by (Arity step) found h = refused _ found h

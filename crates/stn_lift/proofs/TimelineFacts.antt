@@ -1,17 +1,10 @@
 -- The steps of a plan, one after another.
-use Rattle.std.proofs.Common.{◌≡◌, ℕ, ℤ, pos, ◌+ℤ◌, suc, ◌+◌, ◌*◌, ◌<◌, List, [], ◌∷◌, ◌++◌, map, length, get_or, drop, add-one, Result, Ok, Err, refl, sym, ap, subst, ◌∙◌, append_assoc, arith}
-use Rattle.std.specs.List.{AllZip}
-use Rattle.std.proofs.{Math.Seq.drop-cons, lemmas.Slice.Zip.AllZip-long, lemmas.List.map-append, lemmas.List.append-nil, lemmas.List.length-map}
+use Rattle.std.{proofs.{Common.{◌≡◌, ℕ, ℤ, pos, ◌+ℤ◌, suc, ◌+◌, ◌*◌, ◌<◌, List, [], ◌∷◌, ◌++◌, map, length, get_or, drop, add-one, Result, Ok, Err, refl, sym, ap, subst, ◌∙◌, append_assoc, arith}, Math.Seq.drop-cons, lemmas.{Slice.Zip.AllZip-long, List.{map-append, append-nil, length-map}}}, specs.List.AllZip}
 use Rattle.indexmap.proofs.SetLemmas.{AllZip-push}
 use Rattle.stn_pddl.specs.Schemas.{ActionSchema}
 use Rattle.stn_time.proofs.Each.{each_pushed}
-use Rattle.stn_lift.specs.Plan.Steps.{PlannedStep}
+use Rattle.stn_lift.{specs.{Plan.Steps.PlannedStep, declared.fault.LiftFault.{LiftFault, TheVariants.{UnknownAction, Arity, DurationDiffers, PastHorizon, Memory}}, Footprints.{Footprint, no_footprint}, BaseBounds.{times_behind, footprints_behind, event_footprints}, Timelines.{IsTimed, IsTimeline, IsLifted}, Numbering.{Numbering, IsUnambiguous, KeepsNumbers, IsNumbered}, Activities.{Activity, activity_of, activities, is_lift_memory}}, proofs.{NumberLists.{numbered_kept, zip_weaker}, Sharing.{none_numbered, numbered_at, same_interfere}}}
 use Rattle.stn_text.specs.Faults.{◌>>=◌, Fails}
-use Rattle.stn_lift.specs.{declared.fault.LiftFault.LiftFault, Footprints.Footprint, Footprints.no_footprint, BaseBounds.times_behind, BaseBounds.footprints_behind, BaseBounds.event_footprints, Timelines.IsTimed, Timelines.IsTimeline, Timelines.IsLifted}
-use Rattle.stn_lift.specs.declared.fault.LiftFault.TheVariants.{UnknownAction, Arity, DurationDiffers, PastHorizon, Memory}
-use Rattle.stn_lift.specs.Numbering.{Numbering, IsUnambiguous, Extends, IsNumbered}
-use Rattle.stn_lift.specs.Activities.{Activity, activity_of, activities, is_memory}
-use Rattle.stn_lift.proofs.{NumberLists.numbered_kept, NumberLists.zip_weaker, Sharing.none_numbered, Sharing.numbered_at, Sharing.same_interfere}
 
 times_behind-push : (steps : List Activity) (step : Activity) → times_behind (steps ++ step ∷ []) ≡ (times_behind steps ++ step.time ∷ []) ++ (step.time +ℤ step.duration) ∷ []
 unfolding times_behind
@@ -25,7 +18,7 @@ footprints_behind-push (first ∷ steps) step = ap (λ fs. first.start ∷ first
 
 -- one step more
 pub timeline_push : (old middle new : Numbering) (steps : List Activity) (step : Activity) (durations times : List ℤ) (footprints : List (Footprint ℕ)) (start end : Footprint ℕ)
-    → Extends old middle → Extends middle new → IsUnambiguous new → IsNumbered middle start step.start → IsNumbered new end step.end → IsTimed step
+    → KeepsNumbers old middle → KeepsNumbers middle new → IsUnambiguous new → IsNumbered middle start step.start → IsNumbered new end step.end → IsTimed step
     → IsTimeline old steps durations times footprints
     → IsTimeline new (steps ++ step ∷ []) (durations ++ step.duration ∷ []) ((times ++ step.time ∷ []) ++ (step.time +ℤ step.duration) ∷ []) ((footprints ++ start ∷ []) ++ end ∷ [])
 timeline_push old middle new steps step durations times footprints start end one two unambiguous starts ends timed was =
@@ -44,7 +37,7 @@ timeline_push old middle new steps step durations times footprints start end one
 -- the same, of lists that are known by equations
 pub timeline_pushed : (old middle new : Numbering) (steps : List Activity) (step : Activity) (durations times more_durations more_times : List ℤ)
     (footprints more_footprints : List (Footprint ℕ)) (start end : Footprint ℕ)
-    → Extends old middle → Extends middle new → IsUnambiguous new → IsNumbered middle start step.start → IsNumbered new end step.end → IsTimed step
+    → KeepsNumbers old middle → KeepsNumbers middle new → IsUnambiguous new → IsNumbered middle start step.start → IsNumbered new end step.end → IsTimed step
     → more_durations ≡ durations ++ step.duration ∷ [] → more_times ≡ (times ++ step.time ∷ []) ++ (step.time +ℤ step.duration) ∷ []
     → more_footprints ≡ (footprints ++ start ∷ []) ++ end ∷ []
     → IsTimeline old steps durations times footprints → IsTimeline new (steps ++ step ∷ []) more_durations more_times more_footprints
@@ -114,8 +107,8 @@ module _ (actions : List ActionSchema) where
   unfolding activities
   refused_next before found step steps fault is = rw is refl
 
-  pub fails_next : (before : ℕ) (found : List Activity) (step : PlannedStep) (steps : List PlannedStep) (fault : LiftFault) → Fails is_memory fault (activity_of actions (before + 1) step)
-      → Fails is_memory fault (behind found (activities actions before (step ∷ steps)))
+  pub fails_next : (before : ℕ) (found : List Activity) (step : PlannedStep) (steps : List PlannedStep) (fault : LiftFault) → Fails is_lift_memory fault (activity_of actions (before + 1) step)
+      → Fails is_lift_memory fault (behind found (activities actions before (step ∷ steps)))
   fails_next before found step steps (UnknownAction number) is = refused_next before found step steps _ is
   fails_next before found step steps (Arity number) is = refused_next before found step steps _ is
   fails_next before found step steps (DurationDiffers number) is = refused_next before found step steps _ is
@@ -130,9 +123,9 @@ module _ (actions : List ActionSchema) where
         whole ∙ ap (λ l. behind found (activities actions place l)) front
 
     -- the step at a place is refused
-    pub fails_at : (number : ℕ) (fault : LiftFault) → number ≡ place + 1 → Fails is_memory fault (activity_of actions number step) → Fails is_memory fault (activities actions 0 all)
+    pub fails_at : (number : ℕ) (fault : LiftFault) → number ≡ place + 1 → Fails is_lift_memory fault (activity_of actions number step) → Fails is_lift_memory fault (activities actions 0 all)
     fails_at number fault is fails =
-        subst (Fails is_memory fault) (sym opened) (fails_next place found step (drop (place + 1) all) fault (subst (λ n. Fails is_memory fault (activity_of actions n step)) is fails))
+        subst (Fails is_lift_memory fault) (sym opened) (fails_next place found step (drop (place + 1) all) fault (subst (λ n. Fails is_lift_memory fault (activity_of actions n step)) is fails))
 
     -- the step at a place is taken up
     pub found_at : (number : ℕ) (one : Activity) → number ≡ place + 1 → activity_of actions number step ≡ Ok one

@@ -1,13 +1,9 @@
 -- What the steps of a plan do in a domain, or the first fault.
-use Rattle.std.specs.Prelude.{◌≡◌, ℕ, ◌+◌, ℤ, ◌+ℤ◌, int_lt, Bool, true, false, not, ◌==◌, if◌then◌else◌, List, [], ◌∷◌, ◌++◌, length, Option, Some, None, Result, Ok, Err, IsOk}
-use Rattle.std.specs.Ordering.{int_eq}
+use Rattle.std.specs.{Prelude.{◌≡◌, ℕ, ◌+◌, ℤ, ◌+ℤ◌, int_lt, Bool, true, false, not, ◌==◌, if◌then◌else◌, List, [], ◌∷◌, ◌++◌, length, Option, Some, None, Result, Ok, Err, IsOk}, Ordering.int_eq}
 use Rattle.stn_time.specs.Time.{horizon}
 use Rattle.stn_text.specs.Faults.{◌>>=◌}
 use Rattle.stn_pddl.specs.{Schemas.ActionSchema, Domains.action_named}
-use Rattle.stn_lift.specs.Plan.Steps.{PlannedStep}
-use Rattle.stn_lift.specs.declared.fault.LiftFault.{LiftFault}
-use Rattle.stn_lift.specs.declared.fault.LiftFault.TheVariants.{UnknownAction, Arity, DurationDiffers, PastHorizon, Memory}
-use Rattle.stn_lift.specs.Footprints.{GroundAtom, Footprint, start_of, end_of}
+use Rattle.stn_lift.specs.{Plan.Steps.PlannedStep, declared.fault.LiftFault.{LiftFault, TheVariants.{UnknownAction, Arity, DurationDiffers, PastHorizon, Memory}}, Footprints.{GroundAtom, Footprint, start_footprint, end_footprint}}
 
 -- a step in its domain: when it starts and how long it lasts, in milliseconds, and what its start and its end need, add and delete
 pub record Activity : Type 0 where
@@ -26,8 +22,8 @@ abbrev pub activity : PlannedStep → ActionSchema → Activity
 activity step action = record {
   time = step.time;
   duration = action.duration;
-  start = start_of action step.args;
-  end = end_of action step.args;
+  start = start_footprint action step.args;
+  end = end_footprint action step.args;
 }
 
 -- the step of a number with its action, or the first cause against it
@@ -55,7 +51,7 @@ activities actions before (step ∷ steps) =
     Ok (first ∷ others)
 
 -- one of the steps has the fault by itself, and no step before it has a fault
-pub record IsFirstRefused (actions : List ActionSchema) (steps : List PlannedStep) (fault : LiftFault) : Type 0 where
+pub record IsFirstRefusedStep (actions : List ActionSchema) (steps : List PlannedStep) (fault : LiftFault) : Type 0 where
   pub earlier : List PlannedStep
   pub step : PlannedStep
   pub later : List PlannedStep
@@ -64,11 +60,11 @@ pub record IsFirstRefused (actions : List ActionSchema) (steps : List PlannedSte
   pub none_before : IsOk (activities actions 0 earlier)
 
 -- the cause that a fault has: the first step that is refused, refused by the first cause against it
-abbrev pub IsCause : List ActionSchema → List PlannedStep → LiftFault → Type 0
-IsCause actions steps Memory = Unit {0}
-IsCause actions steps fault = IsFirstRefused actions steps fault
+abbrev pub IsLiftCause : List ActionSchema → List PlannedStep → LiftFault → Type 0
+IsLiftCause actions steps Memory = Unit {0}
+IsLiftCause actions steps fault = IsFirstRefusedStep actions steps fault
 
 -- memory ran out
-abbrev pub is_memory : LiftFault → Bool
-is_memory Memory = true
-is_memory fault = false
+abbrev pub is_lift_memory : LiftFault → Bool
+is_lift_memory Memory = true
+is_lift_memory fault = false

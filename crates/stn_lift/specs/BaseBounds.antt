@@ -1,11 +1,8 @@
 -- The bounds that a plan sets itself.
-use Rattle.std.specs.Prelude.{◌≡◌, ℕ, zero, suc, ◌+◌, ◌*◌, ◌/◌, ◌≤◌, ◌<◌, ◌≢◌, ℤ, pos, ◌+ℤ◌, ◌<ℤ◌, Bool, true, not, ◌&&◌, ◌==◌, nat_lt, if◌then◌else◌, List, [], ◌∷◌, ◌++◌, length, map, slice_index_or}
-use Rattle.std.specs.{declared.cmp.Ordering.Ordering, Ordering.int_cmp}
-use Rattle.std.specs.declared.cmp.Ordering.TheVariants.{Less, Equal, Greater}
+use Rattle.std.specs.{Prelude.{◌≡◌, ℕ, zero, suc, ◌+◌, ◌*◌, ◌/◌, ◌≤◌, ◌<◌, ◌≢◌, ℤ, pos, ◌+ℤ◌, ◌<ℤ◌, Bool, true, not, ◌&&◌, ◌==◌, nat_lt, if◌then◌else◌, List, [], ◌∷◌, ◌++◌, length, map, slice_index_or}, declared.cmp.Ordering.{Ordering, TheVariants.{Less, Equal, Greater}}, Ordering.int_cmp}
 use Rattle.stn_time.specs.Time.{horizon}
-use Rattle.stn_net.specs.{Difference.Difference, Horizon.horizon_bounds, Schedule.times_of, Schedule.IsSchedule}
-use Rattle.stn_lift.specs.Footprints.{GroundAtom, Footprint, no_footprint, is_same_atom, interfere}
-use Rattle.stn_lift.specs.Activities.{Activity}
+use Rattle.stn_net.specs.{Difference.Difference, Horizon.horizon_bounds, Schedule.{times_of, IsSchedule}}
+use Rattle.stn_lift.specs.{Footprints.{GroundAtom, Footprint, no_footprint, is_same_atom, interfere}, Activities.Activity}
 
 -- the step of an event, counted from 1
 abbrev pub step_of : ℕ → ℕ

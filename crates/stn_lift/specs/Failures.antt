@@ -1,9 +1,8 @@
 -- What is printed where a plan has no base.
 use Rattle.stn_refusal.specs.declared.code.Code.TheVariants as code
-use Rattle.stn_refusal.specs.{declared.failure.Failure.Failure, Refusals.refused, Refusals.refused_at, Refusals.out_of_memory}
+use Rattle.stn_refusal.specs.{declared.failure.Failure.Failure, Refusals.{refused, refused_at, out_of_memory}}
 use Rattle.stn_pddl.specs.Failures.{domain_failure}
-use Rattle.stn_lift.specs.Plan.Failures.{plan_failure}
-use Rattle.stn_lift.specs.{declared.fault.LiftFault.LiftFault, declared.fault.BaseFault.BaseFault}
+use Rattle.stn_lift.specs.{Plan.Failures.plan_failure, declared.fault.{LiftFault.LiftFault, BaseFault.BaseFault}}
 use Rattle.stn_lift.specs.declared.fault.LiftFault.TheVariants as lifting
 use Rattle.stn_lift.specs.declared.fault.BaseFault.TheVariants as base
 

@@ -1,11 +1,9 @@
 -- Why a source has no base, from why its parts have a fault: lack of memory is always Memory.
 use Rattle.stn_pddl.specs.declared.fault.DomainFault.{DomainFault}
 use Rattle.stn_pddl.specs.declared.fault.DomainFault.TheVariants as domain
-use Rattle.stn_lift.specs.declared.plan.fault.PlanFault.{PlanFault}
+use Rattle.stn_lift.specs.declared.{plan.fault.PlanFault.PlanFault, fault.{LiftFault.LiftFault, BaseFault.{BaseFault, TheVariants.{Domain, Plan, Lift, Memory}}}}
 use Rattle.stn_lift.specs.declared.plan.fault.PlanFault.TheVariants as plan
-use Rattle.stn_lift.specs.{declared.fault.LiftFault.LiftFault, declared.fault.BaseFault.BaseFault}
 use Rattle.stn_lift.specs.declared.fault.LiftFault.TheVariants as lifting
-use Rattle.stn_lift.specs.declared.fault.BaseFault.TheVariants.{Domain, Plan, Lift, Memory}
 
 abbrev pub of_domain : DomainFault → BaseFault
 of_domain domain.Memory = Memory

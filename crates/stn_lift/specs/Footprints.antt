@@ -1,21 +1,19 @@
 -- Ground atoms, and which of them an event needs, adds and deletes.
-use Rattle.std.specs.Prelude.{ℕ, Bool, ◌||◌, ◌⊎◌, List, [], ◌∷◌, ◌++◌, map, slice_index_or, Contains}
-use Rattle.std.specs.{Cmp.Lexicographic.pointwise, List.list_any, Str.bytes_eq}
-use Rattle.stn_pddl.specs.Tree.Names.{folded}
-use Rattle.stn_pddl.specs.Schemas.{TermSchema, Parameter, Constant, AtomSchema, ActionSchema}
+use Rattle.std.specs.{Prelude.{ℕ, Bool, ◌||◌, ◌⊎◌, List, [], ◌∷◌, ◌++◌, map, slice_index_or, Contains}, Cmp.Lexicographic.pointwise, List.list_any, Str.bytes_eq}
+use Rattle.stn_pddl.specs.{Tree.Names.folded, Schemas.{TermSchema, Parameter, Constant, AtomSchema, ActionSchema}}
 
 -- a ground atom: the names of its predicate and of its terms, with small letters for capital ones
 abbrev pub GroundAtom : Type 0
 GroundAtom = List (List ℕ)
 
 -- the name that a term stands for in a step with these arguments
-abbrev pub name_of : List (List ℕ) → TermSchema → List ℕ
-name_of args (Parameter place) = slice_index_or args place []
-name_of args (Constant word) = word
+abbrev pub term_name : List (List ℕ) → TermSchema → List ℕ
+term_name args (Parameter place) = slice_index_or args place []
+term_name args (Constant word) = word
 
 -- an atom of an action in a step with these arguments
 abbrev pub ground : List (List ℕ) → AtomSchema → GroundAtom
-ground args atom = folded atom.predicate ∷ map (λ term. folded (name_of args term)) atom.terms
+ground args atom = folded atom.predicate ∷ map (λ term. folded (term_name args term)) atom.terms
 
 -- what an event needs, adds and deletes: ground atoms, or numbers in their place
 pub record Footprint (A : Type 0) : Type 0 where
@@ -28,16 +26,16 @@ abbrev pub no_footprint : {A : Type 0} → Footprint A
 no_footprint = record { needs = []; adds = []; deletes = [] }
 
 -- the start of a step needs what its action needs at its start and over all of it
-abbrev pub start_of : ActionSchema → List (List ℕ) → Footprint GroundAtom
-start_of action args = record {
+abbrev pub start_footprint : ActionSchema → List (List ℕ) → Footprint GroundAtom
+start_footprint action args = record {
   needs = map (ground args) (action.start_needs ++ action.all_needs);
   adds = map (ground args) action.start_adds;
   deletes = map (ground args) action.start_deletes;
 }
 
 -- and its end what the action needs at its end and over all of it
-abbrev pub end_of : ActionSchema → List (List ℕ) → Footprint GroundAtom
-end_of action args = record {
+abbrev pub end_footprint : ActionSchema → List (List ℕ) → Footprint GroundAtom
+end_footprint action args = record {
   needs = map (ground args) (action.end_needs ++ action.all_needs);
   adds = map (ground args) action.end_adds;
   deletes = map (ground args) action.end_deletes;

@@ -1,7 +1,6 @@
 -- For proofs alone: no public clause cites these words.
 -- How ground atoms are numbered: each name has a number, and each atom, spelt by the numbers of its names, has one too.
-use Rattle.std.specs.Prelude.{◌≡◌, ℕ, List, Contains, Some, slice_get}
-use Rattle.std.specs.List.{AllZip}
+use Rattle.std.specs.{Prelude.{◌≡◌, ℕ, List, Contains, Some, slice_get}, List.AllZip}
 use Rattle.stn_lift.specs.Footprints.{GroundAtom, Footprint}
 
 -- the names so far with small letters for capital ones, and the spellings of the atoms so far, by their numbers
@@ -29,7 +28,7 @@ pub record IsNumberOf (numbering : Numbering) (number : ℕ) (atom : GroundAtom)
   pub names : AllZip (IsNameAt numbering.names) spelling atom
 
 -- what had a number keeps it
-pub record Extends (old new : Numbering) : Type 0 where
+pub record KeepsNumbers (old new : Numbering) : Type 0 where
   pub names : (number : ℕ) (name : List ℕ) → slice_get old.names number ≡ Some name → slice_get new.names number ≡ Some name
   pub spellings : (number : ℕ) (spelling : List ℕ) → slice_get old.spellings number ≡ Some spelling → slice_get new.spellings number ≡ Some spelling
 

@@ -1,14 +1,7 @@
-use Rattle.std.specs.Prelude.{◌≡◌, ◌⊎◌, ℕ, ℤ, pos, ◌*◌, ◌≤◌, Bool, true, false, nat_lt, if◌then◌else◌, List, [], length, All, take, Result, Ok, Err, refl}
-use Rattle.std.proofs.Common.{inl, inr}
-use Rattle.std.specs.Coded.{Coded, code_by, coded_ℕ, coded_list, coded×, coded⊎}
-use Rattle.std.specs.Result.{result_unwrap_or}
-use Rattle.stn_net.specs.{Event.most_steps, Difference.Difference, Difference.NamesEvents, Horizon.horizon_bounds, Schedule.IsSchedule, Schedule.times_of}
-use Rattle.stn_pddl.specs.Tree.Scan.{most_text}
-use Rattle.stn_pddl.specs.{declared.fault.DomainFault.DomainFault, Schemas.ActionSchema, Domains.domain_of}
-use Rattle.stn_lift.specs.{declared.plan.fault.PlanFault.PlanFault, Plan.Steps.PlannedStep, Plan.Steps.plan_of, declared.fault.LiftFault.LiftFault, declared.fault.BaseFault.BaseFault, declared.source.Source.Source, Activities.Activity, Activities.activities}
-use Rattle.stn_lift.specs.declared.fault.BaseFault.TheVariants.{Domain, Plan, Lift, TooManySteps, Memory}
-use Rattle.stn_lift.specs.declared.source.Source.TheVariants.{Bare, Files}
-use Rattle.stn_lift.specs.BaseBounds.{lifted_bounds, event_times, events_interfere, KeepsOrder}
+use Rattle.std.{specs.{Prelude.{◌≡◌, ◌⊎◌, ℕ, ℤ, pos, ◌*◌, ◌≤◌, Bool, true, false, nat_lt, if◌then◌else◌, List, [], length, All, take, Result, Ok, Err, refl}, Coded.{Coded, code_by, coded_ℕ, coded_list, coded×, coded⊎}, Result.result_unwrap_or}, proofs.Common.{inl, inr}}
+use Rattle.stn_net.specs.{Event.most_steps, Difference.{Difference, NamesEvents}, Horizon.horizon_bounds, Schedule.{IsSchedule, times_of}}
+use Rattle.stn_pddl.specs.{Tree.Scan.most_text, declared.fault.DomainFault.DomainFault, Schemas.ActionSchema, Domains.domain_of}
+use Rattle.stn_lift.specs.{declared.{plan.fault.PlanFault.PlanFault, fault.{LiftFault.LiftFault, BaseFault.{BaseFault, TheVariants.{Domain, Plan, Lift, TooManySteps, Memory}}}, source.Source.{Source, TheVariants.{Bare, Files}}}, Plan.Steps.{PlannedStep, plan_of}, Activities.{Activity, activities}, BaseBounds.{lifted_bounds, event_times, events_interfere, KeepsOrder}}
 
 -- what a plan is made from, as a value: a number of steps alone, or the texts of a domain and of a plan
 pub data PlanSource : Type 0 where
@@ -113,17 +106,17 @@ pub record IsBase (source : PlanSource) (steps : ℕ) (bounds : List Difference)
   pub sound : IsSoundSource source
 
 -- a source as its number of steps or its two texts
-abbrev pub parts_of : PlanSource → ℕ ⊎ (List ℕ × List ℕ)
-parts_of (bare steps) = inl steps
-parts_of (files domain plan) = inr (domain, plan)
+abbrev pub source_parts : PlanSource → ℕ ⊎ (List ℕ × List ℕ)
+source_parts (bare steps) = inl steps
+source_parts (files domain plan) = inr (domain, plan)
 
 abbrev pub source_of_parts : ℕ ⊎ (List ℕ × List ℕ) → PlanSource
 source_of_parts (inl steps) = bare steps
 source_of_parts (inr texts) = files texts.0 texts.1
 
-pub source_of_parts-parts_of : (source : PlanSource) → source_of_parts (parts_of source) ≡ source
+pub source_of_parts-parts_of : (source : PlanSource) → source_of_parts (source_parts source) ≡ source
 source_of_parts-parts_of (bare steps) = refl
 source_of_parts-parts_of (files domain plan) = refl
 
 abbrev pub coded_source : Coded PlanSource
-coded_source = code_by (ℕ ⊎ (List ℕ × List ℕ)) (coded⊎ coded_ℕ (coded× (coded_list coded_ℕ) (coded_list coded_ℕ))) parts_of source_of_parts source_of_parts-parts_of
+coded_source = code_by (ℕ ⊎ (List ℕ × List ℕ)) (coded⊎ coded_ℕ (coded× (coded_list coded_ℕ) (coded_list coded_ℕ))) source_parts source_of_parts source_of_parts-parts_of

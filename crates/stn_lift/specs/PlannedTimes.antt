@@ -1,6 +1,6 @@
 -- When a plan made from texts has its steps, in the words of the texts.
 use Rattle.std.specs.Prelude.{◌≡◌, ℕ, ◌+◌, ◌-◌, ◌*◌, ℤ, ◌+ℤ◌, List, ◌∷◌, ◌++◌, length, Some, Ok}
-use Rattle.stn_pddl.specs.{Schemas.ActionSchema, Domains.domain_of, Domains.action_named}
+use Rattle.stn_pddl.specs.{Schemas.ActionSchema, Domains.{domain_of, action_named}}
 use Rattle.stn_lift.specs.Plan.Steps.{PlannedStep, plan_of}
 
 -- the step of this number, counted from 1, in the text of the plan, and the action of its name in the text of the domain

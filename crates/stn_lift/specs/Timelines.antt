@@ -1,11 +1,9 @@
 -- For proofs alone: no public clause cites these words.
 -- What the code keeps of the steps of a plan.
-use Rattle.std.specs.Prelude.{◌≡◌, ℕ, ◌+◌, ◌*◌, ◌++◌, ℤ, pos, ◌+ℤ◌, ◌≤ℤ◌, ◌≤◌, nat_eq, Bool, List, map, length, slice_index_or}
-use Rattle.std.specs.List.{AllZip, AllByRecursion}
+use Rattle.std.specs.{Prelude.{◌≡◌, ℕ, ◌+◌, ◌*◌, ◌++◌, ℤ, pos, ◌+ℤ◌, ◌≤ℤ◌, ◌≤◌, nat_eq, Bool, List, map, length, slice_index_or}, List.{AllZip, AllByRecursion}}
 use Rattle.stn_time.specs.Time.{horizon}
 use Rattle.stn_net.specs.{Event.most_steps, Difference.Difference, Horizon.horizon_bounds, Schedule.times_of}
-use Rattle.stn_lift.specs.{Footprints.Footprint, Footprints.no_footprint, Footprints.interfere, Numbering.Numbering, Numbering.IsUnambiguous, Numbering.IsNumbered, Activities.Activity}
-use Rattle.stn_lift.specs.BaseBounds.{event_times, event_footprints, events_interfere, duration_bounds, orders}
+use Rattle.stn_lift.specs.{Footprints.{Footprint, no_footprint, interfere}, Numbering.{Numbering, IsUnambiguous, IsNumbered}, Activities.Activity, BaseBounds.{event_times, event_footprints, events_interfere, duration_bounds, orders}}
 
 -- a step lies within the horizon
 pub record IsTimed (step : Activity) : Type 0 where
@@ -39,7 +37,7 @@ pub record IsLifted (steps : List Activity) (durations times : List ℤ) (footpr
   pub within : AllByRecursion IsTimed steps
 
 -- there are at most so many steps as a plan may have, and a time and a footprint for the origin and for each of their events
-pub record IsWhole (durations times : List ℤ) (footprints : List (Footprint ℕ)) : Type 0 where
+pub record IsWholeTimeline (durations times : List ℤ) (footprints : List (Footprint ℕ)) : Type 0 where
   pub few : length durations ≤ most_steps
   pub many_times : length times ≡ 2 * length durations + 1
   pub many_footprints : length footprints ≡ 2 * length durations + 1

@@ -1,13 +1,8 @@
 //! The numbering of ground atoms.
 
-ghost use Rattle.std.specs.Prelude.{◌≡◌, ◌++◌, [], List, map, length, slice_get, Some, IfOk, OnOk};
-ghost use Rattle.std.specs.List.{AllByRecursion};
-ghost use Rattle.stn_pddl.specs.Tree.Names.{folded};
-ghost use Rattle.stn_pddl.specs.Sound.{IsSoundTerm, IsSoundAtom};
-ghost use Rattle.stn_pddl.specs.Views.{term_schema, atom_schema, atoms_schema};
-ghost use Rattle.stn_lift.specs.Plan.Views.{word_of};
-ghost use Rattle.stn_lift.specs.Footprints.{GroundAtom, name_of, ground};
-ghost use Rattle.stn_lift.specs.Numbering.{Extends, IsUnambiguous, IsNameAt, IsNumberOf, AreNumbersOf};
+ghost use Rattle.std.specs.{Prelude.{◌≡◌, ◌++◌, [], List, map, length, slice_get, Some, IfOk, OnOk}, List.AllByRecursion};
+ghost use Rattle.stn_pddl.specs.{Tree.Names.folded, Sound.{IsSoundTerm, IsSoundAtom}, Views.{term_schema, atom_schema, atoms_schema}};
+ghost use Rattle.stn_lift.specs.{Plan.Views.word_of, Footprints.{GroundAtom, term_name, ground}, Numbering.{KeepsNumbers, IsUnambiguous, IsNameAt, IsNumberOf, AreNumbersOf}};
 
 use crate::numbers::Numbers;
 use indexmap::IndexSet;
@@ -27,8 +22,7 @@ pub struct Atoms<'a, A: Allocator> {
 
 impl<'a, A: Allocator> Model for Atoms<'a, A> {
     ghost use Rattle.std.specs.Prelude.{map};
-    ghost use Rattle.stn_lift.specs.Numbering.{Numbering, IsUnambiguous};
-    ghost use Rattle.stn_lift.specs.AtomViews.{folded_name, spelling_of};
+    ghost use Rattle.stn_lift.specs.{Numbering.{Numbering, IsUnambiguous}, AtomViews.{folded_name, spelling_of}};
 
     ghost Value = { Numbering };
 
@@ -40,7 +34,7 @@ impl<'a, A: Allocator> Model for Atoms<'a, A> {
 // The name that a term stands for in a step with these arguments.
 fn name_of<'a>(args: &[&'a [u8]], term: Term<'a>) -> Name<'a>
     requires { IsSoundTerm (length args.now) (term_schema term) }
-    ensures { result.bytes.now ≡ name_of (map word_of args.now) (term_schema term.entry) }
+    ensures { result.bytes.now ≡ term_name (map word_of args.now) (term_schema term.entry) }
 {
     match term {
         Term::Parameter(place) => Name { bytes: args[place] },
@@ -63,7 +57,7 @@ impl<'a, A: Allocator + Copy> Atoms<'a, A> {
     // The number of a name.
     fn number_name(&mut self, name: Name<'a>) -> Result<usize, AllocError>
         ensures number { IfOk result (λ number. IsNameAt self.new.names number (folded name.entry.bytes.now)) }
-        ensures kept { OnOk result (Extends self.old self.new) }
+        ensures kept { OnOk result (KeepsNumbers self.old self.new) }
     {
         let (number, _) = self.names.insert_full(name)?;
         Ok(number)
@@ -72,7 +66,7 @@ impl<'a, A: Allocator + Copy> Atoms<'a, A> {
     // The number of an atom that is spelt so.
     fn number_spelling(&mut self, spelling: Vec<usize, A>) -> Result<usize, AllocError>
         ensures number { IfOk result (λ number. slice_get self.new.spellings number ≡ Some spelling.items) }
-        ensures kept { OnOk result (Extends self.old self.new) }
+        ensures kept { OnOk result (KeepsNumbers self.old self.new) }
     {
         let (number, _) = self.spellings.insert_full(spelling)?;
         Ok(number)
@@ -82,7 +76,7 @@ impl<'a, A: Allocator + Copy> Atoms<'a, A> {
     fn number_atom(&mut self, args: &[&'a [u8]], atom: &Atom<'a, A>) -> Result<usize, AllocError>
         requires { IsSoundAtom (length args.now) (atom_schema atom.now) }
         ensures number { IfOk result (λ number. IsNumberOf self.new number (ground (map word_of args.now) (atom_schema atom.now))) }
-        ensures kept { OnOk result (Extends self.old self.new) }
+        ensures kept { OnOk result (KeepsNumbers self.old self.new) }
     {
         let mut spelling = Vec::new(self.alloc);
         let predicate = self.number_name(atom.predicate)?;
@@ -105,7 +99,7 @@ impl<'a, A: Allocator + Copy> Atoms<'a, A> {
         requires { AllByRecursion (IsSoundAtom (length args.now)) (atoms_schema atoms.now) }
         ensures numbers { OnOk result ((before : List GroundAtom) → AreNumbersOf self.old numbers.old.items before
             → AreNumbersOf self.new numbers.new.items (before ++ map (ground (map word_of args.now)) (atoms_schema atoms.now))) }
-        ensures kept { OnOk result (Extends self.old self.new) }
+        ensures kept { OnOk result (KeepsNumbers self.old self.new) }
     {
         for atom in atoms {
             let number = self.number_atom(args, atom)?;
@@ -125,7 +119,7 @@ impl<'a, A: Allocator + Copy> Atoms<'a, A> {
         requires more { AllByRecursion (IsSoundAtom (length args.now)) (atoms_schema more.now) }
         ensures numbers { IfOk result (λ numbers. AreNumbersOf self.new numbers
             (map (ground (map word_of args.now)) (atoms_schema atoms.now ++ atoms_schema more.now))) }
-        ensures kept { OnOk result (Extends self.old self.new) }
+        ensures kept { OnOk result (KeepsNumbers self.old self.new) }
         ensures unambiguous { OnOk result (IsUnambiguous self.new) }
     {
         let mut numbers = Vec::new(self.alloc);

@@ -1,12 +1,9 @@
 ghost use Rattle.std.specs.Prelude.{◌≡◌, ◌*◌, ◌<◌, ◌≤◌, ◌↔◌, Ok, IsTrue, IfOk, IfErr, IsErrOf};
-ghost use Rattle.stn_text.specs.Faults.{Gives};
-ghost use Rattle.stn_net.specs.Event.{most_events, most_steps};
-ghost use Rattle.stn_net.specs.Schedule.{IsSchedule};
+ghost use Rattle.stn_text.specs.Faults.{Returns};
+ghost use Rattle.stn_net.specs.{Event.{most_events, most_steps}, Schedule.IsSchedule};
 ghost use Rattle.stn_pddl.specs.Domains.{domain_of};
-ghost use Rattle.stn_lift.specs.Activities.{activities, IsCause};
+ghost use Rattle.stn_lift.specs.{Activities.{activities, IsLiftCause}, BaseBounds.KeepsOrder, PlanSource.{bare, files, plan_source, steps_of, events_of, base_bounds, planned_of, interfere_in_plan, activities_of, base_of, source_with_lifted, is_memory, HasShortTexts, IsSoundSource}};
 ghost use Rattle.stn_lift.specs.Activities as lifting;
-ghost use Rattle.stn_lift.specs.BaseBounds.{KeepsOrder};
-ghost use Rattle.stn_lift.specs.PlanSource.{bare, files, plan_source, steps_of, events_of, base_bounds, planned_of, interfere_in_plan, activities_of, base_of, source_with_lifted, is_memory, HasShortTexts, IsSoundSource};
 
 use crate::bounds::horizon_bounds;
 use crate::fault::{BaseFault, LiftFault};
@@ -52,11 +49,11 @@ pub fn lift<'a, A: Allocator + Copy>(
     ensures made { IfOk result (λ base. base ≡ files domain.now.text plan.now.text) }
 
     // The base, or the first fault of the steps.
-    ensures given { Gives lifting.is_memory (λ base. base) result
+    ensures given { Returns lifting.is_lift_memory (λ base. base) result
         (source_with_lifted (files domain.now.text plan.now.text) (activities domain.now.actions 0 plan.now.steps)) }
 
     // The first step that is refused has the fault, by the first cause against it.
-    ensures cause { IfErr result (IsCause domain.now.actions plan.now.steps) }
+    ensures cause { IfErr result (IsLiftCause domain.now.actions plan.now.steps) }
     ensures steps { IfOk result (λ base. activities domain.now.actions 0 plan.now.steps ≡ Ok (activities_of domain.now.text plan.now.text)) }
 
     // The planned times are a schedule of the base bounds.
@@ -86,7 +83,7 @@ impl<A: Allocator + Copy> Base<A> {
     pub fn bare(alloc: A, steps: u16) -> Result<Base<A>, BaseFault>
         ensures made { IfOk result (λ base. base ≡ bare steps) }
         ensures limit { IsErrOf result BaseFault.TooManySteps ↔ (most_steps < steps) }
-        ensures given { Gives is_memory (λ base. base) result (base_of (bare steps)) }
+        ensures given { Returns is_memory (λ base. base) result (base_of (bare steps)) }
         ensures sound { IfOk result IsSoundSource }
     {
         if steps > MOST_STEPS {
@@ -108,7 +105,7 @@ impl<A: Allocator + Copy> Base<A> {
         ensures limit { IsErrOf result BaseFault.TooManySteps ↔ (most_steps < steps_of (plan_source source.now)) }
 
         // The base, or the first fault of the source.
-        ensures given { Gives is_memory (λ base. base) result (base_of (plan_source source.now)) }
+        ensures given { Returns is_memory (λ base. base) result (base_of (plan_source source.now)) }
 
         // The planned times are a schedule of the base bounds.
         ensures possible { IfOk result (λ base. IsSchedule (base_bounds base) (planned_of base)) }
@@ -132,7 +129,7 @@ fn base_of_texts<A: Allocator + Copy>(
 ) -> Result<Base<A>, BaseFault>
     ensures made { IfOk result (λ base. base ≡ files domain.now plan.now) }
     ensures limit { ¬ IsErrOf result BaseFault.TooManySteps }
-    ensures given { Gives is_memory (λ base. base) result (base_of (files domain.now plan.now)) }
+    ensures given { Returns is_memory (λ base. base) result (base_of (files domain.now plan.now)) }
     ensures sound { IfOk result IsSoundSource }
 {
     let domain = Domain::read(alloc, domain)?;
@@ -148,7 +145,7 @@ fn base_of_plan<'a, A: Allocator + Copy>(
     requires { domain_of domain.now.text ≡ Ok domain.now.actions }
     ensures made { IfOk result (λ base. base ≡ files domain.now.text plan.now) }
     ensures limit { ¬ IsErrOf result BaseFault.TooManySteps }
-    ensures given { Gives is_memory (λ base. base) result (base_of (files domain.now.text plan.now)) }
+    ensures given { Returns is_memory (λ base. base) result (base_of (files domain.now.text plan.now)) }
     ensures sound { IfOk result IsSoundSource }
 {
     let plan = Plan::read(alloc, plan)?;

@@ -1,14 +1,9 @@
 //! The bounds that a plan sets itself.
 
-ghost use Rattle.std.specs.Prelude.{◌≡◌, ◌≢◌, ◌+◌, ◌*◌, ◌<◌, ◌≤◌, ◌≤ℤ◌, ◌++◌, ◌&&◌, ◌==◌, not, nat_lt, length, map, pos, slice_index_or, IfOk, OnOk};
-ghost use Rattle.std.specs.Ordering.{int_cmp};
+ghost use Rattle.std.specs.{Prelude.{◌≡◌, ◌≢◌, ◌+◌, ◌*◌, ◌<◌, ◌≤◌, ◌≤ℤ◌, ◌++◌, ◌&&◌, ◌==◌, not, nat_lt, length, map, pos, slice_index_or, IfOk, OnOk}, Ordering.int_cmp};
 ghost use Rattle.stn_time.specs.Time.{IsWithinHorizon};
-ghost use Rattle.stn_net.specs.Event.{most_events, most_steps};
-ghost use Rattle.stn_net.specs.Horizon.{horizon_bounds};
-ghost use Rattle.stn_net.specs.Schedule.{times_of};
-ghost use Rattle.stn_lift.specs.BaseBounds.{step_of, duration_bound, order_bound, pair_order, event_orders, orders, duration_bounds};
-ghost use Rattle.stn_lift.specs.Timelines.{interfere_by_number, numbered_bounds, IsWhole};
-ghost use Rattle.stn_lift.specs.Views.{numbers_of};
+ghost use Rattle.stn_net.specs.{Event.{most_events, most_steps}, Horizon.horizon_bounds, Schedule.times_of};
+ghost use Rattle.stn_lift.specs.{BaseBounds.{step_of, duration_bound, order_bound, pair_order, event_orders, orders, duration_bounds}, Timelines.{interfere_by_number, numbered_bounds, IsWholeTimeline}, Views.numbers_of};
 
 use crate::timeline::Timeline;
 use std::alloc::{AllocError, Allocator};
@@ -90,7 +85,7 @@ fn append_durations<A: Allocator>(
 impl<A: Allocator + Copy> Timeline<A> {
     // Whether the first event has the smaller number, and the two are of different steps and interfere.
     fn are_ordered(&self, one: u16, other: u16) -> bool
-        requires whole { IsWhole self.now.durations.items self.now.times.items (map numbers_of self.now.footprints.items) }
+        requires whole { IsWholeTimeline self.now.durations.items self.now.times.items (map numbers_of self.now.footprints.items) }
         requires one { one ≤ 2 * length self.now.durations.items }
         requires other { other ≤ 2 * length self.now.durations.items }
         ensures { result ≡ (nat_lt one other
@@ -108,7 +103,7 @@ impl<A: Allocator + Copy> Timeline<A> {
         other: u16,
         bounds: &mut Vec<Bound, A>,
     ) -> Result<(), AllocError>
-        requires whole { IsWhole self.now.durations.items self.now.times.items (map numbers_of self.now.footprints.items) }
+        requires whole { IsWholeTimeline self.now.durations.items self.now.times.items (map numbers_of self.now.footprints.items) }
         requires one { one ≤ 2 * length self.now.durations.items }
         requires other { other ≤ 2 * length self.now.durations.items }
         ensures { OnOk result (bounds.new.items ≡ bounds.old.items
@@ -126,7 +121,7 @@ impl<A: Allocator + Copy> Timeline<A> {
     // Appends the orders of one event with all others.
     #[tactic(auto, unfolding(crate::specs::BaseBounds::event_orders))]
     fn append_event_orders(&self, one: u16, bounds: &mut Vec<Bound, A>) -> Result<(), AllocError>
-        requires whole { IsWhole self.now.durations.items self.now.times.items (map numbers_of self.now.footprints.items) }
+        requires whole { IsWholeTimeline self.now.durations.items self.now.times.items (map numbers_of self.now.footprints.items) }
         requires one { one ≤ 2 * length self.now.durations.items }
         ensures { OnOk result (bounds.new.items ≡ bounds.old.items
             ++ event_orders (interfere_by_number (map numbers_of self.now.footprints.items)) (times_of self.now.times.items) one (2 * length self.now.durations.items)) }
@@ -140,7 +135,7 @@ impl<A: Allocator + Copy> Timeline<A> {
     // Appends the orders of all events.
     #[tactic(auto, unfolding(crate::specs::BaseBounds::orders))]
     fn append_orders(&self, bounds: &mut Vec<Bound, A>) -> Result<(), AllocError>
-        requires { IsWhole self.now.durations.items self.now.times.items (map numbers_of self.now.footprints.items) }
+        requires { IsWholeTimeline self.now.durations.items self.now.times.items (map numbers_of self.now.footprints.items) }
         ensures { OnOk result (bounds.new.items ≡ bounds.old.items
             ++ orders (interfere_by_number (map numbers_of self.now.footprints.items)) (times_of self.now.times.items)
             (2 * length self.now.durations.items) (2 * length self.now.durations.items)) }
@@ -154,7 +149,7 @@ impl<A: Allocator + Copy> Timeline<A> {
     /// The bounds of the plan, in their order: the horizon of each event, the duration of each step, and the order of each pair of
     /// events of different steps that interfere.
     pub fn bounds(&self, alloc: A) -> Result<Vec<Bound, A>, AllocError>
-        requires { IsWhole self.now.durations.items self.now.times.items (map numbers_of self.now.footprints.items) }
+        requires { IsWholeTimeline self.now.durations.items self.now.times.items (map numbers_of self.now.footprints.items) }
         ensures { IfOk result (λ bounds. bounds.items
             ≡ numbered_bounds self.now.durations.items self.now.times.items (map numbers_of self.now.footprints.items)) }
     {

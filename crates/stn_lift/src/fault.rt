@@ -1,10 +1,9 @@
 //! Why there is no base.
 
 ghost use Rattle.std.specs.Prelude.{◌≡◌};
-ghost use Rattle.stn_lift.specs.Faults.{of_domain, of_plan, of_lifting};
+ghost use Rattle.stn_lift.specs.{Faults.{of_domain, of_plan, of_lifting}, Failures.{lift_failure, base_failure}};
 ghost use Rattle.stn_lift.specs.declared.fault.BaseFault.TheVariants as base;
 ghost use Rattle.stn_lift.specs.declared.fault.LiftFault.TheVariants as lifting;
-ghost use Rattle.stn_lift.specs.Failures.{lift_failure, base_failure};
 
 use crate::plan::PlanFault;
 use std::alloc::AllocError;

@@ -1,8 +1,7 @@
 //! What an event needs, adds and deletes.
 
 ghost use Rattle.std.specs.Prelude.{◌≡◌, nat_eq};
-ghost use Rattle.stn_lift.specs.Footprints.{no_footprint, touches, interfere};
-ghost use Rattle.stn_lift.specs.Views.{numbers_of};
+ghost use Rattle.stn_lift.specs.{Footprints.{no_footprint, touches, interfere}, Views.numbers_of};
 
 use crate::numbers::Numbers;
 use std::alloc::Allocator;

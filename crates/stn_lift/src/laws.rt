@@ -1,14 +1,9 @@
 ghost use Rattle.std.specs.Prelude.{◌≡◌, ◌↔◌, ℕ, false, List, Ok, Err, IsTrue};
 ghost use Rattle.stn_pddl.specs.Schemas.{ActionSchema};
-ghost use Rattle.stn_lift.specs.declared.plan.fault.PlanFault.{PlanFault};
-ghost use Rattle.stn_lift.specs.declared.fault.LiftFault.{LiftFault};
+ghost use Rattle.stn_lift.specs.{declared.{plan.fault.PlanFault.PlanFault, fault.LiftFault.LiftFault}, Plan.Steps.PlannedStep, Footprints.{Footprint, GroundAtom, is_same_atom, interfere, EitherTouches}, PlanSource.{files, base_of, planned_of}, PlannedTimes.{IsStepOf, IsPlannedAt}};
 ghost use Rattle.stn_lift.specs.Plan.Steps as plan;
-ghost use Rattle.stn_lift.specs.Plan.Steps.{PlannedStep};
 ghost use Rattle.stn_lift.specs.Plan.Faults as plan_faults;
 ghost use Rattle.stn_lift.specs.Activities as lifting;
-ghost use Rattle.stn_lift.specs.Footprints.{Footprint, GroundAtom, is_same_atom, interfere, EitherTouches};
-ghost use Rattle.stn_lift.specs.PlanSource.{files, base_of, planned_of};
-ghost use Rattle.stn_lift.specs.PlannedTimes.{IsStepOf, IsPlannedAt};
 
 /// The law that two events interfere, by the test that orders them, exactly where some atom is one that either needs and the
 /// other adds or deletes, or one that either adds and the other deletes.
@@ -26,11 +21,11 @@ pub fn planned_times()
 
 /// The law that the text of a plan has a fault exactly where it has the cause of that fault.
 pub fn plan_faults_by_cause()
-    ensures { (text : List ℕ) (fault : PlanFault) → plan.is_memory fault ≡ false → (plan.plan_of text ≡ Err fault) ↔ plan_faults.IsCause text fault }
+    ensures { (text : List ℕ) (fault : PlanFault) → plan.is_memory fault ≡ false → (plan.plan_of text ≡ Err fault) ↔ plan_faults.IsPlanCause text fault }
 {}
 
 /// The law that the steps of a plan have a fault in a domain of these actions exactly where they have the cause of that fault.
 pub fn lift_faults_by_cause()
-    ensures { (actions : List ActionSchema) (steps : List PlannedStep) (fault : LiftFault) → lifting.is_memory fault ≡ false
-        → (lifting.activities actions 0 steps ≡ Err fault) ↔ lifting.IsCause actions steps fault }
+    ensures { (actions : List ActionSchema) (steps : List PlannedStep) (fault : LiftFault) → lifting.is_lift_memory fault ≡ false
+        → (lifting.activities actions 0 steps ≡ Err fault) ↔ lifting.IsLiftCause actions steps fault }
 {}

@@ -1,7 +1,6 @@
 //! Numbers in order.
 
-ghost use Rattle.std.specs.Prelude.{◌≡◌, [], nat_eq, IsPermutation};
-ghost use Rattle.std.specs.List.Sorted.{IsNonDecreasing};
+ghost use Rattle.std.specs.{Prelude.{◌≡◌, [], nat_eq, IsPermutation}, List.Sorted.IsNonDecreasing};
 ghost use Rattle.stn_lift.specs.Footprints.{share};
 
 use std::alloc::Allocator;
@@ -15,8 +14,7 @@ pub struct Numbers<A: Allocator> {
 }
 
 impl<A: Allocator> Model for Numbers<A> {
-    ghost use Rattle.std.specs.Prelude.{List, ℕ};
-    ghost use Rattle.std.specs.List.Sorted.{IsNonDecreasing};
+    ghost use Rattle.std.specs.{Prelude.{List, ℕ}, List.Sorted.IsNonDecreasing};
 
     ghost Value = { List ℕ };
 

@@ -1,9 +1,7 @@
 //! Timed plans: texts of steps, each with its time, its action and the action's arguments, and perhaps a duration.
 ghost use Rattle.std.specs.Prelude.{◌≡◌, ◌≤◌, length, map, All, Ok, IfOk, IfErr};
-ghost use Rattle.stn_text.specs.Faults.{Gives};
-ghost use Rattle.stn_lift.specs.Plan.Steps.{is_memory, IsTimely, most_steps, most_text, steps_of, plan_of};
-ghost use Rattle.stn_lift.specs.Plan.Faults.{IsCause};
-ghost use Rattle.stn_lift.specs.Plan.Views.{planned_step};
+ghost use Rattle.stn_text.specs.Faults.{Returns};
+ghost use Rattle.stn_lift.specs.Plan.{Steps.{is_memory, IsTimely, most_steps, most_text, steps_of, plan_of}, Faults.IsPlanCause, Views.planned_step};
 
 mod bytes;
 mod fault;
@@ -30,8 +28,7 @@ pub struct Plan<'a, A: Allocator> {
 
 impl<'a, A: Allocator> Model for Plan<'a, A> {
     ghost use Rattle.std.specs.Prelude.{map};
-    ghost use Rattle.stn_lift.specs.Plan.Steps.{Contents, IsPlan};
-    ghost use Rattle.stn_lift.specs.Plan.Views.{planned_step};
+    ghost use Rattle.stn_lift.specs.Plan.{Steps.{Contents, IsPlan}, Views.planned_step};
 
     ghost Value = { Contents };
 
@@ -46,7 +43,7 @@ fn read_steps<'a, A: Allocator + Copy>(
     alloc: A,
     mut lines: Lines<'a>,
 ) -> Result<Vec<Step<'a, A>, A>, PlanFault>
-    ensures { Gives is_memory (λ steps. map planned_step steps.items) result (steps_of lines.entry) }
+    ensures { Returns is_memory (λ steps. map planned_step steps.items) result (steps_of lines.entry) }
 {
     let mut steps = Vec::new(alloc);
     while let Some((number, line)) = lines.next_line() {
@@ -62,11 +59,11 @@ impl<'a, A: Allocator + Copy> Plan<'a, A> {
     /// has one, `Syntax`, `Number` or `Negative`; `TooManySteps`. `Memory` may come in place of any answer.
     #[tactic(auto, unfolding(crate::specs::Plan::Steps::plan_of, crate::specs::Plan::Steps::limited))]
     pub fn read(alloc: A, text: &'a [u8]) -> Result<Plan<'a, A>, PlanFault>
-        ensures given { Gives is_memory (λ plan. plan.steps) result (plan_of text.now) }
+        ensures given { Returns is_memory (λ plan. plan.steps) result (plan_of text.now) }
         ensures text { IfOk result (λ plan. plan.text ≡ text.now) }
 
         // The text is too long, or the first line with a fault has it, or there are too many steps.
-        ensures cause { IfErr result (IsCause text.now) }
+        ensures cause { IfErr result (IsPlanCause text.now) }
     {
         if is_too_long(text) {
             return Err(PlanFault::TooLong);

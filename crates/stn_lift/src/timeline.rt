@@ -1,19 +1,11 @@
 //! The steps of a plan in its domain.
 
-ghost use Rattle.std.specs.Prelude.{◌≡◌, ◌+◌, ◌≤◌, ◌++◌, ◌∷◌, [], All, List, length, map, pos, ◌+ℤ◌, ◌≤ℤ◌, Ok, IfOk, IfErr, OnOk};
-ghost use Rattle.std.specs.List.{AllByRecursion};
-ghost use Rattle.stn_text.specs.Faults.{Fails, Gives};
+ghost use Rattle.std.specs.{Prelude.{◌≡◌, ◌+◌, ◌≤◌, ◌++◌, ◌∷◌, [], All, List, length, map, pos, ◌+ℤ◌, ◌≤ℤ◌, Ok, IfOk, IfErr, OnOk}, List.AllByRecursion};
+ghost use Rattle.stn_text.specs.Faults.{Fails, Returns};
 ghost use Rattle.stn_time.specs.Time.{horizon};
 ghost use Rattle.stn_net.specs.Event.{most_steps};
-ghost use Rattle.stn_pddl.specs.Sound.{IsSound, HasSoundAtoms, IsSoundAtom};
-ghost use Rattle.stn_pddl.specs.Views.{action_schema, atoms_schema};
-ghost use Rattle.stn_lift.specs.Plan.Steps.{IsTimely};
-ghost use Rattle.stn_lift.specs.Plan.Views.{planned_step, word_of};
-ghost use Rattle.stn_lift.specs.Footprints.{ground};
-ghost use Rattle.stn_lift.specs.Numbering.{Extends, IsNumbered, IsUnambiguous};
-ghost use Rattle.stn_lift.specs.Views.{numbers_of};
-ghost use Rattle.stn_lift.specs.Activities.{Activity, is_memory, differs, activity, activity_of, activities};
-ghost use Rattle.stn_lift.specs.Timelines.{IsTimeline, IsLifted};
+ghost use Rattle.stn_pddl.specs.{Sound.{IsSound, HasSoundAtoms, IsSoundAtom}, Views.{action_schema, atoms_schema}};
+ghost use Rattle.stn_lift.specs.{Plan.{Steps.IsTimely, Views.{planned_step, word_of}}, Footprints.ground, Numbering.{KeepsNumbers, IsNumbered, IsUnambiguous}, Views.numbers_of, Activities.{Activity, is_lift_memory, differs, activity, activity_of, activities}, Timelines.{IsTimeline, IsLifted}};
 
 use crate::atoms::Atoms;
 use crate::fault::LiftFault;
@@ -49,7 +41,7 @@ fn action_of<'d, 'a, A: Allocator + Copy>(
     number: u16,
     step: &Step<'a, A>,
 ) -> Result<&'d Action<'a, A>, LiftFault>
-    ensures given { Gives is_memory (λ action. activity (planned_step step.now) (action_schema action.now)) result
+    ensures given { Returns is_lift_memory (λ action. activity (planned_step step.now) (action_schema action.now)) result
         (activity_of domain.now.actions number (planned_step step.now)) }
     ensures arity { IfOk result (λ action. length step.now.args.items ≡ length (action_schema action.now).parameters) }
     ensures sound { IfOk result (λ action. IsSound (action_schema action.now)) }
@@ -97,7 +89,7 @@ fn footprint<'a, A: Allocator + Copy>(
       adds = map (ground (map word_of args.now)) (atoms_schema adds.now);
       deletes = map (ground (map word_of args.now)) (atoms_schema deletes.now);
     })) }
-    ensures kept { OnOk result (Extends atoms.old atoms.new) }
+    ensures kept { OnOk result (KeepsNumbers atoms.old atoms.new) }
     ensures unambiguous { OnOk result (IsUnambiguous atoms.new) }
 {
     let needs = atoms.numbers(args, needs.0, needs.1)?;
@@ -203,7 +195,7 @@ impl<A: Allocator + Copy> Timeline<A> {
         ensures made { OnOk result ((found : List Activity)
             × (activities domain.now.actions 0 (map planned_step steps.now) ≡ Ok found)
             × IsLifted found self.new.durations.items self.new.times.items (map numbers_of self.new.footprints.items)) }
-        ensures fault { IfErr result (λ fault. Fails is_memory fault (activities domain.now.actions 0 (map planned_step steps.now))) }
+        ensures fault { IfErr result (λ fault. Fails is_lift_memory fault (activities domain.now.actions 0 (map planned_step steps.now))) }
     {
         let mut number = 0;
         for step in steps {
@@ -225,7 +217,7 @@ impl<A: Allocator + Copy> Timeline<A> {
         ensures made { IfOk result (λ made. (found : List Activity)
             × (activities domain.now.actions 0 (map planned_step steps.now) ≡ Ok found)
             × IsLifted found made.durations.items made.times.items (map numbers_of made.footprints.items)) }
-        ensures fault { IfErr result (λ fault. Fails is_memory fault (activities domain.now.actions 0 (map planned_step steps.now))) }
+        ensures fault { IfErr result (λ fault. Fails is_lift_memory fault (activities domain.now.actions 0 (map planned_step steps.now))) }
     {
         let mut timeline = Timeline::new(alloc)?;
         let mut atoms = Atoms::new(alloc);

@@ -1,10 +1,6 @@
-use Rattle.std.proofs.Common.{◌≡◌, ℕ, ℤ, pos, ◌≤◌, ◌+ℤ◌, ◌-ℤ◌, ◌≤ℤ◌, neg_ℤ, List, [], ◌∷◌, ◌++◌, get_or, Some, sym, refl, subst, ◌∙◌, arith}
-use Rattle.std.specs.Prelude.{All}
-use Rattle.std.proofs.{lemmas.Int.ints, lemmas.Int.clamps, lemmas.List.Elements.All-push, lemmas.List.Elements.All-pop}
-use Rattle.stn_time.specs.Time.{horizon}
-use Rattle.stn_time.proofs.Each.{All-left}
-use Rattle.stn_net.specs.{Difference.Difference, Difference.NamesEvents, Schedule.IsSchedule, Schedule.HasSchedule, Schedule.Meets, Matrix.Table.Table, Matrix.Table.far_of, Matrix.Tightest.IsExact, Matrix.Closed.IsClosed, Matrix.Way.shorter, Matrix.Way.narrower, Matrix.Way.IsImplied, Matrix.Way.HasRoom}
-use Rattle.stn_net.proofs.Tightest.{IsTight, tight_from_exact, exact_from_tight}
+use Rattle.std.{proofs.{lemmas.{Grind.common_steps, Int.{ints, clamps}, List.Elements.{All-push, All-pop}}, Common.{◌≡◌, ℕ, ℤ, pos, ◌≤◌, ◌+ℤ◌, ◌-ℤ◌, ◌≤ℤ◌, neg_ℤ, List, [], ◌∷◌, ◌++◌, get_or, Some, sym, refl, subst, ◌∙◌, arith}}, specs.Prelude.All}
+use Rattle.stn_time.{specs.Time.horizon, proofs.Each.All-left}
+use Rattle.stn_net.{specs.{Difference.{Difference, NamesEvents}, Schedule.{IsSchedule, HasSchedule, Meets}, Matrix.{Table.{Table, far_of}, Tightest.IsExact, Closed.IsClosed, Way.{shorter, narrower, IsImplied, HasRoom}}}, proofs.Tightest.{IsTight, tight_from_exact, exact_from_tight}}
 
 -- a closed square stays closed by way of a link that closes no negative cycle
 pub shorter-closed : (events : ℕ) (far : ℕ → ℕ → ℤ) (u v : ℕ) (w : ℤ) → IsClosed events far → u ≤ events → v ≤ events → pos 0 ≤ℤ (far v u +ℤ w)
@@ -40,11 +36,7 @@ shorter-kept_row events far u v w closed vs x y xs ys longer =
 -- the way by the upper link leaves room for the lower one
 pub lower_round : (events : ℕ) (far : ℕ → ℕ → ℤ) (b : Difference) → IsClosed events far → NamesEvents events b → b.lo ≤ℤ b.hi → HasRoom far b
     → pos 0 ≤ℤ (shorter far b.from b.to b.hi b.from b.to +ℤ neg_ℤ b.lo)
-lower_round events far b closed named ordered room =
-    let from = closed.itself b.from named.from in
-    let to = closed.itself b.to named.to in
-    let lower = room.lower in
-    omega (arith, ints, clamps)
+lower_round events far b closed named ordered room = grind (arith, common_steps, clamps)
 
 -- a closed square stays closed by a bound that has room
 pub narrower-closed : (events : ℕ) (far : ℕ → ℕ → ℤ) (b : Difference) → IsClosed events far → NamesEvents events b → b.lo ≤ℤ b.hi → HasRoom far b
@@ -63,20 +55,12 @@ schedule_last bounds b time s = (All-pop (Meets time) (bounds ++ b ∷ []) bound
 
 -- equal entries are closed alike
 pub closed_same : (events : ℕ) (far other : ℕ → ℕ → ℤ) → ((x y : ℕ) → x ≤ events → y ≤ events → other x y ≡ far x y) → IsClosed events far → IsClosed events other
-closed_same events far other same closed = record {
-  itself = λ x xs. same x x xs xs ∙ closed.itself x xs;
-  triangle = λ x y z xs ys zs. rw (same x z xs zs, same x y xs ys, same y z ys zs) (closed.triangle x y z xs ys zs);
-  most = λ x y xs ys. rw (same x y xs ys) (closed.most x y xs ys);
-}
+closed_same events far other same closed = grind (arith, common_steps)
 
 -- equal entries are tight alike
 pub tight_same : (bounds : List Difference) (events : ℕ) (far other : ℕ → ℕ → ℤ) → All (NamesEvents events) bounds
     → ((x y : ℕ) → x ≤ events → y ≤ events → other x y ≡ far x y) → IsTight bounds events far → IsTight bounds events other
-tight_same bounds events far other named same tight = record {
-  sound = λ time s x y xs ys. rw (same x y xs ys) (tight.sound time s x y xs ys);
-  upper = λ k d h. let ends = named k d h in rw (same _ _ ends.from ends.to) (tight.upper k d h);
-  lower = λ k d h. let ends = named k d h in rw (same _ _ ends.to ends.from) (tight.lower k d h);
-}
+tight_same bounds events far other named same tight = grind (arith, common_steps)
 
 -- a difference by way of a link is sound where the link is
 shorter_sound : (time : ℕ → ℤ) (events : ℕ) (far : ℕ → ℕ → ℤ) (u v : ℕ) (w : ℤ) → u ≤ events → v ≤ events
@@ -101,16 +85,10 @@ narrower_at_most : (far : ℕ → ℕ → ℤ) (b : Difference) (x y : ℕ) → 
 narrower_at_most far b x y = omega (arith, ints, clamps)
 
 narrower_upper : (events : ℕ) (far : ℕ → ℕ → ℤ) (b : Difference) → IsClosed events far → NamesEvents events b → narrower far b b.from b.to ≤ℤ b.hi
-narrower_upper events far b closed named =
-    let from = closed.itself b.from named.from in
-    let to = closed.itself b.to named.to in
-    omega (arith, ints, clamps)
+narrower_upper events far b closed named = grind (arith, common_steps, clamps)
 
 narrower_lower : (events : ℕ) (far : ℕ → ℕ → ℤ) (b : Difference) → IsClosed events far → NamesEvents events b → b.lo ≤ℤ neg_ℤ (narrower far b b.to b.from)
-narrower_lower events far b closed named =
-    let from = closed.itself b.from named.from in
-    let to = closed.itself b.to named.to in
-    omega (arith, ints, clamps)
+narrower_lower events far b closed named = grind (arith, common_steps, clamps)
 
 -- a tight square is tight for one more bound by way of its links
 pub narrower-tight : (bounds : List Difference) (events : ℕ) (far : ℕ → ℕ → ℤ) (b : Difference) → IsClosed events far → NamesEvents events b

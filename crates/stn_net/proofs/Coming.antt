@@ -1,11 +1,5 @@
-use Rattle.std.proofs.Common.{◌≡◌, ℕ, ℤ, ◌+◌, ◌<◌, ◌≤◌, ◌≤ℤ◌, ◌<ℤ◌, Bool, true, false, List, length, Option, Some, None, refl, sym, inl, inr, arith}
-use Rattle.std.specs.Prelude.{int_le, is_none, IfSome, IfNone}
-use Rattle.std.proofs.{lemmas.Bool.cases_lt, lemmas.Bool.false≢true, lemmas.Int.ints, lemmas.Int.by_lt_z}
-use Rattle.stn_net.specs.Difference.{Difference}
-use Rattle.stn_net.specs.{Matrix.Table.Table, Matrix.Table.far_of, Matrix.Tightest.IsExact}
-use Rattle.stn_net.specs.Windows.Dispatch.{IsLeft, IsReady, IsFirstReady, ComesFirst}
-use Rattle.stn_net.specs.Windows.Leading.{earliest, Leads, NonePast, CanLead, IsFirstPast, IsLeastLeader, IsEarliestBelow, IsEarliestSoFar, earlier_of}
-use Rattle.stn_net.proofs.Readiness.{left_within, exact_triangle, exact_itself, ready_now, ready_can_lead, ready_none_past}
+use Rattle.std.{proofs.{lemmas.{Grind.common_steps, Bool.{cases_lt, false≢true}, Int.{ints, by_lt_z}}, Common.{◌≡◌, ℕ, ℤ, ◌+◌, ◌<◌, ◌≤◌, ◌≤ℤ◌, ◌<ℤ◌, Bool, true, false, List, length, Option, Some, None, refl, sym, inl, inr, arith}}, specs.Prelude.{int_le, is_none, IfSome, IfNone}}
+use Rattle.stn_net.{specs.{Difference.Difference, Matrix.{Table.{Table, far_of}, Tightest.IsExact}, Windows.{Dispatch.{IsLeft, IsReady, IsFirstReady, ComesFirst}, Leading.{earliest, MayLead, NonePast, CanLead, IsFirstPast, IsLeastLeader, IsEarliestBelow, IsEarliestSoFar, earlier_of}}}, proofs.Readiness.{left_within, exact_triangle, exact_itself, ready_now, ready_can_lead, ready_none_past}}
 
 -- what a look for the first event whose latest time has passed says where it finds none
 pub none_is_past : (latest : ℕ → ℤ) (done : List Bool) (time : ℤ) (found : Option ℕ) → is_none found ≡ true → IfNone found (NonePast latest done time) → NonePast latest done time
@@ -40,7 +34,7 @@ earliest_is_first bounds table done now run exact one_each none first =
     let at = first.at in
     let within : event ≤ table.events = omega (arith, left_within done event first.left) in
     let itself = exact_itself bounds table 0 exact (omega arith) in
-    let leads : Leads (far_of table) done event = λ other left.
+    let leads : MayLead (far_of table) done event = λ other left.
     let others = left_within done other left in
     let sooner = (first.first other others left).0 in
     let round = exact_triangle bounds table event other 0 exact within (omega arith) (omega arith) in
@@ -72,30 +66,12 @@ earlier_takes run other before = let test : int_le run.0 other.0 ≡ false = gri
 -- where no event below a number is left, one of that number is the first below the next
 first_of_all : (times : ℕ → ℤ) (done : List Bool) (number event : ℕ) (time : ℤ) → event ≡ number → IsLeft done event → time ≡ times event
     → ((other : ℕ) → other < number → ¬ IsLeft done other) → IsEarliestBelow times done (number + 1) (time, event)
-first_of_all times done number event time same left at none = record {
-  left = left;
-  at = at;
-  below = omega arith;
-  first = λ other below is_left.
-      elim (cases_lt other number) [
-        | inl before ↦ absurd (none other before is_left)
-        | inr here ↦ let is : other ≡ event = omega arith in rw is (omega (arith, ints), λ _. omega arith)
-      ];
-}
+first_of_all times done number event time same left at none = grind (arith, common_steps, cases_lt)
 
 -- a run that is the first below a number is the first below the next, where it comes before an event of that number that is left
 one_further : (times : ℕ → ℤ) (done : List Bool) (number : ℕ) (run : ℤ × ℕ) → IsEarliestBelow times done number run
     → (IsLeft done number → ComesFirst run.0 run.1 (times number) number) → IsEarliestBelow times done (number + 1) run
-one_further times done number run first next = record {
-  left = first.left;
-  at = first.at;
-  below = omega (arith, first.below);
-  first = λ other within is_left.
-      elim (cases_lt other number) [
-        | inl before ↦ first.first other before is_left
-        | inr here ↦ let is : other ≡ number = omega arith in rw is (next (rw (← is) is_left))
-      ];
-}
+one_further times done number run first next = grind (arith, common_steps, cases_lt)
 
 -- it stays the first, where the event of that number is no earlier
 first_stays : (times : ℕ → ℤ) (done : List Bool) (number event : ℕ) (run : ℤ × ℕ) (time : ℤ) → event ≡ number → time ≡ times event
@@ -106,34 +82,18 @@ first_stays times done number event run time same at first no_later =
 -- and gives way, where that event is earlier
 first_gives_way : (times : ℕ → ℤ) (done : List Bool) (number event : ℕ) (run : ℤ × ℕ) (time : ℤ) → event ≡ number → time ≡ times event
     → IsLeft done event → IsEarliestBelow times done number run → time <ℤ run.0 → IsEarliestBelow times done (number + 1) (time, event)
-first_gives_way times done number event run time same at left first before = record {
-  left = left;
-  at = at;
-  below = omega arith;
-  first = λ other within is_left.
-      elim (cases_lt other number) [
-        | inl lower ↦ let sooner = (first.first other lower is_left).0 in (omega (arith, ints), λ e. absurd (omega (arith, ints)))
-        | inr here ↦ let is : other ≡ event = omega arith in rw is (omega (arith, ints), λ _. omega arith)
-      ];
-}
+first_gives_way times done number event run time same at left first before = grind (arith, common_steps, cases_lt)
 
 -- a look at one more event that is left: the earlier of the two runs comes first among those so far
 pub one_more_run : (times : ℕ → ℤ) (done : List Bool) (number event : ℕ) (first : Option (ℤ × ℕ)) (time : ℤ) → event ≡ number → IsLeft done event → time ≡ times event
     → IsEarliestSoFar times done number first → IsEarliestBelow times done (number + 1) (earlier_of first (time, event))
 one_more_run times done number event None time same left at none = first_of_all times done number event time same left at none
-one_more_run times done number event (Some run) time same left at first =
-    by_lt_z time run.0
-    (λ before. rw (earlier_takes run (time, event) before) (first_gives_way times done number event run time same at left first before))
-    (λ no_later. rw (earlier_keeps run (time, event) no_later) (first_stays times done number event run time same at first no_later))
+one_more_run times done number event (Some run) time same left at first = grind (arith, common_steps, by_lt_z, earlier_takes, first_gives_way, earlier_keeps, first_stays)
 
 -- a look at one more event that is not left changes nothing
 pub same_first : (times : ℕ → ℤ) (done : List Bool) (number event : ℕ) (first : Option (ℤ × ℕ)) → event ≡ number → ¬ IsLeft done event
     → IsEarliestSoFar times done number first → IsEarliestSoFar times done (number + 1) first
-same_first times done number event None same not_left none = λ other within is_left.
-    elim (cases_lt other number) [
-      | inl before ↦ none other before is_left
-      | inr here ↦ let is : other ≡ event = omega arith in not_left (rw (← is) is_left)
-    ]
+same_first times done number event None same not_left none = grind (arith, common_steps, cases_lt)
 same_first times done number event (Some run) same not_left first = one_further times done number run first (λ is_left. absurd (not_left (rw same is_left)))
 
 -- no event below the next number can lead, where none below the number can and that of the number can't

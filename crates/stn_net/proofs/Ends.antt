@@ -1,10 +1,6 @@
 -- The earliest and the latest times of a plan's events.
-use Rattle.std.proofs.Common.{◌≡◌, ℕ, ℤ, ◌+◌, ◌≤◌, ◌<ℤ◌, ◌↔◌, neg_ℤ, Bool, List, length, get_or, arith}
-use Rattle.std.specs.{Prelude.All}
-use Rattle.std.proofs.lemmas.Int.{ints, by_lt_z}
-use Rattle.stn_net.specs.{Difference.Difference, Difference.NamesEvents, Schedule.IsSchedule, Matrix.Table.Table, Matrix.Table.far_of, Matrix.Tightest.IsTightest, Matrix.Tightest.IsExact}
-use Rattle.stn_net.specs.Windows.{Dispatch.IsLeft, Dispatch.HasTimeFrom, Dispatch.IsOverdue, Dispatch.CanWaitUntil, Leading.NonePast, Leading.IsFirstPast, Soonest.AreEarliest, Soonest.AreLatest}
-use Rattle.stn_net.proofs.Readiness.{left_within}
+use Rattle.std.{proofs.{Common.{◌≡◌, ℕ, ℤ, ◌+◌, ◌≤◌, ◌<ℤ◌, ◌↔◌, neg_ℤ, Bool, List, length, get_or, arith}, lemmas.Int.{ints, by_lt_z}}, specs.Prelude.All}
+use Rattle.stn_net.{specs.{Difference.{Difference, NamesEvents}, Schedule.IsSchedule, Matrix.{Table.{Table, far_of}, Tightest.{IsTightest, IsExact}}, Windows.{Dispatch.{IsLeft, HasTimeFrom, IsOverdue, CanWaitUntil}, Leading.{NonePast, IsFirstPast}, Soonest.{AreEarliest, AreLatest}}}, proofs.Readiness.left_within}
 
 -- how far the origin comes after each event at the most gives the earliest times
 pub earliest_of_tightest : (bounds : List Difference) (events : ℕ) (back : ℕ → ℤ) → ((event : ℕ) → event ≤ events → IsTightest bounds event 0 (back event))

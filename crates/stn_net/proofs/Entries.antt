@@ -1,18 +1,14 @@
-use Rattle.std.proofs.Common.{◌≡◌, ◌≢◌, ℕ, ℤ, pos, ◌+◌, ◌*◌, ◌<◌, ◌≤◌, ◌+ℤ◌, ◌≤ℤ◌, ◌<ℤ◌, ◌⊎◌, neg_ℤ, inl, inr, List, [], ◌∷◌, ◌++◌, length, set, refl, ap, sym, ◌∙◌, arith, get_or-set_same, get_or-set_other}
-use Rattle.std.specs.{Prelude.All, Prelude.Contains, Prelude.slice_index_or, Int.int_min}
-use Rattle.std.proofs.{lemmas.Int.ints, lemmas.Int.clamps, lemmas.Bool.cases_eq, lemmas.Bool.cases_lt, lemmas.Nat.mul-add-lt, lemmas.Nat.same_from_place, lemmas.List.get_or_default}
-use Rattle.std.proofs.lemmas.List.Elements.{All-push, Contains-push, Contains-append_left}
+use Rattle.std.{proofs.{lemmas.{Grind.common_steps, Int.{ints, clamps}, Bool.{cases_eq, cases_lt}, Nat.{mul-add-lt, same_from_place}, List.{get_or_default, Elements.{All-push, Contains-push, Contains-append_left}}}, Common.{◌≡◌, ◌≢◌, ℕ, ℤ, pos, ◌+◌, ◌*◌, ◌<◌, ◌≤◌, ◌+ℤ◌, ◌≤ℤ◌, ◌<ℤ◌, ◌⊎◌, neg_ℤ, inl, inr, List, [], ◌∷◌, ◌++◌, length, set, refl, ap, sym, ◌∙◌, arith, get_or-set_same, get_or-set_other}}, specs.{Prelude.{All, Contains, slice_index_or}, Int.int_min}}
 use Rattle.stn_time.specs.Time.{horizon}
-use Rattle.stn_net.specs.{Matrix.Closed.IsClosed, Matrix.Table.Square, Matrix.Table.entry, Matrix.Way.IsWhole, Matrix.Way.shorter, Matrix.Way.IsInReach, Matrix.Way.AreNearer, Matrix.Way.AreRunsOf, Matrix.Way.IsWritten, Matrix.Way.IsRowShortened}
-use Rattle.stn_net.proofs.Closure.{shorter-own_row, shorter-kept_row}
+use Rattle.stn_net.{specs.Matrix.{Closed.IsClosed, Table.{Square, entry}, Way.{IsWholeSquare, shorter, IsWithinTwoHorizons, AreNearer, AreRunsOf, IsWrittenEntry, IsRowShortened}}, proofs.Closure.{shorter-own_row, shorter-kept_row}}
 
 -- the place of an entry lies in the square
 pub place_within : (events row column : ℕ) → row ≤ events → column ≤ events → row * (events + 1) + column < (events + 1) * (events + 1)
 place_within events row column rs cs = mul-add-lt row (events + 1) column (events + 1) (omega arith) (omega arith)
 
 -- a write at the place of an entry is a write of this entry alone
-pub written-set : (square : Square) (row column : ℕ) (value : ℤ) → IsWhole square → row ≤ square.events → column ≤ square.events
-    → IsWritten square.events (entry square)
+pub written-set : (square : Square) (row column : ℕ) (value : ℤ) → IsWholeSquare square → row ≤ square.events → column ≤ square.events
+    → IsWrittenEntry square.events (entry square)
     (entry (record { events = square.events; entries = set square.entries (row * (square.events + 1) + column) value })) row column value
 written-set square row column value whole rs cs =
     let width = square.events + 1 in
@@ -102,13 +98,7 @@ shortened_columns size old new onward through columns place so_far all left_out 
 -- a column that comes no nearer is left out
 pub nearer_skip : (events : ℕ) (far : ℕ → ℕ → ℤ) (u v : ℕ) (w : ℤ) (columns : List ℕ) (column : ℕ) → AreNearer events far u v w columns column
     → far u column ≤ℤ (w +ℤ far v column) → AreNearer events far u v w columns (column + 1)
-nearer_skip events far u v w columns column so_far longer = record {
-  within = so_far.within;
-  left_out = λ y below. elim (cases_eq y column) [
-    | inl e ↦ inr (rw e longer)
-    | inr ne ↦ so_far.left_out y (omega arith)
-  ];
-}
+nearer_skip events far u v w columns column so_far longer = grind (arith, common_steps, cases_eq)
 
 -- the others are listed
 pub nearer_more : (events : ℕ) (far : ℕ → ℕ → ℤ) (u v : ℕ) (w : ℤ) (columns : List ℕ) (column : ℕ) → AreNearer events far u v w columns column
@@ -139,10 +129,7 @@ pub record IsShortenedTo (events : ℕ) (old new : ℕ → ℕ → ℤ) (u v : �
 -- the row that the link leads to is as it was all the while
 pub shortened-own_row : (events : ℕ) (old new : ℕ → ℕ → ℤ) (u v : ℕ) (w : ℤ) (row : ℕ) → IsShortenedTo events old new u v w row
     → u ≤ events → v ≤ events → pos 0 ≤ℤ (old v u +ℤ w) → (y : ℕ) → y ≤ events → new v y ≡ old v y
-shortened-own_row events old new u v w row so_far us vs round y ys = elim (cases_lt v row) [
-  | inl before ↦ so_far.here v y before vs ys ∙ shorter-own_row events old u v w us vs round y
-  | inr after ↦ so_far.left v y after vs ys
-]
+shortened-own_row events old new u v w row so_far us vs round y ys = grind (arith, common_steps, cases_lt, shorter-own_row)
 
 -- the row as it was
 pub shortened_skip : (events : ℕ) (old new : ℕ → ℕ → ℤ) (u v : ℕ) (w : ℤ) (row : ℕ) → IsShortenedTo events old new u v w row
@@ -186,7 +173,7 @@ least_way events far u v w closed us vs round x y xs ys =
 -- a row from which v comes nearer by way of the arc is not v's own, and no sum of its differences goes beyond reach
 pub record IsNearerRow (events : ℕ) (far : ℕ → ℕ → ℤ) (row v : ℕ) (through : ℤ) : Type 0 where
   pub apart : row ≢ v
-  pub ways : (y : ℕ) → y ≤ events → IsInReach (through +ℤ far v y)
+  pub ways : (y : ℕ) → y ≤ events → IsWithinTwoHorizons (through +ℤ far v y)
 
 pub nearer_row : (events : ℕ) (old new : ℕ → ℕ → ℤ) (u v : ℕ) (w : ℤ) (row : ℕ) (through : ℤ) → IsShortenedTo events old new u v w row
     → IsClosed events old → u ≤ events → v ≤ events → pos 0 ≤ℤ (old v u +ℤ w) → row ≤ events

@@ -1,10 +1,6 @@
 -- The table of some differences, and that of a plan's once an event is fixed.
-use Rattle.std.proofs.Common.{◌≡◌, ℕ, ℤ, pos, ◌+◌, ◌*◌, ◌/◌, ◌%◌, ◌≤◌, ◌+ℤ◌, ◌-ℤ◌, ◌≤ℤ◌, List, [], ◌∷◌, ◌++◌, map, refl, sym, ap, subst, ◌∙◌, arith}
-use Rattle.std.specs.{Prelude.All, Int.int_min, List.range_with_len}
-use Rattle.std.proofs.{lemmas.Int.ints, lemmas.Int.clamps, lemmas.Nat.div-mul-add, lemmas.Nat.mod-mul-add, lemmas.List.Elements.All-push, lemmas.List.FromFn.get_or-map-range_with_len}
-use Rattle.stn_net.specs.{Difference.Difference, Difference.NamesEvents, Schedule.IsSchedule, Schedule.HasSchedule, Matrix.Table.Table, Matrix.Table.far_of, Matrix.Tightest.IsTightest, Matrix.Tightest.IsExact}
-use Rattle.stn_net.proofs.{Entries.place_within, Closure.schedule_before, Closure.schedule_last, Readiness.exact_itself, Readiness.exact_triangle, Readiness.exact_row, Rehearsals.fixed_schedule}
-use Rattle.stn_net.specs.Windows.Rehearsal.{fixed_at}
+use Rattle.std.{proofs.{Common.{◌≡◌, ℕ, ℤ, pos, ◌+◌, ◌*◌, ◌/◌, ◌%◌, ◌≤◌, ◌+ℤ◌, ◌-ℤ◌, ◌≤ℤ◌, List, [], ◌∷◌, ◌++◌, map, refl, sym, ap, subst, ◌∙◌, arith}, lemmas.{Int.{ints, clamps}, Nat.{div-mul-add, mod-mul-add}, List.{Elements.All-push, FromFn.get_or-map-range_with_len}}}, specs.{Prelude.All, Int.int_min, List.range_with_len}}
+use Rattle.stn_net.{specs.{Difference.{Difference, NamesEvents}, Schedule.{IsSchedule, HasSchedule}, Matrix.{Table.{Table, far_of}, Tightest.{IsTightest, IsExact}}, Windows.Rehearsal.fixed_at}, proofs.{Entries.place_within, Closure.{schedule_before, schedule_last}, Readiness.{exact_itself, exact_triangle, exact_row}, Rehearsals.fixed_schedule}}
 
 -- the table of so many events that has these differences
 abbrev pub table_of : ℕ → (ℕ → ℕ → ℤ) → Table

@@ -1,7 +1,5 @@
-use Rattle.std.proofs.Common.{◌≡◌, ℕ, ◌≤◌, zero, suc, List, [], ◌∷◌, ◌++◌, length, take, refl, ap, ◌∙◌, arith, length-append}
-use Rattle.std.proofs.lemmas.List.{length-take, take-append-le}
-use Rattle.stn_net.specs.Difference.{Difference}
-use Rattle.stn_net.specs.Horizon.{horizon_bound, horizon_bounds}
+use Rattle.std.proofs.{Common.{◌≡◌, ℕ, ◌≤◌, zero, suc, List, [], ◌∷◌, ◌++◌, length, take, refl, ap, ◌∙◌, arith, length-append}, lemmas.List.{length-take, take-append-le}}
+use Rattle.stn_net.specs.{Difference.Difference, Horizon.{horizon_bound, horizon_bounds}}
 
 -- there is one horizon bound for each event
 pub length-horizon_bounds : (events : ℕ) → length (horizon_bounds events) ≡ events

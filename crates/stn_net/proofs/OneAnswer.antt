@@ -1,9 +1,5 @@
-use Rattle.std.proofs.Common.{◌≡◌, ℕ, ℤ, true, Bool, List, [], ◌∷◌, ◌++◌, refl, sym, subst, arith}
-use Rattle.std.specs.Prelude.{slice_set}
-use Rattle.std.proofs.lemmas.Int.{ints}
-use Rattle.stn_net.specs.Difference.{Difference}
-use Rattle.stn_net.specs.{declared.windows.answers.Next.Next, Windows.Dispatch.IsFirstReady, Windows.Dispatch.IsOverdue, Windows.Dispatch.IsNext, Windows.Rehearsal.fixed_at, Windows.Rehearsal.IsRehearsal}
-use Rattle.stn_net.specs.declared.windows.answers.Next.TheVariants.{Run, AllDone, Overdue}
+use Rattle.std.{proofs.{Common.{◌≡◌, ℕ, ℤ, true, Bool, List, [], ◌∷◌, ◌++◌, refl, sym, subst, arith}, lemmas.Int.ints}, specs.Prelude.slice_set}
+use Rattle.stn_net.specs.{Difference.Difference, declared.windows.answers.Next.{Next, TheVariants.{Run, AllDone, Overdue}}, Windows.{Dispatch.{IsFirstReady, IsOverdue, IsNext}, Rehearsal.{fixed_at, IsRehearsal}}}
 
 -- two runs that both come first are one
 one_first : (bounds : List Difference) (done : List Bool) (now time other_time : ℤ) (event other : ℕ) → IsFirstReady bounds done now time event

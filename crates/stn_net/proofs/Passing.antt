@@ -1,8 +1,5 @@
-use Rattle.std.proofs.Common.{◌≡◌, ◌≢◌, ℕ, ℤ, ◌+◌, ◌<◌, ◌≤◌, ◌+ℤ◌, ◌≤ℤ◌, pos, inl, inr, List, length, set, arith, get_or-set_same, get_or-set_other}
-use Rattle.std.specs.{Prelude.All, Prelude.slice_index_or, List.Sorted.IsPermutation}
-use Rattle.std.proofs.{lemmas.Int.ints, lemmas.Bool.cases_eq, lemmas.Bool.cases_lt, lemmas.List.length-set, lemmas.List.Sorted.All-permutation, lemmas.List.Sorted.Contains-permutation}
-use Rattle.stn_net.specs.{Matrix.Closed.IsClosed, Matrix.Way.AreNearer, Matrix.Way.IsOnWay, Matrix.Way.AreRuns, Matrix.Way.AreRunsOf}
-use Rattle.stn_net.proofs.Entries.{IsShortenedTo, shortened-own_row}
+use Rattle.std.{proofs.{Common.{◌≡◌, ◌≢◌, ℕ, ℤ, ◌+◌, ◌<◌, ◌≤◌, ◌+ℤ◌, ◌≤ℤ◌, pos, inl, inr, List, length, set, arith, get_or-set_same, get_or-set_other}, lemmas.{Int.ints, Bool.{cases_eq, cases_lt}, List.{length-set, Sorted.{All-permutation, Contains-permutation}}}}, specs.{Prelude.{All, slice_index_or}, List.Sorted.IsPermutation}}
+use Rattle.stn_net.{specs.Matrix.{Closed.IsClosed, Way.{AreNearer, IsOnWay, AreRuns, AreRunsOf}}, proofs.Entries.{IsShortenedTo, shortened-own_row}}
 
 -- the columns in another order
 pub nearer_moved : (events : ℕ) (far : ℕ → ℕ → ℤ) (u v : ℕ) (w : ℤ) (columns moved : List ℕ) (column : ℕ) → AreNearer events far u v w columns column

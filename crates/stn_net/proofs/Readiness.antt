@@ -1,8 +1,5 @@
-use Rattle.std.proofs.Common.{◌≡◌, ℕ, ℤ, pos, ◌+◌, ◌<◌, ◌≤◌, ◌+ℤ◌, ◌-ℤ◌, ◌≤ℤ◌, Bool, true, List, length, sym, ◌∙◌, inl, inr, arith}
-use Rattle.std.specs.Int.{int_min}
-use Rattle.std.proofs.{lemmas.Int.ints, lemmas.Int.clamps, lemmas.Bool.false≢true, lemmas.Bool.cases_lt, lemmas.List.get_or_past}
-use Rattle.stn_net.specs.{Difference.Difference, Schedule.IsSchedule, Matrix.Table.Table, Matrix.Table.far_of, Matrix.Tightest.IsExact, Windows.Dispatch.IsLeft, Windows.Dispatch.IsReady, Windows.Leading.NonePast, Windows.Leading.CanLead}
-use Rattle.stn_net.proofs.{Tightest.row_of_triangles, Tightest.tight_from_exact, WindowEnds.lesser_schedule}
+use Rattle.std.{proofs.{Common.{◌≡◌, ℕ, ℤ, pos, ◌+◌, ◌<◌, ◌≤◌, ◌+ℤ◌, ◌-ℤ◌, ◌≤ℤ◌, Bool, true, List, length, sym, ◌∙◌, inl, inr, arith}, lemmas.{Int.{ints, clamps}, Bool.{false≢true, cases_lt}, List.get_or_past}}, specs.Int.int_min}
+use Rattle.stn_net.{specs.{Difference.Difference, Schedule.IsSchedule, Matrix.{Table.{Table, far_of}, Tightest.IsExact}, Windows.{Dispatch.{IsLeft, IsReady}, Leading.{NonePast, CanLead}}}, proofs.{Tightest.{row_of_triangles, tight_from_exact}, WindowEnds.lesser_schedule}}
 
 -- an event that is left has a test in the list
 pub left_within : (done : List Bool) (event : ℕ) → IsLeft done event → event < length done

@@ -1,11 +1,6 @@
 -- The times at which an event may run.
-use Rattle.std.proofs.Common.{◌≡◌, inl, inr, ℕ, ℤ, ◌+◌, ◌≤ℤ◌, ◌<ℤ◌, ◌↔◌, Bool, true, false, cond, List, length, Option, Some, None, refl, arith}
-use Rattle.std.specs.Ordering.{ord_max, int_cmp, is_lt}
-use Rattle.std.proofs.lemmas.Int.{ints, by_lt_z}
-use Rattle.stn_net.specs.Difference.{Difference}
-use Rattle.stn_net.specs.{Matrix.Table.Table, Matrix.Table.far_of, Matrix.Tightest.IsExact, Windows.Dispatch.IsLeft, Windows.Dispatch.IsReady, Windows.Dispatch.AreReadyTimes, Windows.Leading.earliest, Windows.Leading.Leads, Windows.Leading.IsLeastLatest}
-use Rattle.stn_net.proofs.Readiness.{ready_now, ready_can_lead, ready_none_past}
-use Rattle.stn_net.proofs.SomeNext.{AreFlagged, left_told, leads_told, some_least_latest}
+use Rattle.std.{proofs.{Common.{◌≡◌, inl, inr, ℕ, ℤ, ◌+◌, ◌≤ℤ◌, ◌<ℤ◌, ◌↔◌, Bool, true, false, cond, List, length, Option, Some, None, refl, arith}, lemmas.Int.{ints, by_lt_z}}, specs.Ordering.{ord_max, int_cmp, is_lt}}
+use Rattle.stn_net.{specs.{Difference.Difference, Matrix.{Table.{Table, far_of}, Tightest.IsExact}, Windows.{Dispatch.{IsLeft, IsReady, AreReadyTimes}, Leading.{earliest, MayLead, IsLeastLatest}}}, proofs.{Readiness.{ready_now, ready_can_lead, ready_none_past}, SomeNext.{AreFlagged, left_told, leads_told, some_least_latest}}}
 
 -- the later of two times comes before whatever both come before
 pub later_of : (early now first time : ℤ) → first ≡ ord_max int_cmp early now → (first ≤ℤ time) ↔ ((early ≤ℤ time) × (now ≤ℤ time))
@@ -17,7 +12,7 @@ later_of early now first time is = by (is_lt (int_cmp now early)) refl is
 
 -- an event that is left and leads may run from its earliest time up to the least of all latest times
 ready_between : (bounds : List Difference) (table : Table) (done : List Bool) (event : ℕ) (last time : ℤ) → IsExact bounds table → length done ≡ table.events + 1
-    → IsLeft done event → Leads (far_of table) done event → IsLeastLatest (far_of table 0) done last
+    → IsLeft done event → MayLead (far_of table) done event → IsLeastLatest (far_of table 0) done last
     → IsReady bounds done event time ↔ ((earliest (far_of table) event ≤ℤ time) × (time ≤ℤ last))
 ready_between bounds table done event last time exact one_each left leads least = (
   (λ ready.
@@ -32,7 +27,7 @@ ready_between bounds table done event last time exact one_each left leads least 
 
 -- and from now on, from the later of now and its earliest time
 pub ready_from_now : (bounds : List Difference) (table : Table) (done : List Bool) (event : ℕ) (now early first last : ℤ) → IsExact bounds table
-    → length done ≡ table.events + 1 → IsLeft done event → Leads (far_of table) done event → IsLeastLatest (far_of table 0) done last
+    → length done ≡ table.events + 1 → IsLeft done event → MayLead (far_of table) done event → IsLeastLatest (far_of table 0) done last
     → early ≡ earliest (far_of table) event → first ≡ ord_max int_cmp early now
     → (time : ℤ) → ((now ≤ℤ time) × IsReady bounds done event time) ↔ ((first ≤ℤ time) × (time ≤ℤ last))
 ready_from_now bounds table done event now early first last exact one_each left leads least from is time =

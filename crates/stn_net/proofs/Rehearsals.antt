@@ -1,20 +1,9 @@
-use Rattle.std.proofs.Common.{◌≡◌, ◌≢◌, ℕ, ℤ, true, Bool, List, [], ◌∷◌, ◌++◌, get_or, set, cond, eqb, inl, inr, refl, sym, ap, subst, ◌∙◌, arith, get_or-set_same, get_or-set_other}
-use Rattle.std.specs.Prelude.{slice_set, Result, Err, IfErr}
-use Rattle.std.proofs.{lemmas.Int.ints, lemmas.Bool.false≢true, lemmas.Bool.Decides.eqb_tells, lemmas.List.Sums.sum_by-cons}
-use Rattle.std.proofs.lemmas.List.Elements.{All-nil, All-cons, All-push}
-use Rattle.stn_net.specs.{Difference.Difference, Schedule.IsSchedule, Schedule.HasSchedule, Schedule.Meets, Matrix.Table.Table, Matrix.Tightest.IsExact, declared.windows.answers.Next.Next, declared.windows.answers.RehearseFault.RehearseFault, declared.windows.answers.RehearseFault.TheVariants.Memory}
-use Rattle.stn_net.proofs.Closure.{schedule_before, schedule_last}
-use Rattle.stn_net.proofs.Readiness.{left_within}
-use Rattle.stn_net.specs.Windows.Dispatch.{IsLeft, IsReady, IsOverdue, IsNext, CanWaitUntil}
-use Rattle.stn_net.specs.declared.windows.answers.Next.TheVariants.{Run, AllDone, Overdue}
-use Rattle.stn_net.specs.Windows.Rehearsal.{fixed_at, IsRehearsal, NeverFalls, RunsEachOnce, HasScheduleThrough, IsRehearseFault}
+use Rattle.std.{proofs.{lemmas.{Grind.common_steps, Int.ints, Bool.{false≢true, Decides.eqb_tells}, List.{Sums.sum_by-cons, Elements.{All-nil, All-cons, All-push}}}, Common.{◌≡◌, ◌≢◌, ℕ, ℤ, true, Bool, List, [], ◌∷◌, ◌++◌, get_or, set, cond, eqb, inl, inr, refl, sym, ap, subst, ◌∙◌, arith, get_or-set_same, get_or-set_other}}, specs.Prelude.{slice_set, Result, Err, IfErr}}
+use Rattle.stn_net.{specs.{Difference.Difference, Schedule.{IsSchedule, HasSchedule, Meets}, Matrix.{Table.Table, Tightest.IsExact}, declared.windows.answers.{Next.{Next, TheVariants.{Run, AllDone, Overdue}}, RehearseFault.{RehearseFault, TheVariants.Memory}}, Windows.{Dispatch.{IsLeft, IsReady, IsOverdue, IsNext, CanWaitUntil}, Rehearsal.{fixed_at, IsRehearsal, NeverFalls, RunsEachOnce, HasScheduleThrough, IsRehearseFault}}}, proofs.{Closure.{schedule_before, schedule_last}, Readiness.left_within}}
 
 -- a schedule that has the event at the time is one of the bounds and the fixed event
 pub fixed_schedule : (bounds : List Difference) (times : ℕ → ℤ) (time : ℤ) (event : ℕ) → IsSchedule bounds times → times event ≡ time → IsSchedule (bounds ++ fixed_at time event ∷ []) times
-fixed_schedule bounds times time event schedule at = let origin = schedule.origin in record {
-  origin = schedule.origin;
-  met = All-push (Meets times) bounds (fixed_at time event) schedule.met (omega (arith, ints), omega (arith, ints));
-}
+fixed_schedule bounds times time event schedule at = grind (arith, common_steps)
 
 -- an event that is ready can be fixed at its time
 pub ready_can_be_fixed : (bounds : List Difference) (done : List Bool) (time : ℤ) (event : ℕ) → IsReady bounds done event time → HasSchedule (bounds ++ fixed_at time event ∷ [])
@@ -23,10 +12,7 @@ ready_can_be_fixed bounds done time event ready =
 
 -- what is left once an event is done is another event, which was left before
 pub left_before : (done : List Bool) (event other : ℕ) → IsLeft done event → IsLeft (slice_set done event true) other → (other ≢ event) × IsLeft done other
-left_before done event other was_left left =
-    let differs : other ≢ event = λ same.
-    false≢true (sym left.1 ∙ ap (λ e. get_or (set done event true) e true) same ∙ get_or-set_same done event true true (left_within done event was_left)) in
-    (differs, (left.0, sym (get_or-set_other done event other true true differs) ∙ left.1))
+left_before done event other was_left left = grind (arith, common_steps, false≢true, left_within)
 
 -- and another event that was left is left
 pub left_after : (done : List Bool) (event other : ℕ) → IsLeft done other → other ≢ event → IsLeft (slice_set done event true) other

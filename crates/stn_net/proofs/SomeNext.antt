@@ -1,11 +1,6 @@
 -- Something comes next, whichever events are left.
-use Rattle.std.proofs.Common.{◌≡◌, ◌⊎◌, inl, inr, ℕ, ℤ, zero, suc, pos, ◌+◌, ◌<◌, ◌≤ℤ◌, ◌<ℤ◌, Bool, true, false, List, length, get_or, Option, Some, None, refl, subst, arith}
-use Rattle.std.proofs.{lemmas.Bool.cases_lt, lemmas.Int.ints, lemmas.Int.by_lt_z}
-use Rattle.stn_net.specs.Difference.{Difference}
-use Rattle.stn_net.specs.{Matrix.Table.Table, Matrix.Table.far_of, Matrix.Tightest.IsExact, declared.windows.answers.Next.Next, Windows.Dispatch.IsLeft, Windows.Dispatch.IsNext}
-use Rattle.stn_net.specs.declared.windows.answers.Next.TheVariants.{Run, AllDone, Overdue}
-use Rattle.stn_net.specs.Windows.Leading.{earliest, Leads, NonePast, CanLead, IsFirstPast, IsLeastLatest, IsLeastLeader, IsEarliestSoFar, earlier_of}
-use Rattle.stn_net.proofs.{Told.Told, Told.both_told, Told.less_told, Told.below_told, Told.false_told, Told.least_below, Readiness.left_within, Ends.latest_of_exact, Ends.past_is_overdue, Coming.leader_is_first, Coming.earliest_is_first, Coming.one_more_run, Coming.same_first}
+use Rattle.std.proofs.{Common.{◌≡◌, ◌⊎◌, inl, inr, ℕ, ℤ, zero, suc, pos, ◌+◌, ◌<◌, ◌≤ℤ◌, ◌<ℤ◌, Bool, true, false, List, length, get_or, Option, Some, None, refl, subst, arith}, lemmas.{Bool.cases_lt, Int.{ints, by_lt_z}}}
+use Rattle.stn_net.{specs.{Difference.Difference, Matrix.{Table.{Table, far_of}, Tightest.IsExact}, declared.windows.answers.Next.{Next, TheVariants.{Run, AllDone, Overdue}}, Windows.{Dispatch.{IsLeft, IsNext}, Leading.{earliest, MayLead, NonePast, CanLead, IsFirstPast, IsLeastLatest, IsLeastLeader, IsEarliestSoFar, earlier_of}}}, proofs.{Told.{Told, both_told, less_told, below_told, false_told, least_below}, Readiness.left_within, Ends.{latest_of_exact, past_is_overdue}, Coming.{leader_is_first, earliest_is_first, one_more_run, same_first}}}
 
 pub left_told : (done : List Bool) (event : ℕ) → Told (IsLeft done event)
 left_told done event = both_told (0 < event) (get_or done event true ≡ false) (below_told 0 event) (false_told (get_or done event true))
@@ -27,7 +22,7 @@ module _ (far : ℕ → ℕ → ℤ) (done : List Bool) where
         | inr none ↦ inr (λ event left. by_lt_z (far 0 event) now (λ late. absurd (none event (left_within done event left) (left, late))) (λ later. later))
       ]
 
-  pub leads_told : (event : ℕ) → Told (Leads far done event)
+  pub leads_told : (event : ℕ) → Told (MayLead far done event)
   leads_told event =
       let P : ℕ → Type 0 = λ other. IsLeft done other × (far event other <ℤ pos 0) in
       elim (least_below P (λ other. both_told (IsLeft done other) (far event other <ℤ pos 0) (left_told done other) (less_told (far event other) (pos 0))) (length done)) [

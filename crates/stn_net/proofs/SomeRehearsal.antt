@@ -1,13 +1,7 @@
 -- The rest of a plan can be rehearsed, or an event is overdue.
-use Rattle.std.proofs.Common.{◌≡◌, ◌≢◌, ◌⊎◌, inl, inr, ℕ, ℤ, zero, suc, ◌+◌, ◌≤◌, Bool, true, not, cond, List, [], ◌∷◌, ◌++◌, refl, ap, subst, arith, length-set}
-use Rattle.std.specs.Prelude.{count_by, slice_set}
-use Rattle.std.proofs.lemmas.List.Sums.{sum_by-set}
-use Rattle.stn_net.specs.Difference.{Difference}
-use Rattle.stn_net.specs.Matrix.Table.{Table}
-use Rattle.stn_net.specs.{declared.windows.answers.Next.Next, Windows.Dispatch.IsLeft, Windows.Dispatch.IsNext, Windows.Rehearsal.fixed_at, Windows.Rehearsal.IsRehearsal, Windows.Rehearsal.IsRehearseFault}
-use Rattle.stn_net.specs.declared.windows.answers.Next.TheVariants.{Run, AllDone, Overdue}
+use Rattle.std.{proofs.{Common.{◌≡◌, ◌≢◌, ◌⊎◌, inl, inr, ℕ, ℤ, zero, suc, ◌+◌, ◌≤◌, Bool, true, not, cond, List, [], ◌∷◌, ◌++◌, refl, ap, subst, arith, length-set}, lemmas.List.Sums.sum_by-set}, specs.Prelude.{count_by, slice_set}}
+use Rattle.stn_net.{specs.{Difference.Difference, Matrix.Table.Table, declared.windows.answers.Next.{Next, TheVariants.{Run, AllDone, Overdue}}, Windows.{Dispatch.{IsLeft, IsNext}, Rehearsal.{fixed_at, IsRehearsal, IsRehearseFault}}}, proofs.{Readiness.left_within, Rehearsals.{ready_can_be_fixed, none_overdue_after, overdue_cannot_wait}, Fixed.exact_fixed, SomeNext.{AreFlagged, some_next}}}
 use Rattle.stn_net.specs.declared.windows.answers.RehearseFault.TheVariants as fault
-use Rattle.stn_net.proofs.{Readiness.left_within, Rehearsals.ready_can_be_fixed, Rehearsals.none_overdue_after, Rehearsals.overdue_cannot_wait, Fixed.exact_fixed, SomeNext.AreFlagged, SomeNext.some_next}
 
 -- one event fewer is left once one is done
 one_fewer : (done : List Bool) (event : ℕ) → IsLeft done event → count_by not (slice_set done event true) + 1 ≡ count_by not done

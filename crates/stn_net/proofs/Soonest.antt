@@ -1,18 +1,7 @@
 -- What the soonest times say of what comes next, of the rest of a plan, and of when an event may run.
-use Rattle.std.proofs.Common.{◌≡◌, ◌≢◌, inl, inr, ℕ, ℤ, pos, zero, suc, ◌+◌, ◌<◌, ◌≤◌, ◌+ℤ◌, ◌-ℤ◌, ◌≤ℤ◌, ◌<ℤ◌, ◌↔◌, Bool, true, false, eqb, List, [], ◌∷◌, ◌++◌, length, get_or, Ordering, Less, Equal, Greater, refl, sym, ap, subst, ◌∙◌, arith}
-use Rattle.std.specs.{Prelude.All, Prelude.Option, Prelude.Some, Prelude.None, Prelude.slice_set, Prelude.count_by, Prelude.MatchOption, List.AllPairs, List.Contains, Int.int_min, Int.int_max, Ordering.ord_max, Ordering.int_cmp, Ordering.nat_cmp, Ordering.is_lt, Ordering.ordering_then, Ordering.MatchOrdering}
-use Rattle.std.proofs.lemmas.Int.{ints, clamps}
-use Rattle.std.proofs.lemmas.Bool.{cases_eq, cases_lt, eq-eqb, ne_eqb, false≢true, Decides.nat_tests}
-use Rattle.std.proofs.lemmas.Cmp.{nat_cmp_total, int_cmp_total, on_total, then_total}
-use Rattle.std.proofs.lemmas.List.Sorted.{sorted_far, ranks_by, All-permutation, sum_by-IsPermutation}
-use Rattle.std.specs.{Cmp.IsTotalOrder, Cmp.ranks, Cmp.int_ranks, List.Sorted.IsSorted, List.Sorted.IsPermutation}
-use Rattle.std.proofs.lemmas.List.Elements.{All-tail, All-append, All-contains, All-push, All-nil, Contains-append_left, Contains-push}
-use Rattle.stn_time.proofs.Each.{All-right}
-use Rattle.std.proofs.lemmas.List.Sums.{sum_by-cons, sum_by_push}
-use Rattle.stn_time.specs.Time.{horizon}
-use Rattle.stn_net.specs.{Difference.Difference, Difference.NamesEvents, Schedule.IsSchedule, Schedule.HasSchedule, Schedule.Meets}
-use Rattle.stn_net.specs.Windows.{Dispatch.IsLeft, Dispatch.LeavesNoneBefore, Dispatch.IsReady, Dispatch.AreReadyTimes, Dispatch.ComesFirst, Dispatch.IsFirstReady, Dispatch.CanWaitUntil, Rehearsal.fixed_at, Rehearsal.IsRehearsal, Rehearsal.RunsEachOnce, Leading.floor_at, Leading.AreFloorsBelow, Leading.RunsBefore, Leading.AreRunsBelow, Leading.AreReadyAt, Leading.IsEarliestBelow, Leading.IsEarliestSoFar, Soonest.AreEarliest, Soonest.AreSoonest}
-use Rattle.stn_net.proofs.{Closure.schedule_before, Closure.schedule_last, Readiness.left_within, WindowEnds.lesser_schedule, ReadyTimes.later_of, Ends.earliest_schedule, Rehearsals.fixed_schedule, Rehearsals.left_before, Rehearsals.left_after, Rehearsals.one_or_none, Rehearsals.runs_at, SomeNext.left_told}
+use Rattle.std.{proofs.{lemmas.{Grind.common_steps, Int.{ints, clamps}, Bool.{cases_eq, cases_lt, eq-eqb, ne_eqb, false≢true, Decides.nat_tests}, Cmp.{nat_cmp_total, int_cmp_total, on_total, then_total}, List.{Sorted.{sorted_far, ranks_by, All-permutation, sum_by-IsPermutation}, Elements.{All-tail, All-append, All-contains, All-push, All-nil, Contains-append_left, Contains-push}, Sums.{sum_by-cons, sum_by_push}}}, Common.{◌≡◌, ◌≢◌, inl, inr, ℕ, ℤ, pos, zero, suc, ◌+◌, ◌<◌, ◌≤◌, ◌+ℤ◌, ◌-ℤ◌, ◌≤ℤ◌, ◌<ℤ◌, ◌↔◌, Bool, true, false, eqb, List, [], ◌∷◌, ◌++◌, length, get_or, Ordering, Less, Equal, Greater, refl, sym, ap, subst, ◌∙◌, arith}}, specs.{Prelude.{All, Option, Some, None, slice_set, count_by, MatchOption}, List.{AllPairs, Contains, Sorted.{IsSorted, IsPermutation}}, Int.{int_min, int_max}, Ordering.{ord_max, int_cmp, nat_cmp, is_lt, ordering_then, MatchOrdering}, Cmp.{IsTotalOrder, ranks, int_ranks}}}
+use Rattle.stn_time.{proofs.Each.All-right, specs.Time.horizon}
+use Rattle.stn_net.{specs.{Difference.{Difference, NamesEvents}, Schedule.{IsSchedule, HasSchedule, Meets}, Windows.{Dispatch.{IsLeft, LeavesNoneBefore, IsReady, AreReadyTimes, ComesFirst, IsFirstReady, CanWaitUntil}, Rehearsal.{fixed_at, IsRehearsal, RunsEachOnce}, Leading.{floor_at, AreFloorsBelow, RunsBefore, AreRunsBelow, AreReadyAt, IsEarliestBelow, IsEarliestSoFar}, Soonest.{AreEarliest, AreSoonest}}}, proofs.{Closure.{schedule_before, schedule_last}, Readiness.left_within, WindowEnds.lesser_schedule, ReadyTimes.later_of, Ends.earliest_schedule, Rehearsals.{fixed_schedule, left_before, left_after, one_or_none, runs_at}, SomeNext.left_told}}
 
 module _ (bounds : List Difference) (done : List Bool) (now : ℤ) (times : ℕ → ℤ) (are : AreSoonest bounds done now times) where
   -- an event that is left and comes first in the soonest times is ready then
@@ -21,10 +10,7 @@ module _ (bounds : List Difference) (done : List Bool) (now : ℤ) (times : ℕ 
 
   -- whatever may run from now on comes no sooner
   pub ready_no_sooner : (event : ℕ) (time : ℤ) → now ≤ℤ time → IsReady bounds done event time → times event ≤ℤ time
-  ready_no_sooner event time later ready =
-      let (others, schedule, at, waits) = ready.possible in
-      let least = are.least others schedule (λ other left. let after = waits other left in omega (arith, ints)) event ready.left in
-      omega (arith, ints)
+  ready_no_sooner event time later ready = grind (arith, common_steps)
 
   -- so the first of those that are left, by its soonest time and then by number, comes next
   pub soonest_is_first : (time : ℤ) (event : ℕ) → IsLeft done event → time ≡ times event → ((other : ℕ) → IsLeft done other → ComesFirst time event (times other) other)
@@ -164,19 +150,7 @@ above_schedule bounds floors done now times are schedule waits by_horizon = reco
 pub first_of_left : (times : ℕ → ℤ) (done : List Bool) (limit : ℕ) (first : Option (ℤ × ℕ)) → length done ≤ limit → IsEarliestSoFar times done limit first
     → MatchOption first ((event : ℕ) → ¬ IsLeft done event) (IsEarliestBelow times done (length done))
 first_of_left times done limit None all none = λ event left. none event (omega (arith, all, left_within done event left)) left
-first_of_left times done limit (Some run) all first = record {
-  left = first.left;
-  below = left_within done run.1 first.left;
-  at = first.at;
-  first = λ other below left. first.first other (omega (arith, all)) left;
-}
-
--- no floors yet
-pub no_floors : (done : List Bool) (now : ℤ) → AreFloorsBelow done now 1 []
-no_floors done now = record {
-  each = All-nil (λ floor. IsLeft done floor.to × (floor ≡ floor_at now floor.to));
-  every = λ event below left. absurd (omega (arith, left.0));
-}
+first_of_left times done limit (Some run) all first = grind (arith, common_steps, left_within)
 
 -- one more event, which is left
 pub floor_pushed : (done : List Bool) (now : ℤ) (number : ℕ) (floors : List Difference) → IsLeft done number → AreFloorsBelow done now number floors
@@ -193,14 +167,7 @@ floor_pushed done now number floors left are = record {
 -- one more that is not
 pub floor_kept : (done : List Bool) (now : ℤ) (number : ℕ) (floors : List Difference) → ¬ IsLeft done number → AreFloorsBelow done now number floors
     → AreFloorsBelow done now (number + 1) floors
-floor_kept done now number floors not_left are = record {
-  each = are.each;
-  every = λ event below is_left.
-      elim (cases_lt event number) [
-        | inl before ↦ are.every event before is_left
-        | inr here ↦ (let same : event ≡ number = omega arith in absurd (not_left (subst (IsLeft done) same is_left)))
-      ];
-}
+floor_kept done now number floors not_left are = grind (arith, common_steps, cases_lt)
 
 module _ (bounds floors : List Difference) (done : List Bool) (now : ℤ) (are : AreFloorsBelow done now (length done) floors)
     (by_horizon : (times : ℕ → ℤ) → IsSchedule bounds times → (event : ℕ) → IsLeft done event → times event ≤ℤ horizon) where
@@ -261,10 +228,7 @@ module _ (bounds : List Difference) (events : ℕ) (done : List Bool) (earliest 
 
   -- it comes no earlier than it can
   earliest_by : (event : ℕ) (time : ℤ) → IsReady bounds done event time → earliest event ≤ℤ time
-  earliest_by event time ready =
-      let (others, schedule, at, waits) = ready.possible in
-      let least = are.earliest.least others schedule event (omega (arith, are.one_each, left_within done event ready.left)) in
-      omega (arith, ints)
+  earliest_by event time ready = grind (arith, common_steps, left_within)
 
   -- such an event may run from its earliest time on until then
   ready_from_earliest : (event : ℕ) (time : ℤ) → IsLeft done event → times event ≡ last → earliest event ≤ℤ time → time ≤ℤ last → IsReady bounds done event time
@@ -295,13 +259,6 @@ module _ (bounds : List Difference) (events : ℕ) (done : List Bool) (earliest 
   ready_never event now other time later ready = other (ready_at_last event time ready)
 
 module _ (times : ℕ → ℤ) (done : List Bool) where
-  pub no_runs : AreRunsBelow times done 1 []
-  no_runs = record {
-    at = All-nil (λ (run : ℤ × ℕ). IsLeft done run.1 × (run.0 ≡ times run.1));
-    once = λ event below left. absurd (omega (arith, left.0));
-    others = λ event past. refl;
-  }
-
   pub run_pushed : (number event : ℕ) (time : ℤ) (runs : List (ℤ × ℕ)) → event ≡ number → time ≡ times number → IsLeft done event → AreRunsBelow times done number runs
       → AreRunsBelow times done (number + 1) (runs ++ (time, event) ∷ [])
   run_pushed number event time runs is at left are = record {

@@ -1,16 +1,9 @@
-use Rattle.std.proofs.Common.{◌≡◌, ℕ, ℤ, ◌≤◌, ◌+ℤ◌, ◌-ℤ◌, ◌≤ℤ◌, neg_ℤ, List, get_or, arith}
-use Rattle.std.specs.Prelude.{All}
-use Rattle.std.proofs.lemmas.Int.{ints}
-use Rattle.stn_net.specs.{Difference.Difference, Difference.NamesEvents, Schedule.IsSchedule, Matrix.Table.Table, Matrix.Table.far_of, Matrix.Tightest.IsTightest, Matrix.Tightest.IsExact, Matrix.Closed.IsClosed}
+use Rattle.std.{proofs.{lemmas.{Grind.common_steps, Int.ints}, Common.{◌≡◌, ℕ, ℤ, ◌≤◌, ◌+ℤ◌, ◌-ℤ◌, ◌≤ℤ◌, neg_ℤ, List, get_or, arith}}, specs.Prelude.All}
+use Rattle.stn_net.specs.{Difference.{Difference, NamesEvents}, Schedule.IsSchedule, Matrix.{Table.{Table, far_of}, Tightest.{IsTightest, IsExact}, Closed.IsClosed}}
 
 -- two tightest differences of the same events are equal
 pub tightest_unique : (bounds : List Difference) (x y : ℕ) (most other : ℤ) → IsTightest bounds x y most → IsTightest bounds x y other → most ≡ other
-tightest_unique bounds x y most other p q =
-    let below = q.bound p.attained.0 p.attained.1 in
-    let above = p.bound q.attained.0 q.attained.1 in
-    let reaches = p.attained.2 in
-    let attains = q.attained.2 in
-    omega (arith, ints)
+tightest_unique bounds x y most other p q = grind (arith, common_steps)
 
 -- a tightest difference depends on the set of schedules alone
 pub tightest_same_schedules : (these those : List Difference) (x y : ℕ) (most : ℤ)

@@ -1,7 +1,5 @@
 -- What can be told, and the least number of which it holds.
-use Rattle.std.proofs.Common.{◌≡◌, ◌⊎◌, inl, inr, ℕ, ℤ, zero, suc, ◌<◌, ◌<ℤ◌, Bool, true, false, refl, sym, subst, arith}
-use Rattle.std.proofs.lemmas.Bool.{cases_lt, false≢true}
-use Rattle.std.proofs.lemmas.Int.{ints, by_lt_z}
+use Rattle.std.proofs.{Common.{◌≡◌, ◌⊎◌, inl, inr, ℕ, ℤ, zero, suc, ◌<◌, ◌<ℤ◌, Bool, true, false, refl, sym, subst, arith}, lemmas.{Bool.{cases_lt, false≢true}, Int.{ints, by_lt_z}}}
 
 -- it holds, or it doesn't
 abbrev pub Told : Type 0 → Type 0

@@ -1,8 +1,5 @@
-use Rattle.std.proofs.Common.{◌≢◌, ℕ, ℤ, true, Bool, List, [], ◌∷◌, ◌++◌, refl, subst, append_assoc, append-nil}
-use Rattle.std.specs.Prelude.{slice_set}
-use Rattle.stn_net.specs.{Difference.Difference, Schedule.HasSchedule, Matrix.Table.Table, Matrix.Tightest.IsExact, declared.windows.answers.Next.Next, Windows.Dispatch.IsFirstReady, Windows.Dispatch.IsNext, Windows.Rehearsal.fixed_at, Windows.Rehearsal.IsRehearsal}
-use Rattle.stn_net.specs.declared.windows.answers.Next.TheVariants.{Run, AllDone, Overdue}
-use Rattle.stn_net.proofs.Rehearsals.{ready_can_be_fixed, none_overdue_after}
+use Rattle.std.{proofs.Common.{◌≢◌, ℕ, ℤ, true, Bool, List, [], ◌∷◌, ◌++◌, refl, subst, append_assoc, append-nil}, specs.Prelude.slice_set}
+use Rattle.stn_net.{specs.{Difference.Difference, Schedule.HasSchedule, Matrix.{Table.Table, Tightest.IsExact}, declared.windows.answers.Next.{Next, TheVariants.{Run, AllDone, Overdue}}, Windows.{Dispatch.{IsFirstReady, IsNext}, Rehearsal.{fixed_at, IsRehearsal}}}, proofs.Rehearsals.{ready_can_be_fixed, none_overdue_after}}
 
 -- a rehearsal has come so far: the table is exact for the bounds and those fixed since, the answer comes next there and is no overdue
 -- event, and whatever goes on from there goes on from the runs so far

@@ -1,19 +1,10 @@
-use Rattle.std.proofs.Common.{◌≡◌, ◌≢◌, ℕ, zero, suc, ℤ, pos, ◌≤◌, ◌+ℤ◌, ◌≤ℤ◌, neg_ℤ, ◌⊎◌, inl, inr, [], ◌∷◌, refl, ap, arith}
-use Rattle.std.specs.Prelude.{All}
-use Rattle.std.proofs.{lemmas.Int.ints, lemmas.Bool.cases_eq, lemmas.List.Elements.All-push, lemmas.List.Elements.All-nil}
+use Rattle.std.{proofs.{lemmas.{Grind.common_steps, Int.ints, Bool.cases_eq, List.Elements.{All-push, All-nil}}, Common.{◌≡◌, ◌≢◌, ℕ, zero, suc, ℤ, pos, ◌≤◌, ◌+ℤ◌, ◌≤ℤ◌, neg_ℤ, ◌⊎◌, inl, inr, [], ◌∷◌, refl, ap, arith}}, specs.Prelude.All}
 use Rattle.stn_time.specs.Time.{horizon}
-use Rattle.stn_net.specs.{Difference.Difference, Difference.NamesEvents, Horizon.horizon_bound, Horizon.horizon_bounds, Schedule.IsSchedule, Matrix.Table.Table, Matrix.Table.far_of, Matrix.Tightest.IsExact, Matrix.Closed.IsClosed, Matrix.Closed.IsWidest}
-use Rattle.stn_net.proofs.{Tightest.IsTight, Tightest.exact_from_tight, Closure.schedule_before, Closure.schedule_last}
+use Rattle.stn_net.{specs.{Difference.{Difference, NamesEvents}, Horizon.{horizon_bound, horizon_bounds}, Schedule.IsSchedule, Matrix.{Table.{Table, far_of}, Tightest.IsExact, Closed.{IsClosed, IsWidest}}}, proofs.{Tightest.{IsTight, exact_from_tight}, Closure.{schedule_before, schedule_last}}}
 
 -- the widest difference of two events is 0 or the horizon
 widest_cases : (events : ℕ) (far : ℕ → ℕ → ℤ) → IsWidest events far → (x y : ℕ) → x ≤ events → y ≤ events → (far x y ≡ pos 0) ⊎ (far x y ≡ horizon)
-widest_cases events far widest x y xs ys = elim (cases_eq y 0) [
-  | inl e ↦ inl (let here = widest.origin x xs in rw e here)
-  | inr apart ↦ elim (cases_eq x y) [
-    | inl e ↦ inl (let here = widest.itself y ys in rw e here)
-    | inr differ ↦ inr (widest.others x y xs ys apart differ)
-  ]
-]
+widest_cases events far widest x y xs ys = grind (arith, common_steps, cases_eq)
 
 widest_least : (events : ℕ) (far : ℕ → ℕ → ℤ) → IsWidest events far → (x y : ℕ) → x ≤ events → y ≤ events → pos 0 ≤ℤ far x y
 widest_least events far widest x y xs ys = elim (widest_cases events far widest x y xs ys) [ inl e ↦ omega (arith, ints) | inr e ↦ omega (arith, ints) ]
@@ -22,42 +13,22 @@ widest_most : (events : ℕ) (far : ℕ → ℕ → ℤ) → IsWidest events far
 widest_most events far widest x y xs ys = elim (widest_cases events far widest x y xs ys) [ inl e ↦ omega (arith, ints) | inr e ↦ omega (arith, ints) ]
 
 widest_triangle : (events : ℕ) (far : ℕ → ℕ → ℤ) → IsWidest events far → (x y z : ℕ) → x ≤ events → y ≤ events → z ≤ events → far x z ≤ℤ (far x y +ℤ far y z)
-widest_triangle events far widest x y z xs ys zs =
-    let first = widest_least events far widest x y xs ys in
-    let second = widest_least events far widest y z ys zs in
-    let most = widest_most events far widest x z xs zs in
-    elim (cases_eq z 0) [
-      | inl e ↦ (let here : far x z ≡ pos 0 = rw e (widest.origin x xs) in omega (arith, ints))
-      | inr apart ↦ elim (cases_eq y z) [
-        | inl e ↦ (let here : far x y ≡ far x z = rw e refl in omega (arith, ints))
-        | inr differ ↦ (let onward = widest.others y z ys zs apart differ in omega (arith, ints))
-      ]
-    ]
+widest_triangle events far widest x y z xs ys zs = grind (arith, common_steps, widest_least, widest_most, cases_eq)
 
 -- the widest differences are closed
 pub widest-closed : (events : ℕ) (far : ℕ → ℕ → ℤ) → IsWidest events far → IsClosed events far
-widest-closed events far widest = record {
-  itself = widest.itself;
-  triangle = widest_triangle events far widest;
-  most = widest_most events far widest;
-}
+widest-closed events far widest = grind (arith, common_steps, widest_triangle, widest_most)
 
 -- what holds of each horizon bound holds of all of them
 pub horizon_each : (P : Difference → Type 0) (events : ℕ) → ((event : ℕ) → event ≢ 0 → event ≤ events → P (horizon_bound event)) → All P (horizon_bounds events)
 unfolding horizon_bounds
 horizon_each P zero each = All-nil P
-horizon_each P (suc events) each =
-    All-push P (horizon_bounds events) (horizon_bound (suc events))
-    (horizon_each P events (λ event apart within. each event apart (omega arith)))
-    (each (suc events) (omega arith) (omega arith))
+horizon_each P (suc events) each = grind (arith, common_steps, (horizon_each P events (λ event apart within. each event apart (omega arith))))
 
 -- in a schedule of the horizon bounds each event lies from the origin to the horizon
 pub horizon_times : (events : ℕ) (time : ℕ → ℤ) → IsSchedule (horizon_bounds events) time → (event : ℕ) → event ≤ events → (pos 0 ≤ℤ time event) × (time event ≤ℤ horizon)
 unfolding horizon_bounds
-horizon_times zero time s event within =
-    let first : event ≡ 0 = omega arith in
-    let origin : time event ≡ pos 0 = rw first s.origin in
-    (omega (arith, ints), omega (arith, ints))
+horizon_times zero time s event within = grind (arith, common_steps)
 horizon_times (suc events) time s event within =
     let before = schedule_before (horizon_bounds events) (horizon_bound (suc events) ∷ []) time s in
     let last = schedule_last (horizon_bounds events) (horizon_bound (suc events)) time s in

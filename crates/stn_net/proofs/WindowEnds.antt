@@ -1,8 +1,5 @@
-use Rattle.std.proofs.Common.{◌≡◌, ℕ, ℤ, pos, ◌≤◌, ◌+ℤ◌, ◌-ℤ◌, ◌≤ℤ◌, neg_ℤ, List, refl, arith}
-use Rattle.std.specs.Int.{int_min}
-use Rattle.std.proofs.lemmas.Int.{ints, clamps}
-use Rattle.stn_net.specs.{Difference.Difference, Schedule.IsSchedule, Schedule.HasSchedule, Matrix.Table.Table, Matrix.Table.far_of, Matrix.Tightest.IsExact, Matrix.Tightest.IsTightest}
-use Rattle.stn_net.specs.Windows.Window.{IsInWindow, IsWindow}
+use Rattle.std.{proofs.{Common.{◌≡◌, ℕ, ℤ, pos, ◌≤◌, ◌+ℤ◌, ◌-ℤ◌, ◌≤ℤ◌, neg_ℤ, List, refl, arith}, lemmas.Int.{ints, clamps}}, specs.Int.int_min}
+use Rattle.stn_net.specs.{Difference.Difference, Schedule.{IsSchedule, HasSchedule}, Matrix.{Table.{Table, far_of}, Tightest.{IsExact, IsTightest}}, Windows.Window.{IsInWindow, IsWindow}}
 
 -- a window has one pair of ends, where there is a schedule
 pub one_window : (bounds : List Difference) (event : ℕ) (earliest latest first last : ℤ) → HasSchedule bounds

@@ -1,6 +1,5 @@
 use Rattle.std.specs.Prelude.{◌≡◌, ◌≢◌, ℕ, ℤ, ◌<◌, ◌≤◌, ◌⊎◌, ◌≤ℤ◌, ◌<ℤ◌}
-use Rattle.stn_net.specs.declared.bound.BoundFault.{BoundFault}
-use Rattle.stn_net.specs.declared.bound.BoundFault.TheVariants.{NoEvent, SameEvent, Crossed}
+use Rattle.stn_net.specs.declared.bound.BoundFault.{BoundFault, TheVariants.{NoEvent, SameEvent, Crossed}}
 
 -- the time of `to` less the time of `from` lies from `lo` to `hi`, in milliseconds
 pub record Difference : Type 0 where

@@ -1,7 +1,5 @@
 ghost use Rattle.std.specs.Prelude.{◌≡◌, ◌≢◌, ◌<◌, ◌≤◌, ◌≤ℤ◌, IfOk, IfErr};
-ghost use Rattle.stn_net.specs.Difference.{Difference, IsFaultOf, IsBoundWithin};
-ghost use Rattle.stn_net.specs.Horizon.{horizon_bound};
-ghost use Rattle.stn_net.specs.Failures.{bound_failure};
+ghost use Rattle.stn_net.specs.{Difference.{Difference, IsFaultOf, IsBoundWithin}, Horizon.horizon_bound, Failures.bound_failure};
 
 use crate::event::Event;
 use std::marker::Model;

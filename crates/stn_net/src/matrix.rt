@@ -1,11 +1,6 @@
 //! The matrix of the tightest differences of a plan's events, closed by each bound that it takes.
 ghost use Rattle.std.specs.Prelude.{◌≡◌, ◌+◌, ◌≤◌, ◌++◌, ◌∷◌, [], ◌↔◌, min, false, List, IsTrue, IfOk};
-ghost use Rattle.stn_net.specs.Difference.{Difference, NamesEvents};
-ghost use Rattle.stn_net.specs.Horizon.{horizon_bounds};
-ghost use Rattle.stn_net.specs.Schedule.{HasSchedule};
-ghost use Rattle.stn_net.specs.Event.{most_events};
-ghost use Rattle.stn_net.specs.Matrix.Table.{far_of};
-ghost use Rattle.stn_net.specs.Matrix.Tightest.{IsTightest, IsExact};
+ghost use Rattle.stn_net.specs.{Difference.{Difference, NamesEvents}, Horizon.horizon_bounds, Schedule.HasSchedule, Event.most_events, Matrix.{Table.far_of, Tightest.{IsTightest, IsExact}}};
 
 mod runs;
 mod square;
@@ -25,8 +20,7 @@ pub struct Matrix<A: Allocator> {
 }
 
 impl<A: Allocator> Model for Matrix<A> {
-    ghost use Rattle.stn_net.specs.Matrix.Table.{Table, entry};
-    ghost use Rattle.stn_net.specs.Matrix.Closed.{IsClosed};
+    ghost use Rattle.stn_net.specs.Matrix.{Table.{Table, entry}, Closed.IsClosed};
 
     ghost Value = { Table };
 

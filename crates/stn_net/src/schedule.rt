@@ -1,5 +1,4 @@
-ghost use Rattle.std.specs.Prelude.{◌≡◌, ◌<◌, ◌↔◌, ◌-ℤ◌, ◌≤ℤ◌, pos, length, take, All, IsTrue, IsNone, IfSome};
-ghost use Rattle.std.specs.List.{HoldsAt};
+ghost use Rattle.std.specs.{Prelude.{◌≡◌, ◌<◌, ◌↔◌, ◌-ℤ◌, ◌≤ℤ◌, pos, length, take, All, IsTrue, IsNone, IfSome}, List.HoldsAt};
 ghost use Rattle.stn_net.specs.Schedule.{times_of, Meets, IsSchedule, NamesTimes};
 
 use crate::bound::Bound;

@@ -1,13 +1,8 @@
 -- The first fault of a domain has its cause.
 use Rattle.std.proofs.Common.{◌≡◌, ℕ, ◌<◌, ◌⊎◌, inl, inr, Bool, true, false, cond, ◌&&◌, List, [], length, Result, Ok, Err, refl, sym, ap, subst, ◌∙◌, codes}
-use Rattle.stn_pddl.specs.{declared.tree.scan.TreeFault.TreeFault, Tree.Names.is_same_word, Tree.Trees.Trees, Tree.Trees.End, Tree.Trees.Word, Tree.Trees.Group, Tree.Scan.most_text, Tree.Scan.tree_of, declared.fault.DomainFault.DomainFault, Faults.of_tree, Faults.is_memory, Schemas.ActionSchema}
+use Rattle.stn_pddl.{specs.{declared.{tree.scan.TreeFault.TreeFault, fault.DomainFault.{DomainFault, TheVariants.{TooLong, Syntax, TooDeep, Unsupported, Number, Twice, Variable, Memory}}}, Tree.{Names.is_same_word, Trees.{Trees, End, Word, Group}, Scan.{most_text, tree_of}}, Faults.{of_tree, is_memory}, Schemas.ActionSchema, Domains.{part, parts, is_title, root, domain_of_tree, domain_of_bytes, domain_of}, Causes.{row_then, BeginsDomain, IsListAt, IsOtherList, IsRefusedPart, IsFirstRefusedPart, IsDomainCause}}, proofs.{tree.Faults.{tree_of-long, tree_of-list}, FaultFacts.{IsFormFault, OfForms, parts-forms}}}
 use Rattle.stn_pddl.specs.declared.tree.scan.TreeFault.TheVariants as tree
-use Rattle.stn_pddl.proofs.tree.Faults.{tree_of-long, tree_of-list}
 use Rattle.stn_text.specs.Faults.{◌>>=◌, Fails}
-use Rattle.stn_pddl.specs.declared.fault.DomainFault.TheVariants.{TooLong, Syntax, TooDeep, Unsupported, Number, Twice, Variable, Memory}
-use Rattle.stn_pddl.specs.Domains.{part, parts, is_title, root, domain_of_tree, domain_of_bytes, domain_of}
-use Rattle.stn_pddl.specs.Causes.{row_then, HasParts, IsListAt, IsOtherList, IsRefused, IsFirstRefused, IsCause}
-use Rattle.stn_pddl.proofs.FaultFacts.{IsFormFault, OfForms, parts-forms}
 
 -- the parts of a row of which one is refused
 record Parts (rest : Trees) (before : List ActionSchema) (fault : DomainFault) : Type 0 where
@@ -16,7 +11,7 @@ record Parts (rest : Trees) (before : List ActionSchema) (fault : DomainFault) :
   whole : rest ≡ row_then earlier later
   given : List ActionSchema
   none_before : parts earlier before ≡ Ok given
-  refused : IsRefused later given fault
+  refused : IsRefusedPart later given fault
 
 first_part : (rest : Trees) (before : List ActionSchema) (fault : DomainFault) → parts rest before ≡ Err fault → Parts rest before fault
 unfolding parts row_then
@@ -58,7 +53,7 @@ first_part (Group line children next) before fault is = by (part line children b
 data Origin (text : List ℕ) (fault : DomainFault) : Type 0 where
   bytes : (first : TreeFault) → tree_of text ≡ Err first → of_tree first ≡ fault → Origin text fault
   other : (line : ℕ) → IsOtherList text line → Syntax line ≡ fault → Origin text fault
-  forms : IsFirstRefused text fault → IsFormFault fault → Origin text fault
+  forms : IsFirstRefusedPart text fault → IsFormFault fault → Origin text fault
 
 module _ (text : List ℕ) (fault : DomainFault) (line : ℕ) where
   -- a list that begins as a domain does, or with another word or another title
@@ -87,7 +82,7 @@ module _ (text : List ℕ) (fault : DomainFault) (line : ℕ) where
       other line (record { children = Word a define (Group b title rest); list = list; other = λ others has. cc }) same
 
   -- a list that begins otherwise
-  otherwise : (children : Trees) → IsListAt text line children → ((rest : Trees) → HasParts children rest → ⊥) → Syntax line ≡ fault → Origin text fault
+  otherwise : (children : Trees) → IsListAt text line children → ((rest : Trees) → BeginsDomain children rest → ⊥) → Syntax line ≡ fault → Origin text fault
   otherwise children list none same = other line (record { children = children; list = list; other = none }) same
 
   from_root : (children : Trees) → IsListAt text line children → root line children ≡ Err fault → Origin text fault
@@ -117,11 +112,11 @@ is_of_part (Variable line) = true
 is_of_part Memory = false
 
 module _ (text : List ℕ) where
-  part_alone : (fault : DomainFault) → is_of_part fault ≡ true → Origin text fault → IsFirstRefused text fault
+  part_alone : (fault : DomainFault) → is_of_part fault ≡ true → Origin text fault → IsFirstRefusedPart text fault
   unfolding is_of_part
   part_alone fault of_part (bytes first e same) = by first (ap is_of_part same ∙ of_part)
     where
-      by : (first : TreeFault) → is_of_part (of_tree first) ≡ true → IsFirstRefused text fault
+      by : (first : TreeFault) → is_of_part (of_tree first) ≡ true → IsFirstRefusedPart text fault
       by tree.TooLong is = cc
       by (tree.Syntax line) is = cc
       by (tree.TooDeep line) is = cc
@@ -142,14 +137,14 @@ module _ (text : List ℕ) where
   too_deep line (other at list same) = cc
   too_deep line (forms found form) = absurd form
 
-  syntax_at : (line : ℕ) → Origin text (Syntax line) → (tree_of text ≡ Err (tree.Syntax line)) ⊎ (IsOtherList text line ⊎ IsFirstRefused text (Syntax line))
+  syntax_at : (line : ℕ) → Origin text (Syntax line) → (tree_of text ≡ Err (tree.Syntax line)) ⊎ (IsOtherList text line ⊎ IsFirstRefusedPart text (Syntax line))
   syntax_at line (bytes tree.TooLong e same) = cc
   syntax_at line (bytes (tree.Syntax at) e same) = let here : at ≡ line = cc in inl (e ∙ ap (λ n. Err (tree.Syntax n)) here)
   syntax_at line (bytes (tree.TooDeep at) e same) = cc
   syntax_at line (other at list same) = let here : at ≡ line = cc in inr (inl (subst (IsOtherList text) here list))
   syntax_at line (forms found form) = inr (inr found)
 
-  pub cause_of : (fault : DomainFault) → Fails is_memory fault (domain_of text) → IsCause text fault
+  pub cause_of : (fault : DomainFault) → Fails is_memory fault (domain_of text) → IsDomainCause text fault
   unfolding is_of_part
   cause_of TooLong is = too_long (origin text TooLong is)
   cause_of (Syntax line) is = syntax_at line (origin text (Syntax line) is)

@@ -1,20 +1,12 @@
 -- The faults that the forms of a domain have.
-use Rattle.std.proofs.Common.{ℕ, Bool, true, false, cond, ◌==◌, ◌&&◌, List, [], ◌∷◌, ◌++◌, is_some, Option, Some, None, Result, Ok, Err, ℤ, pos, int_lt, position, codes}
-use Rattle.std.specs.List.{list_any}
+use Rattle.std.{proofs.{Common.{arith, ℕ, Bool, true, false, cond, ◌==◌, ◌&&◌, List, [], ◌∷◌, ◌++◌, is_some, Option, Some, None, Result, Ok, Err, ℤ, pos, int_lt, position, codes}, lemmas.Grind.common_steps}, specs.List.list_any}
 use Rattle.stn_time.specs.{declared.reading.TimeFault.TimeFault, TimeOf.time_of}
-use Rattle.stn_pddl.specs.{Tree.Names.is_same_word, Tree.Trees.Trees, Tree.Trees.End, Tree.Trees.Word, Tree.Trees.Group, Tree.Trees.how_many, declared.fault.DomainFault.DomainFault, declared.action.Label.Label, declared.action.Side.Side, declared.word.Head.Head, declared.word.Item.Item, declared.word.Field.Field, declared.word.Key.Key, declared.word.Section.Section, Atoms.parameter_at, Atoms.term, Atoms.terms, Atoms.atom, Atoms.equality, Domains.part, Domains.parts}
-use Rattle.stn_pddl.specs.declared.fault.DomainFault.TheVariants.{TooLong, Syntax, TooDeep, Unsupported, Number, Twice, Variable, Memory}
-use Rattle.stn_pddl.specs.declared.action.Side.TheVariants.{Condition, Effect}
+use Rattle.stn_pddl.specs.{Tree.{Names.is_same_word, Trees.{Trees, End, Word, Group, how_many}}, declared.{fault.DomainFault.{DomainFault, TheVariants.{TooLong, Syntax, TooDeep, Unsupported, Number, Twice, Variable, Memory}}, action.{Label.Label, Side.{Side, TheVariants.{Condition, Effect}}}, word.{Head.Head, Item.Item, Field.Field, Key.Key, Section.Section}}, Atoms.{parameter_at, term, terms, atom, equality}, Domains.{part, parts}, Words.{is_name, is_variable, is_key, head_of, item_of, key_of, section_of}, Schemas.{TermSchema, ActionSchema, Constant, with_literal}, Conditions.{Meaning, row, tree, equal_tree, negated_head, negated_tree, negated_first, negation, plain_head, label_of, one_labelled, labelled, timed_head, equal_at}, Fields.{Listing, Values, parameters, parameters_behind_type, not_negative, constant, duration, value_of, with_value, fields, field_value}, Actions.{timed_value, action_of_lists, action_of_values, named_action, is_taken, action}}
 use Rattle.stn_pddl.specs.declared.word.Head.TheVariants as head
 use Rattle.stn_pddl.specs.declared.word.Item.TheVariants as item
 use Rattle.stn_pddl.specs.declared.word.Key.TheVariants as key
 use Rattle.stn_pddl.specs.declared.word.Section.TheVariants as section
 use Rattle.stn_text.specs.Faults.{◌>>=◌}
-use Rattle.stn_pddl.specs.Words.{is_name, is_variable, is_key, head_of, item_of, key_of, section_of}
-use Rattle.stn_pddl.specs.Schemas.{TermSchema, ActionSchema, Constant, bare_action, with_literal}
-use Rattle.stn_pddl.specs.Conditions.{Meaning, row, tree, is_effect, equal_tree, negated_head, negated_tree, negated_first, negation, plain_head, label_of, one_labelled, labelled, timed_head, equal_at}
-use Rattle.stn_pddl.specs.Fields.{Listing, Values, no_values, parameters, parameters_behind_type, not_negative, constant, duration, value_of, with_value, fields, field_value}
-use Rattle.stn_pddl.specs.Actions.{timed_value, action_of_lists, action_of_values, named_action, is_taken, action}
 
 -- a fault of the forms: the text is not too long, its brackets are not too deep, and there is memory
 abbrev pub IsFormFault : DomainFault → Type 0
@@ -65,11 +57,7 @@ module _ (label : Label) (a : ActionSchema) where
 
   equal-forms : (line : ℕ) (rest : Trees) → OfForms (equal_tree label line rest a)
   unfolding equality
-  equal-forms line rest =
-      let found : Result ActionSchema DomainFault = terms a.parameters rest [] >>= λ found. Ok a in
-      let two : Result ActionSchema DomainFault = cond (how_many rest == 2) found (Err (Syntax line)) in
-      forms-either (is_effect label) (Err (Unsupported line)) two tt
-      (forms-either (how_many rest == 2) found (Err (Syntax line)) (forms-then (terms a.parameters rest []) (λ found. Ok a) (terms-forms a.parameters rest []) (λ found. tt)) tt)
+  equal-forms line rest = grind (arith, common_steps, forms-either, forms-then, terms-forms)
 
   negated-forms : (line : ℕ) (children : Trees) → OfForms (negated_tree label line children a)
   unfolding negated_tree
@@ -211,16 +199,7 @@ value-forms side (Some listing) a = tree-forms (timed_head side) (timed-forms si
 
 lists-forms : (name : List ℕ) (listed timed : Listing) (values : Values) → OfForms (action_of_lists name listed timed values)
 unfolding action_of_lists
-lists-forms name listed timed values =
-    forms-then (parameters listed.children [])
-    (λ names. duration timed.line timed.children >>= λ millis. timed_value Condition values.condition (bare_action name names millis) >>= λ action. timed_value Effect values.effect action)
-    (parameters-forms listed.children [])
-    (λ names. forms-then (duration timed.line timed.children)
-    (λ millis. timed_value Condition values.condition (bare_action name names millis) >>= λ action. timed_value Effect values.effect action)
-    (duration-forms timed.line timed.children)
-    (λ millis. forms-then (timed_value Condition values.condition (bare_action name names millis)) (λ action. timed_value Effect values.effect action)
-    (value-forms Condition values.condition (bare_action name names millis))
-    (λ action. value-forms Effect values.effect action)))
+lists-forms name listed timed values = grind (arith, common_steps, forms-then, parameters-forms, duration-forms, value-forms)
 
 values-forms : (line : ℕ) (name : List ℕ) (values : Values) (listed timed : Option Listing) → OfForms (action_of_values line name values listed timed)
 values-forms line name values None timed = tt
@@ -229,9 +208,7 @@ values-forms line name values (Some listed) (Some timed) = lists-forms name list
 
 named-forms : (line : ℕ) (name : List ℕ) (rest : Trees) → OfForms (named_action line name rest)
 unfolding named_action
-named-forms line name rest =
-    forms-then (fields rest no_values) (λ values. action_of_values line name values values.parameters values.duration) (fields-forms rest no_values)
-    (λ values. values-forms line name values values.parameters values.duration)
+named-forms line name rest = grind (arith, common_steps, forms-then, fields-forms, values-forms)
 
 action-forms : (line : ℕ) (rest : Trees) (earlier : List ActionSchema) → OfForms (action line rest earlier)
 unfolding action

@@ -1,22 +1,17 @@
 -- The cause of a fault gives the fault.
-use Rattle.std.proofs.Common.{◌≡◌, ◌<◌, ℕ, ◌⊎◌, inl, inr, Bool, true, false, cond, nat_lt, ◌&&◌, List, [], length, Ok, Err, refl, sym, ap, ◌∙◌, arith, codes}
-use Rattle.std.proofs.lemmas.Bool.Decides.{nat_tests}
+use Rattle.std.proofs.{Common.{◌≡◌, ◌<◌, ℕ, ◌⊎◌, inl, inr, Bool, true, false, cond, nat_lt, ◌&&◌, List, [], length, Ok, Err, refl, sym, ap, ◌∙◌, arith, codes}, lemmas.Bool.Decides.nat_tests}
 use Rattle.stn_text.specs.Faults.{◌>>=◌}
-use Rattle.stn_pddl.specs.{declared.tree.scan.TreeFault.TreeFault, Tree.Names.is_same_word, Tree.Trees.Trees, Tree.Trees.End, Tree.Trees.Word, Tree.Trees.Group, Tree.Scan.most_text, Tree.Scan.tree_of, declared.fault.DomainFault.DomainFault, Faults.of_tree, Faults.is_memory, Schemas.ActionSchema}
+use Rattle.stn_pddl.{specs.{declared.{tree.scan.TreeFault.TreeFault, fault.DomainFault.{DomainFault, TheVariants.{TooLong, Syntax, TooDeep, Unsupported, Number, Twice, Variable, Memory}}}, Tree.{Names.is_same_word, Trees.{Trees, End, Word, Group}, Scan.{most_text, tree_of}}, Faults.{of_tree, is_memory}, Schemas.ActionSchema, Domains.{part, parts, is_title, root, domain_of_tree, domain_of_bytes, domain_of}, Causes.{row_then, BeginsDomain, IsListAt, IsOtherList, IsRefusedPart, IsFirstRefusedPart, IsDomainCause}}, proofs.{Kept.bind_ok, Causes.cause_of}}
 use Rattle.stn_pddl.specs.declared.tree.scan.TreeFault.TheVariants as tree
-use Rattle.stn_pddl.specs.declared.fault.DomainFault.TheVariants.{TooLong, Syntax, TooDeep, Unsupported, Number, Twice, Variable, Memory}
-use Rattle.stn_pddl.specs.Domains.{part, parts, is_title, root, domain_of_tree, domain_of_bytes, domain_of}
-use Rattle.stn_pddl.specs.Causes.{row_then, HasParts, IsListAt, IsOtherList, IsRefused, IsFirstRefused, IsCause}
-use Rattle.stn_pddl.proofs.{Kept.bind_ok, Causes.cause_of}
 
-refused_row : (row : Trees) (before : List ActionSchema) (fault : DomainFault) → IsRefused row before fault → parts row before ≡ Err fault
+refused_row : (row : Trees) (before : List ActionSchema) (fault : DomainFault) → IsRefusedPart row before fault → parts row before ≡ Err fault
 unfolding parts
 refused_row End before fault is = absurd is
 refused_row (Word line word next) before fault is = ap Err (sym is)
 refused_row (Group line children next) before fault is = rw is refl
 
 -- after parts without a fault
-refused_then : (earlier later : Trees) (before given : List ActionSchema) (fault : DomainFault) → parts earlier before ≡ Ok given → IsRefused later given fault
+refused_then : (earlier later : Trees) (before given : List ActionSchema) (fault : DomainFault) → parts earlier before ≡ Ok given → IsRefusedPart later given fault
     → parts (row_then earlier later) before ≡ Err fault
 unfolding parts row_then
 refused_then End later before given fault none is = let same : before ≡ given = cc in ap (parts later) same ∙ refused_row later given fault is
@@ -25,11 +20,11 @@ refused_then (Group line children next) later before given fault none is =
     let step = bind_ok (part line children before) (λ found. parts next found) given none in
     ap (λ r. r >>= λ found. parts (row_then next later) found) step.1 ∙ refused_then next later step.0 given fault step.2 is
 
-root-parts : (line : ℕ) (children rest : Trees) → HasParts children rest → root line children ≡ parts rest []
+root-parts : (line : ℕ) (children rest : Trees) → BeginsDomain children rest → root line children ≡ parts rest []
 unfolding root
 root-parts line children rest has = rw (has.whole, has.is_define, has.titled) refl
 
-root-other : (line : ℕ) (children : Trees) → ((rest : Trees) → HasParts children rest → ⊥) → root line children ≡ Err (Syntax line)
+root-other : (line : ℕ) (children : Trees) → ((rest : Trees) → BeginsDomain children rest → ⊥) → root line children ≡ Err (Syntax line)
 unfolding root
 root-other line (Word a define (Group b title rest)) none = by (is_same_word define (codes "define")) (is_title title) refl refl
   where
@@ -57,17 +52,17 @@ module _ (text : List ℕ) where
   by_other : (line : ℕ) → IsOtherList text line → domain_of text ≡ Err (Syntax line)
   by_other line is = by_list line is.children is.list ∙ root-other line is.children is.other
 
-  by_part : (fault : DomainFault) → IsFirstRefused text fault → domain_of text ≡ Err fault
+  by_part : (fault : DomainFault) → IsFirstRefusedPart text fault → domain_of text ≡ Err fault
   by_part fault is =
       by_list is.line is.children is.list ∙ root-parts is.line is.children is.rest is.domain ∙ ap (λ row. parts row []) is.whole
       ∙ refused_then is.earlier is.later [] is.before fault is.none_before is.refused
 
-  by_syntax : (line : ℕ) → (tree_of text ≡ Err (tree.Syntax line)) ⊎ (IsOtherList text line ⊎ IsFirstRefused text (Syntax line)) → domain_of text ≡ Err (Syntax line)
+  by_syntax : (line : ℕ) → (tree_of text ≡ Err (tree.Syntax line)) ⊎ (IsOtherList text line ⊎ IsFirstRefusedPart text (Syntax line)) → domain_of text ≡ Err (Syntax line)
   by_syntax line (inl is) = by_bytes (tree.Syntax line) is
   by_syntax line (inr (inl is)) = by_other line is
   by_syntax line (inr (inr is)) = by_part (Syntax line) is
 
-  pub fault_of : (fault : DomainFault) → is_memory fault ≡ false → IsCause text fault → domain_of text ≡ Err fault
+  pub fault_of : (fault : DomainFault) → is_memory fault ≡ false → IsDomainCause text fault → domain_of text ≡ Err fault
   fault_of TooLong some is = by_length is
   fault_of (Syntax line) some is = by_syntax line is
   fault_of (TooDeep line) some is = by_bytes (tree.TooDeep line) is
@@ -77,7 +72,7 @@ module _ (text : List ℕ) where
   fault_of (Variable line) some is = by_part _ is
   fault_of Memory some is = cc
 
-  pub cause_for : (fault : DomainFault) → is_memory fault ≡ false → domain_of text ≡ Err fault → IsCause text fault
+  pub cause_for : (fault : DomainFault) → is_memory fault ≡ false → domain_of text ≡ Err fault → IsDomainCause text fault
   cause_for TooLong some is = cause_of text TooLong is
   cause_for (Syntax line) some is = cause_of text (Syntax line) is
   cause_for (TooDeep line) some is = cause_of text (TooDeep line) is

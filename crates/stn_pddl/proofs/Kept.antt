@@ -1,15 +1,9 @@
 -- What reading conditions and effects keeps of an action.
-use Rattle.std.proofs.Common.{◌≡◌, ℕ, Bool, true, false, cond, List, [], ◌∷◌, ◌++◌, length, Option, Some, None, Result, Ok, Err, refl, ◌∙◌, subst, position}
-use Rattle.std.specs.List.{AllByRecursion}
-use Rattle.std.proofs.lemmas.List.Quantifiers.{position-Some}
+use Rattle.std.{proofs.{Common.{◌≡◌, ℕ, Bool, true, false, cond, List, [], ◌∷◌, ◌++◌, length, Option, Some, None, Result, Ok, Err, refl, ◌∙◌, subst, position}, lemmas.List.Quantifiers.position-Some}, specs.List.AllByRecursion}
 use Rattle.stn_time.proofs.Each.{each_pushed}
-use Rattle.stn_pddl.specs.{Tree.Names.is_same_word, Tree.Trees.Trees, Tree.Trees.End, Tree.Trees.Word, Tree.Trees.Group, declared.fault.DomainFault.DomainFault, declared.action.Label.Label, declared.action.Side.Side, declared.word.Head.Head, Words.is_variable, Words.is_key, Words.head_of, Atoms.parameter_at, Atoms.term, Atoms.terms, Atoms.atom, Atoms.equality, Sound.IsSoundTerm, Sound.IsSoundAtom, Sound.HasSoundAtoms}
-use Rattle.stn_pddl.specs.declared.fault.DomainFault.TheVariants.{Syntax, Unsupported}
-use Rattle.stn_pddl.specs.declared.action.Label.TheVariants.{StartCondition, OverAll, EndCondition, StartEffect, EndEffect}
+use Rattle.stn_pddl.specs.{Tree.{Names.is_same_word, Trees.{Trees, End, Word, Group}}, declared.{fault.DomainFault.{DomainFault, TheVariants.{Syntax, Unsupported}}, action.{Label.{Label, TheVariants.{StartCondition, OverAll, EndCondition, StartEffect, EndEffect}}, Side.Side}, word.Head.Head}, Words.{is_variable, is_key, head_of}, Atoms.{parameter_at, term, terms, atom, equality}, Sound.{IsSoundTerm, IsSoundAtom, HasSoundAtoms}, Schemas.{TermSchema, AtomSchema, ActionSchema, Constant, with_literal}, Conditions.{Meaning, row, tree, equal_tree, negated_head, negated_tree, negated_first, negation, plain_head, label_of, one_labelled, labelled, timed_head, equal_at}}
 use Rattle.stn_pddl.specs.declared.word.Head.TheVariants as head
 use Rattle.stn_text.specs.Faults.{◌>>=◌}
-use Rattle.stn_pddl.specs.Schemas.{TermSchema, AtomSchema, ActionSchema, Constant, with_literal}
-use Rattle.stn_pddl.specs.Conditions.{Meaning, row, tree, equal_tree, negated_head, negated_tree, negated_first, negation, plain_head, label_of, one_labelled, labelled, timed_head, equal_at}
 
 -- the action after has the name, the parameters and the duration of the one before, and sound atoms where that has them
 pub record Keeps (before after : ActionSchema) : Type 0 where

@@ -1,15 +1,8 @@
 -- Conditions and effects in small letters.
-use Rattle.std.proofs.Common.{◌≡◌, ℕ, Bool, true, false, cond, eqb, List, [], ◌∷◌, ◌++◌, map, Option, Some, None, Result, Ok, Err, refl, sym, ap, ◌∙◌, position, codes}
-use Rattle.std.proofs.lemmas.List.{map-append}
+use Rattle.std.proofs.{Common.{arith, ◌≡◌, ℕ, Bool, true, false, cond, List, [], ◌∷◌, ◌++◌, map, Option, Some, None, Result, Ok, Err, refl, sym, ap, ◌∙◌, position, codes}, lemmas.{Grind.common_steps, List.map-append}}
 use Rattle.stn_text.specs.Faults.{◌>>=◌}
-use Rattle.stn_pddl.specs.{Tree.Names.folded, Tree.Names.is_same_word, Tree.Trees.Trees, Tree.Trees.End, Tree.Trees.Word, Tree.Trees.Group, Tree.Trees.how_many, Tree.Case.in_small, declared.fault.DomainFault.DomainFault, declared.action.Label.Label, declared.action.Side.Side, declared.word.Head.Head, Words.is_variable, Words.is_key, Words.head_of, Atoms.parameter_at, Atoms.term, Atoms.terms, Atoms.atom, Atoms.equality, Case.term_in_small, Case.atom_in_small, Case.action_in_small}
-use Rattle.stn_pddl.specs.declared.fault.DomainFault.TheVariants.{Syntax, Unsupported}
-use Rattle.stn_pddl.specs.declared.action.Label.TheVariants.{StartCondition, OverAll, EndCondition, StartEffect, EndEffect}
-use Rattle.stn_pddl.specs.declared.action.Side.TheVariants.{Condition, Effect}
+use Rattle.stn_pddl.{specs.{Tree.{Names.{folded, is_same_word}, Trees.{Trees, End, Word, Group, how_many}, Case.in_small}, declared.{fault.DomainFault.{DomainFault, TheVariants.Syntax}, action.{Label.{Label, TheVariants.{StartCondition, OverAll, EndCondition, StartEffect, EndEffect}}, Side.{Side, TheVariants.{Condition, Effect}}}, word.Head.Head}, Words.{is_variable, is_key, head_of}, Atoms.{parameter_at, term, terms, atom, equality}, Case.{term_in_small, atom_in_small, action_in_small}, Schemas.{TermSchema, AtomSchema, ActionSchema, Constant, with_literal}, Conditions.{Meaning, row, tree, equal_tree, negated_head, negated_tree, negated_first, negation, plain_head, label_of, one_labelled, labelled, timed_head}}, proofs.SmallWords.{same_first, same_variable, same_key, same_position, same_head}}
 use Rattle.stn_pddl.specs.declared.word.Head.TheVariants as head
-use Rattle.stn_pddl.specs.Schemas.{TermSchema, AtomSchema, ActionSchema, Constant, with_literal}
-use Rattle.stn_pddl.specs.Conditions.{Meaning, row, tree, is_effect, equal_tree, negated_head, negated_tree, negated_first, negation, plain_head, label_of, one_labelled, labelled, start_of, end_of, timed_head}
-use Rattle.stn_pddl.proofs.SmallWords.{same_first, same_variable, same_key, same_position, same_head}
 
 -- the same fault, or what a function makes of the value
 abbrev pub mapped : {A B : Type 0} → (A → B) → Result A DomainFault → Result B DomainFault
@@ -73,26 +66,11 @@ small_literal EndEffect true found a = ap (λ l. record (action_in_small a) { en
 module _ (label : Label) (a : ActionSchema) where
   small_atom : (negated : Bool) (word : List ℕ) (rest : Trees) → atom label negated (folded word) (in_small rest) (action_in_small a) ≡ mapped action_in_small (atom label negated word rest a)
   unfolding atom action_in_small
-  small_atom negated word rest =
-      mapped-then (map term_in_small) action_in_small (terms (map folded a.parameters) (in_small rest) []) (terms a.parameters rest [])
-      (λ found. Ok (with_literal label negated (record { predicate = folded word; terms = found }) (action_in_small a)))
-      (λ found. Ok (with_literal label negated (record { predicate = word; terms = found }) a))
-      (small_terms a.parameters rest [])
-      (λ found. ap Ok (small_literal label negated (record { predicate = word; terms = found }) a))
+  small_atom negated word rest = grind (arith, common_steps, mapped-then, small_terms, small_literal)
 
   small_equal : (line : ℕ) (rest : Trees) → equal_tree label line (in_small rest) (action_in_small a) ≡ mapped action_in_small (equal_tree label line rest a)
   unfolding equality action_in_small
-  small_equal line rest =
-      let one : Result ActionSchema DomainFault = terms a.parameters rest [] >>= λ found. Ok a in
-      let other : Result ActionSchema DomainFault = terms (map folded a.parameters) (in_small rest) [] >>= λ found. Ok (action_in_small a) in
-      let two : Result ActionSchema DomainFault = cond (eqb (how_many rest) 2) one (Err (Syntax line)) in
-      let other_two : Result ActionSchema DomainFault = cond (eqb (how_many (in_small rest)) 2) other (Err (Syntax line)) in
-      mapped-either action_in_small (is_effect label) (is_effect label) (Err (Unsupported line)) two (Err (Unsupported line)) other_two refl refl
-      (mapped-either action_in_small (eqb (how_many rest) 2) (eqb (how_many (in_small rest)) 2) one (Err (Syntax line)) other (Err (Syntax line))
-      (ap (λ n. eqb n 2) (same_many rest))
-      (mapped-then (map term_in_small) action_in_small (terms (map folded a.parameters) (in_small rest) []) (terms a.parameters rest []) (λ found. Ok (action_in_small a)) (λ found. Ok a)
-      (small_terms a.parameters rest []) (λ found. refl))
-      refl)
+  small_equal line rest = grind (arith, common_steps, mapped-either, same_many, mapped-then, small_terms)
 
   small_negated_by : (line : ℕ) (word : List ℕ) (rest : Trees) (k : Head) → negated_head label line (folded word) (in_small rest) (action_in_small a) k ≡ mapped action_in_small (negated_head label line word rest a k)
   small_negated_by line word rest head.And = refl
@@ -119,9 +97,7 @@ module _ (label : Label) (a : ActionSchema) where
 
   small_negation : (line : ℕ) (rest : Trees) → negation label line (in_small rest) (action_in_small a) ≡ mapped action_in_small (negation label line rest a)
   unfolding negation
-  small_negation line rest =
-      mapped-either action_in_small (eqb (how_many rest) 1) (eqb (how_many (in_small rest)) 1) (negated_first label line rest a) (Err (Syntax line))
-      (negated_first label line (in_small rest) (action_in_small a)) (Err (Syntax line)) (ap (λ n. eqb n 1) (same_many rest)) (small_first line rest) refl
+  small_negation line rest = grind (arith, common_steps, mapped-either, same_many, small_first)
 
 -- a meaning says of the small letters what it says of the letters, in small letters, where the conjunction does
 abbrev SmallEach : Meaning → Type 0
@@ -156,9 +132,7 @@ small_plain label one other line word rest a all head.Over = small_atom label a 
 small_plain label one other line word rest a all head.Name = small_atom label a false word rest
 
 small_label : (side : Side) (time : Head) (word : List ℕ) → label_of side time (folded word) ≡ label_of side time word
-small_label side head.At word =
-    ap (λ t. cond t (Some (start_of side)) (cond (is_same_word (folded word) (codes "end")) (Some (end_of side)) None)) (same_first word (codes "start"))
-    ∙ ap (λ t. cond (is_same_word word (codes "start")) (Some (start_of side)) (cond t (Some (end_of side)) None)) (same_first word (codes "end"))
+small_label side head.At word = grind (arith, common_steps, same_first)
 small_label Condition head.Over word = ap (λ t. cond t (Some OverAll) None) (same_first word (codes "all"))
 small_label Effect head.Over word = refl
 small_label side head.And word = refl
@@ -170,9 +144,7 @@ small_label side head.Name word = refl
 
 small_one : (found : Option Label) (line : ℕ) (rest : Trees) (a : ActionSchema) → one_labelled found line (in_small rest) (action_in_small a) ≡ mapped action_in_small (one_labelled found line rest a)
 small_one None line rest a = refl
-small_one (Some label) line rest a =
-    mapped-either action_in_small (eqb (how_many rest) 1) (eqb (how_many (in_small rest)) 1) (row (plain_head label) rest a) (Err (Syntax line))
-    (row (plain_head label) (in_small rest) (action_in_small a)) (Err (Syntax line)) (ap (λ n. eqb n 1) (same_many rest)) (small_row (plain_head label) (small_plain label) rest a) refl
+small_one (Some label) line rest a = grind (arith, common_steps, mapped-either, same_many, small_row, small_plain)
 
 small_labelled : (side : Side) (time : Head) (line : ℕ) (rest : Trees) (a : ActionSchema) → labelled side time line (in_small rest) (action_in_small a) ≡ mapped action_in_small (labelled side time line rest a)
 unfolding labelled in_small

@@ -1,22 +1,12 @@
 -- A domain in small letters has the actions of the domain in small letters.
-use Rattle.std.proofs.Common.{◌≡◌, ℕ, cond, ◌||◌, ◌&&◌, List, [], ◌∷◌, ◌++◌, map, is_some, Option, Some, None, Result, Ok, Err, ℤ, refl, sym, ap, ◌∙◌, codes}
-use Rattle.std.specs.{List.list_any, Option.option_map}
-use Rattle.std.proofs.lemmas.List.{map-append}
+use Rattle.std.{proofs.{Common.{◌≡◌, ℕ, cond, ◌||◌, ◌&&◌, List, [], ◌∷◌, ◌++◌, map, is_some, Option, Some, None, Result, Ok, Err, ℤ, refl, sym, ap, ◌∙◌, codes}, lemmas.List.map-append}, specs.{List.list_any, Option.option_map}}
 use Rattle.stn_time.specs.TimeOf.{time_of}
 use Rattle.stn_text.specs.Faults.{◌>>=◌}
-use Rattle.stn_pddl.specs.{declared.tree.scan.TreeFault.TreeFault, Tree.Names.folded, Tree.Names.is_same_word, Tree.Trees.Trees, Tree.Trees.End, Tree.Trees.Word, Tree.Trees.Group, Tree.Scan.tree_of, Tree.Case.in_small, Tree.Case.tree_in_small, declared.fault.DomainFault.DomainFault, declared.action.Side.Side, declared.word.Item.Item, declared.word.Field.Field, declared.word.Key.Key, declared.word.Section.Section, Words.is_name, Words.item_of, Words.key_of, Words.section_of, Schemas.ActionSchema, Schemas.bare_action, Case.action_in_small, Case.domain_in_small}
-use Rattle.stn_pddl.proofs.tree.Case.{tree_of-folded}
-use Rattle.stn_pddl.specs.declared.fault.DomainFault.TheVariants.{Syntax, Unsupported, Twice}
-use Rattle.stn_pddl.specs.declared.action.Side.TheVariants.{Condition, Effect}
+use Rattle.stn_pddl.{specs.{declared.{tree.scan.TreeFault.TreeFault, fault.DomainFault.{DomainFault, TheVariants.{Syntax, Unsupported, Twice}}, action.Side.{Side, TheVariants.{Condition, Effect}}, word.{Item.Item, Field.Field, Key.Key, Section.Section}}, Tree.{Names.{folded, is_same_word}, Trees.{Trees, End, Word, Group}, Scan.tree_of, Case.{in_small, tree_in_small}}, Words.{is_name, item_of, key_of, section_of}, Schemas.{ActionSchema, bare_action}, Case.{action_in_small, domain_in_small}, Fields.{Listing, Values, no_values, parameters, parameters_behind_type, not_negative, constant, duration, value_of, with_value, fields, field_value}, Actions.{timed_value, action_of_lists, action_of_values, named_action, is_taken, action}, Domains.{part, parts, is_title, root, domain_of_tree, domain_of_bytes, domain_of}}, proofs.{tree.Case.tree_of-folded, SmallWords.{same_first, same_both, same_listed, same_name, same_item, same_key_of, same_section, same_time}, SmallActions.{mapped, mapped-then, mapped-either, small_timed_tree}}}
 use Rattle.stn_pddl.specs.declared.word.Item.TheVariants as item
 use Rattle.stn_pddl.specs.declared.word.Field.TheVariants as field
 use Rattle.stn_pddl.specs.declared.word.Key.TheVariants as key
 use Rattle.stn_pddl.specs.declared.word.Section.TheVariants as section
-use Rattle.stn_pddl.specs.Fields.{Listing, Values, no_values, parameters, parameters_behind_type, not_negative, constant, duration, value_of, with_value, fields, field_value}
-use Rattle.stn_pddl.specs.Actions.{timed_value, action_of_lists, action_of_values, named_action, is_taken, action}
-use Rattle.stn_pddl.specs.Domains.{part, parts, is_title, root, domain_of_tree, domain_of_bytes, domain_of}
-use Rattle.stn_pddl.proofs.SmallWords.{same_first, same_both, same_listed, same_name, same_item, same_key_of, same_section, same_time}
-use Rattle.stn_pddl.proofs.SmallActions.{mapped, mapped-then, mapped-either, small_timed_tree}
 
 -- parameters
 abbrev parameter_by : ℕ → List ℕ → Trees → List (List ℕ) → Item → Result (List (List ℕ)) DomainFault

@@ -1,12 +1,7 @@
 -- Words in small letters stand for what the words stand for.
-use Rattle.std.proofs.Common.{◌≡◌, ℕ, zero, suc, ◌+◌, ◌<◌, ◌≤◌, Bool, true, false, cond, not, ◌||◌, ◌&&◌, eqb, nat_lt, nat_le, List, [], ◌∷◌, length, map, take, drop, Some, None, refl, sym, ap, ◌∙◌, arith, position, codes}
-use Rattle.std.specs.{Char.to_ascii_lowercase, Char.is_ascii_digit, List.list_any, List.prefix_len, List.position_or_len, Option.option_map, Str.bytes_eq, Str.all_ascii_digits, Str.Parse.starts_with_minus}
-use Rattle.std.proofs.{lemmas.Bool.and_right, lemmas.Bool.Decides.nat_tests, lemmas.List.length-map, lemmas.Str.Ascii.lowercase-lowercase}
-use Rattle.stn_time.specs.Text.{these_parts}
-use Rattle.stn_time.specs.TimeOf.{without_minus, is_numeral, fraction_of, parts_with, time_of_found, time_of}
-use Rattle.stn_pddl.specs.Tree.Names.{folded, is_same_word}
-use Rattle.stn_pddl.proofs.tree.Case.{small_by, same_test}
-use Rattle.stn_pddl.specs.Words.{begins_with, is_variable, is_key, is_name, connectives, comparisons, assignments, is_other_logic, head_of, item_of, key_of, skipped, section_of}
+use Rattle.std.{proofs.{lemmas.{Grind.common_steps, Bool.and_right, List.length-map, Str.Ascii.lowercase-lowercase}, Common.{◌≡◌, ℕ, zero, suc, ◌+◌, ◌<◌, Bool, true, false, cond, not, ◌||◌, ◌&&◌, eqb, List, [], ◌∷◌, map, take, drop, Some, None, refl, ap, ◌∙◌, arith, position, codes}}, specs.{Char.{to_ascii_lowercase, is_ascii_digit}, List.{list_any, prefix_len, position_or_len}, Str.{bytes_eq, all_ascii_digits, Parse.starts_with_minus}}}
+use Rattle.stn_time.specs.TimeOf.{is_numeral, fraction_of, parts_with, time_of}
+use Rattle.stn_pddl.{specs.{Tree.Names.{folded, is_same_word}, Words.{begins_with_byte, is_variable, is_key, is_name, connectives, comparisons, assignments, is_other_logic, head_of, item_of, key_of, skipped, section_of}}, proofs.tree.Case.{small_by, same_test}}
 
 folded-folded : (word : List ℕ) → folded (folded word) ≡ folded word
 folded-folded [] = refl
@@ -32,16 +27,12 @@ same_listed word (other ∷ words) =
 -- the place of a word
 same_prefix : (word : List ℕ) (words : List (List ℕ)) → position_or_len (is_same_word (folded word)) (map folded words) ≡ position_or_len (is_same_word word) words
 same_prefix word [] = refl
-same_prefix word (other ∷ words) =
-    ap (λ t. cond (not t) (1 + position_or_len (is_same_word (folded word)) (map folded words)) 0) (same_both word other)
-    ∙ ap (λ n. cond (not (is_same_word word other)) (1 + n) 0) (same_prefix word words)
+same_prefix word (other ∷ words) = grind (arith, common_steps, same_both, (same_prefix word words))
 
 pub same_position : (word : List ℕ) (words : List (List ℕ)) → position (is_same_word (folded word)) (map folded words) ≡ position (is_same_word word) words
-same_position word words =
-    ap (λ n. cond (nat_lt n (length (map folded words))) (Some n) None) (same_prefix word words)
-    ∙ ap (λ m. cond (nat_lt (position_or_len (is_same_word word) words) m) (Some (position_or_len (is_same_word word) words)) None) (length-map words folded)
+same_position word words = grind (arith, common_steps, same_prefix, length-map)
 
-same_begins : (b : ℕ) (word : List ℕ) → b < 65 → begins_with b (folded word) ≡ begins_with b word
+same_begins : (b : ℕ) (word : List ℕ) → b < 65 → begins_with_byte b (folded word) ≡ begins_with_byte b word
 same_begins b [] small = refl
 same_begins b (first ∷ word) small = same_test first b small
 
@@ -63,16 +54,7 @@ same_logic word = rw (same_any word connectives, same_any word comparisons, same
 
 pub same_head : (word : List ℕ) → head_of (folded word) ≡ head_of word
 unfolding head_of
-same_head word =
-    rw (
-      same_first word (codes "and"),
-      same_first word (codes "not"),
-      same_first word (codes "="),
-      same_first word (codes "at"),
-      same_first word (codes "over"),
-      same_logic word,
-      same_name word,
-    ) refl
+same_head word = grind (arith, common_steps, same_first, same_logic, same_name)
 
 pub same_item : (word : List ℕ) → item_of (folded word) ≡ item_of word
 unfolding item_of
@@ -89,16 +71,10 @@ same_section word = rw (same_any word skipped, same_first word (codes ":durative
 
 -- a digit is no letter
 same_digit : (b : ℕ) → is_ascii_digit (to_ascii_lowercase b) ≡ is_ascii_digit b
-same_digit b = small_by (λ n. is_ascii_digit n ≡ is_ascii_digit b) b refl (λ low high.
-    let first : nat_le (b + 32) 57 ≡ false = grind (arith, nat_tests) in
-    let second : nat_le b 57 ≡ false = grind (arith, nat_tests) in
-    and_right _ _ first ∙ sym (and_right _ _ second))
+same_digit b = grind (arith, common_steps, small_by, and_right)
 
 small_digit : (b : ℕ) → is_ascii_digit b ≡ true → to_ascii_lowercase b ≡ b
-small_digit b is = small_by (λ n. n ≡ b) b refl (λ low high. absurd (letter low is))
-  where
-    letter : 65 ≤ b → is_ascii_digit b ≡ true → ⊥
-    letter low is = grind (arith, nat_tests)
+small_digit b is = grind (arith, common_steps, small_by)
 
 same_digits : (bytes : List ℕ) → all_ascii_digits (folded bytes) ≡ all_ascii_digits bytes
 same_digits [] = refl
@@ -155,12 +131,7 @@ same_fraction (b ∷ digits) =
     by false numeral is = refl
 
 same_parts : (negative : Bool) (bytes : List ℕ) → parts_with negative (folded bytes) ≡ parts_with negative bytes
-same_parts negative bytes =
-    let end = prefix_len is_ascii_digit bytes in
-    rw (same_len bytes)
-    (ap (λ f. cond (eqb end 0) None (option_map (these_parts negative f) (fraction_of (drop end (folded bytes))))) (same_front bytes)
-    ∙ ap (λ l. cond (eqb end 0) None (option_map (these_parts negative (take end bytes)) (fraction_of l))) (folded-drop end bytes)
-    ∙ ap (λ r. cond (eqb end 0) None (option_map (these_parts negative (take end bytes)) r)) (same_fraction (drop end bytes)))
+same_parts negative bytes = grind (arith, common_steps, same_len, same_front, folded-drop, same_fraction)
 
 same_minus : (word : List ℕ) → starts_with_minus (folded word) ≡ starts_with_minus word
 same_minus [] = refl
@@ -173,7 +144,4 @@ same_rest false word = refl
 -- a time has no letters
 pub same_time : (word : List ℕ) → time_of (folded word) ≡ time_of word
 unfolding time_of
-same_time word = ap time_of_found
-    (ap (λ t. parts_with t (cond t (drop 1 (folded word)) (folded word))) (same_minus word)
-    ∙ ap (parts_with (starts_with_minus word)) (same_rest (starts_with_minus word) word)
-    ∙ same_parts (starts_with_minus word) (without_minus word))
+same_time word = grind (arith, common_steps, same_minus, same_rest, same_parts)

@@ -1,18 +1,9 @@
 -- The actions of a domain are sound.
-use Rattle.std.proofs.Common.{◌≡◌, ℕ, ◌≤◌, Bool, true, false, cond, nat_lt, List, [], ◌∷◌, ◌++◌, length, Option, Some, None, Result, Ok, Err, IfOk, refl, sym, ◌∙◌, ap, subst, arith, ℤ, pos, ◌≤ℤ◌, int_lt, find, MatchOption, IfSome}
-use Rattle.std.specs.{List.AllByRecursion, Borrow.Bor}
-use Rattle.std.proofs.{lemmas.Bool.Decides.nat_tests, lemmas.Int.ints}
-use Rattle.stn_time.proofs.Each.{each_pushed}
-use Rattle.stn_time.specs.{declared.reading.TimeFault.TimeFault, TimeOf.time_of}
-use Rattle.stn_pddl.specs.{declared.tree.scan.Place.TheVariants.Before, declared.tree.scan.TreeFault.TreeFault, declared.tree.scan.TreeFault.TheVariants.TooLong, Tree.Names.is_same_word, Tree.Trees.Trees, Tree.Trees.End, Tree.Trees.Word, Tree.Trees.Group, Tree.Trees.rows_from, Tree.Scan.most_text, Tree.Scan.tree_of, Tree.Scan.scanned, declared.fault.DomainFault.DomainFault, declared.action.Side.Side, declared.action.Action.Action, declared.word.Section.Section, Faults.of_tree, Faults.is_memory, Words.section_of, Schemas.ActionSchema, Schemas.bare_action, Views.action_schema, Sound.IsSound}
-use Rattle.stn_pddl.specs.declared.fault.DomainFault.TheVariants.{Syntax, Unsupported, Number, Twice}
-use Rattle.stn_pddl.specs.declared.action.Side.TheVariants.{Condition, Effect}
+use Rattle.std.{proofs.{Common.{◌≡◌, ℕ, ◌≤◌, Bool, true, false, cond, nat_lt, List, [], ◌∷◌, ◌++◌, length, Option, Some, None, Result, Ok, Err, IfOk, refl, sym, ◌∙◌, ap, subst, arith, ℤ, pos, ◌≤ℤ◌, int_lt, find, MatchOption, IfSome}, lemmas.{Bool.Decides.nat_tests, Int.ints}}, specs.{List.AllByRecursion, Borrow.Bor}}
+use Rattle.stn_time.{proofs.Each.each_pushed, specs.{declared.reading.TimeFault.TimeFault, TimeOf.time_of}}
+use Rattle.stn_pddl.{specs.{declared.{tree.scan.{Place.TheVariants.Before, TreeFault.{TreeFault, TheVariants.TooLong}}, fault.DomainFault.{DomainFault, TheVariants.{Syntax, Unsupported, Number, Twice}}, action.{Side.{Side, TheVariants.{Condition, Effect}}, Action.Action}, word.Section.Section}, Tree.{Names.is_same_word, Trees.{Trees, End, Word, Group, rows_from}, Scan.{most_text, tree_of, scanned}}, Faults.{of_tree, is_memory}, Words.section_of, Schemas.{ActionSchema, bare_action}, Views.action_schema, Sound.IsSound, Fields.{Listing, Values, no_values, parameters, duration, constant, not_negative, fields}, Actions.{timed_value, action_of_lists, action_of_values, named_action, is_taken, action}, Domains.{part, parts, root, domain_of_tree, domain_of_bytes, domain_of, action_named}}, proofs.Kept.{Keeps, bind_ok, guard_ok, unless_ok, ok_same, refused, timed-keeps}}
 use Rattle.stn_pddl.specs.declared.word.Section.TheVariants as section
-use Rattle.stn_text.specs.Faults.{◌>>=◌, Gives}
-use Rattle.stn_pddl.specs.Fields.{Listing, Values, no_values, parameters, duration, constant, not_negative, fields}
-use Rattle.stn_pddl.specs.Actions.{timed_value, action_of_lists, action_of_values, named_action, is_taken, action}
-use Rattle.stn_pddl.specs.Domains.{part, parts, root, domain_of_tree, domain_of_bytes, domain_of, action_named}
-use Rattle.stn_pddl.proofs.Kept.{Keeps, bind_ok, guard_ok, unless_ok, ok_same, refused, timed-keeps}
+use Rattle.stn_text.specs.Faults.{◌>>=◌, Returns}
 
 value-keeps : (side : Side) (value : Option Listing) (a b : ActionSchema) → timed_value side value a ≡ Ok b → Keeps a b
 unfolding timed_value
@@ -67,7 +58,7 @@ named-made line name rest b is =
     values-made line name step.0 step.0.parameters step.0.duration b step.2
 
 -- the name of an action that was read is new
-pub new-name : {A : Type 0} (result : Result (Action A) DomainFault) (line : ℕ) (name : List ℕ) (rest : Trees) (earlier : List ActionSchema) → Gives is_memory action_schema result (named_action line name rest)
+pub new-name : {A : Type 0} (result : Result (Action A) DomainFault) (line : ℕ) (name : List ℕ) (rest : Trees) (earlier : List ActionSchema) → Returns is_memory action_schema result (named_action line name rest)
     → is_taken name earlier ≡ false → IfOk result (λ action. is_taken (action_schema action).name earlier ≡ false)
 new-name (Ok found) line name rest earlier gives new =
     let made : IsMade name (action_schema found) = named-made line name rest (action_schema found) gives in

@@ -1,12 +1,11 @@
 -- A step that was read, and what is made of it.
-use Rattle.std.proofs.Common.{◌≡◌, Bool, true, false, Result, Ok, Err, ap}
-use Rattle.std.specs.Result.{result_and}
-use Rattle.stn_text.specs.Faults.{◌>>=◌, Fails, Gives, Unless}
+use Rattle.std.{proofs.Common.{◌≡◌, Bool, true, false, Result, Ok, Err, ap}, specs.Result.result_and}
+use Rattle.stn_text.specs.Faults.{◌>>=◌, Fails, Returns, Unless}
 use Rattle.stn_pddl.specs.{declared.fault.DomainFault.DomainFault, Faults.is_memory}
 
 -- a value that was filled, or the first fault
 pub filled : {F X Y : Type 0} (is_memory : F → Bool) (view : X → Y) (read : Result (Unit {0}) F) (value : X) (whole : Result X F) (meaning : Result Y F)
-    → whole ≡ result_and read (Ok value) → Gives is_memory (λ _. view value) read meaning → Gives is_memory view whole meaning
+    → whole ≡ result_and read (Ok value) → Returns is_memory (λ _. view value) read meaning → Returns is_memory view whole meaning
 filled is_memory view (Ok done) value whole meaning is given = rw is given
 filled is_memory view (Err fault) value whole meaning is given = rw is given
 

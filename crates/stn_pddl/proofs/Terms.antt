@@ -1,32 +1,29 @@
 -- Terms, as the code finds them.
-use Rattle.std.proofs.Common.{◌≡◌, ℕ, Bool, true, false, cond, List, [], ◌∷◌, ◌++◌, Option, Result, Err, refl, sym, ◌∙◌, ap, position}
-use Rattle.std.proofs.lemmas.List.{length-map}
-use Rattle.std.specs.List.{position_or_len, list_any}
-use Rattle.stn_pddl.specs.{Tree.Trees.Trees, Tree.Trees.Word, declared.tree.name.Name.Name, Tree.Names.is_same_word, declared.word.Item.Item, Fields.parameters, Fields.parameters_behind_type, declared.fault.DomainFault.DomainFault, Words.is_variable, Words.item_of, Atoms.term, Atoms.parameter_at, Views.word_of, Views.words_of}
+use Rattle.std.{proofs.{Common.{arith, ◌≡◌, ℕ, Bool, true, false, cond, List, [], ◌∷◌, ◌++◌, Option, Result, Err, refl, ◌∙◌, ap, position}, lemmas.{Grind.common_steps, List.length-map}}, specs.List.{position_or_len, list_any}}
+use Rattle.stn_pddl.specs.{Tree.{Trees.{Trees, Word}, Names.is_same_word}, declared.{tree.name.Name.Name, word.Item.Item, fault.DomainFault.{DomainFault, TheVariants.{Twice, Syntax}}}, Fields.{parameters, parameters_behind_type}, Words.{is_variable, item_of}, Atoms.{term, parameter_at}, Views.{bytes_of_name, words_of}}
 use Rattle.stn_pddl.specs.declared.word.Item.TheVariants as item
-use Rattle.stn_pddl.specs.declared.fault.DomainFault.TheVariants.{Twice, Syntax}
 
-position_or_len-map : (test : List ℕ → Bool) (names : List Name) → position_or_len test (words_of names) ≡ position_or_len (λ (name : Name). test (word_of name)) names
+position_or_len-map : (test : List ℕ → Bool) (names : List Name) → position_or_len test (words_of names) ≡ position_or_len (λ (name : Name). test (bytes_of_name name)) names
 position_or_len-map test [] = refl
 position_or_len-map test (name ∷ names) = rw (position_or_len-map test names) refl
 
-position-map : (test : List ℕ → Bool) (names : List Name) → position test (words_of names) ≡ position (λ (name : Name). test (word_of name)) names
+position-map : (test : List ℕ → Bool) (names : List Name) → position test (words_of names) ≡ position (λ (name : Name). test (bytes_of_name name)) names
 position-map test names = rw (position_or_len-map test names, length-map) refl
 
 -- a variable is found by its place, or not
-pub term-variable : (names : List Name) (line : ℕ) (word : List ℕ) (found : Option ℕ) → is_variable word ≡ true → found ≡ position (λ (name : Name). is_same_word word (word_of name)) names
+pub term-variable : (names : List Name) (line : ℕ) (word : List ℕ) (found : Option ℕ) → is_variable word ≡ true → found ≡ position (λ (name : Name). is_same_word word (bytes_of_name name)) names
     → term (words_of names) line word ≡ parameter_at line found
 unfolding term
 term-variable names line word found variable is = rw (variable, is) (ap (parameter_at line) (position-map (is_same_word word) names))
 
 -- a test of words, at names
-pub list_any-names : (test : List ℕ → Bool) (names : List Name) → list_any test (words_of names) ≡ list_any (λ (name : Name). test (word_of name)) names
+pub list_any-names : (test : List ℕ → Bool) (names : List Name) → list_any test (words_of names) ≡ list_any (λ (name : Name). test (bytes_of_name name)) names
 list_any-names test [] = refl
 list_any-names test (name ∷ names) = rw (list_any-names test names) refl
 
-pub words_of-push : (names : List Name) (name : Name) → words_of (names ++ name ∷ []) ≡ words_of names ++ word_of name ∷ []
+pub words_of-push : (names : List Name) (name : Name) → words_of (names ++ name ∷ []) ≡ words_of names ++ bytes_of_name name ∷ []
 words_of-push [] name = refl
-words_of-push (first ∷ names) name = ap (λ words. word_of first ∷ words) (words_of-push names name)
+words_of-push (first ∷ names) name = ap (λ words. bytes_of_name first ∷ words) (words_of-push names name)
 
 module _ (line : ℕ) (word : List ℕ) (row next : Trees) (names : List Name) (here : row ≡ Word line word next) (is : item_of word ≡ item.Parameter) where
   -- what a parameter gives
@@ -42,12 +39,10 @@ module _ (line : ℕ) (word : List ℕ) (row next : Trees) (names : List Name) (
       ]
 
   -- a parameter that stood before
-  pub parameter-twice : list_any (λ (name : Name). is_same_word word (word_of name)) names ≡ true → parameters row (words_of names) ≡ Err (Twice line)
+  pub parameter-twice : list_any (λ (name : Name). is_same_word word (bytes_of_name name)) names ≡ true → parameters row (words_of names) ≡ Err (Twice line)
   parameter-twice seen = at_parameter (words_of names) ∙ rw (list_any-names (is_same_word word) names ∙ seen) refl
 
   -- a parameter that is new
-  pub parameter-new : (name : Name) (now : List Name) → word_of name ≡ word → list_any (λ (name : Name). is_same_word word (word_of name)) names ≡ false
+  pub parameter-new : (name : Name) (now : List Name) → bytes_of_name name ≡ word → list_any (λ (name : Name). is_same_word word (bytes_of_name name)) names ≡ false
       → now ≡ names ++ name ∷ [] → parameters next (words_of now) ≡ parameters row (words_of names)
-  parameter-new name now same new pushed =
-      sym (at_parameter (words_of names) ∙ rw (list_any-names (is_same_word word) names ∙ new)
-      (ap (parameters next) (ap (λ w. words_of names ++ w ∷ []) (sym same) ∙ sym (words_of-push names name) ∙ ap words_of (sym pushed))))
+  parameter-new name now same new pushed = grind (arith, common_steps, at_parameter, list_any-names, words_of-push)

@@ -1,11 +1,7 @@
 -- A durative action.
-use Rattle.std.specs.Prelude.{ℕ, Bool, List, [], Option, Some, None, Result, Ok, Err, if◌then◌else◌}
-use Rattle.std.specs.List.{list_any}
-use Rattle.stn_pddl.specs.{Tree.Names.is_same_word, Tree.Trees.Trees, Tree.Trees.End, Tree.Trees.Word, Tree.Trees.Group, declared.fault.DomainFault.DomainFault, declared.action.Side.Side, Words.is_name, Schemas.ActionSchema, Schemas.bare_action, Conditions.tree, Conditions.timed_head}
-use Rattle.stn_pddl.specs.declared.fault.DomainFault.TheVariants.{Syntax, Twice}
-use Rattle.stn_pddl.specs.declared.action.Side.TheVariants.{Condition, Effect}
+use Rattle.std.specs.{Prelude.{ℕ, Bool, List, [], Option, Some, None, Result, Ok, Err, if◌then◌else◌}, List.list_any}
+use Rattle.stn_pddl.specs.{Tree.{Names.is_same_word, Trees.{Trees, End, Word, Group}}, declared.{fault.DomainFault.{DomainFault, TheVariants.{Syntax, Twice}}, action.Side.{Side, TheVariants.{Condition, Effect}}}, Words.is_name, Schemas.{ActionSchema, bare_action}, Conditions.{tree, timed_head}, Fields.{Listing, Values, no_values, parameters, duration, fields}}
 use Rattle.stn_text.specs.Faults.{◌>>=◌}
-use Rattle.stn_pddl.specs.Fields.{Listing, Values, no_values, parameters, duration, fields}
 
 -- a value of `:condition` or `:effect`; one that is missing is empty
 unfoldable pub timed_value : Side → Option Listing → ActionSchema → Result ActionSchema DomainFault

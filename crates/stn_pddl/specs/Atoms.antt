@@ -1,9 +1,7 @@
 -- Terms, atoms and equalities.
 use Rattle.std.specs.Prelude.{ℕ, Bool, List, [], ◌∷◌, ◌++◌, Option, Some, None, Result, Ok, Err, ◌==◌, if◌then◌else◌, position}
-use Rattle.stn_pddl.specs.{Tree.Names.is_same_word, Tree.Trees.Trees, Tree.Trees.End, Tree.Trees.Word, Tree.Trees.Group, Tree.Trees.how_many, declared.fault.DomainFault.DomainFault, declared.action.Label.Label, Words.is_variable, Words.is_key}
-use Rattle.stn_pddl.specs.declared.fault.DomainFault.TheVariants.{Syntax, Unsupported, Variable}
+use Rattle.stn_pddl.specs.{Tree.{Names.is_same_word, Trees.{Trees, End, Word, Group, how_many}}, declared.{fault.DomainFault.{DomainFault, TheVariants.{Syntax, Unsupported, Variable}}, action.Label.Label}, Words.{is_variable, is_key}, Schemas.{TermSchema, ActionSchema, Parameter, Constant, with_literal}}
 use Rattle.stn_text.specs.Faults.{◌>>=◌}
-use Rattle.stn_pddl.specs.Schemas.{TermSchema, ActionSchema, Parameter, Constant, with_literal}
 
 -- a word that begins with `?` is a parameter of the action
 abbrev pub parameter_at : ℕ → Option ℕ → Result TermSchema DomainFault

@@ -1,8 +1,6 @@
 -- A domain in small letters.
 use Rattle.std.specs.Prelude.{List, map, Result, Ok, Err}
-use Rattle.stn_pddl.specs.Tree.Names.{folded}
-use Rattle.stn_pddl.specs.declared.fault.DomainFault.{DomainFault}
-use Rattle.stn_pddl.specs.Schemas.{TermSchema, Parameter, Constant, AtomSchema, ActionSchema}
+use Rattle.stn_pddl.specs.{Tree.Names.folded, declared.fault.DomainFault.DomainFault, Schemas.{TermSchema, Parameter, Constant, AtomSchema, ActionSchema}}
 
 abbrev pub term_in_small : TermSchema → TermSchema
 term_in_small (Parameter place) = Parameter place

@@ -1,10 +1,6 @@
 -- Conditions and effects: trees with times, and the plain trees in them.
 use Rattle.std.specs.Prelude.{ℕ, List, Bool, true, false, Option, Some, None, Result, Ok, Err, ◌==◌, if◌then◌else◌, codes}
-use Rattle.stn_pddl.specs.{Tree.Names.is_same_word, Tree.Trees.Trees, Tree.Trees.End, Tree.Trees.Word, Tree.Trees.Group, Tree.Trees.how_many, declared.fault.DomainFault.DomainFault, declared.action.Label.Label, declared.action.Side.Side, declared.action.Form.Form, declared.word.Head.Head, Words.head_of, Schemas.ActionSchema, Atoms.atom, Atoms.equality}
-use Rattle.stn_pddl.specs.declared.fault.DomainFault.TheVariants.{Syntax, Unsupported}
-use Rattle.stn_pddl.specs.declared.action.Label.TheVariants.{StartCondition, OverAll, EndCondition, StartEffect, EndEffect}
-use Rattle.stn_pddl.specs.declared.action.Side.TheVariants.{Condition, Effect}
-use Rattle.stn_pddl.specs.declared.action.Form.TheVariants.{Plain, Timed}
+use Rattle.stn_pddl.specs.{Tree.{Names.is_same_word, Trees.{Trees, End, Word, Group, how_many}}, declared.{fault.DomainFault.{DomainFault, TheVariants.{Syntax, Unsupported}}, action.{Label.{Label, TheVariants.{StartCondition, OverAll, EndCondition, StartEffect, EndEffect}}, Side.{Side, TheVariants.{Condition, Effect}}, Form.{Form, TheVariants.{Plain, Timed}}}, word.Head.Head}, Words.head_of, Schemas.ActionSchema, Atoms.{atom, equality}}
 use Rattle.stn_pddl.specs.declared.word.Head.TheVariants as head
 use Rattle.stn_text.specs.Faults.{◌>>=◌}
 
@@ -81,19 +77,19 @@ plain_head label conjunction line word rest action k = elim k as (λ _. Result A
   | head.Name ↦ atom label false word rest action
 ]
 
-abbrev pub start_of : Side → Label
-start_of Condition = StartCondition
-start_of Effect = StartEffect
+abbrev pub start_label : Side → Label
+start_label Condition = StartCondition
+start_label Effect = StartEffect
 
-abbrev pub end_of : Side → Label
-end_of Condition = EndCondition
-end_of Effect = EndEffect
+abbrev pub end_label : Side → Label
+end_label Condition = EndCondition
+end_label Effect = EndEffect
 
 -- `at start`, `at end`, and in conditions `over all`
 abbrev pub label_of : Side → Head → List ℕ → Option Label
 label_of side head.At word =
-    if is_same_word word (codes "start") then Some (start_of side)
-    else (if is_same_word word (codes "end") then Some (end_of side) else None)
+    if is_same_word word (codes "start") then Some (start_label side)
+    else (if is_same_word word (codes "end") then Some (end_label side) else None)
 label_of Condition head.Over word = if is_same_word word (codes "all") then Some OverAll else None
 label_of side other word = None
 
@@ -127,6 +123,6 @@ timed_head side conjunction line word rest action k = elim k as (λ _. Result Ac
 ]
 
 -- whether one label holds for all, or each has its time
-abbrev pub meaning_of : Form → Meaning
-meaning_of (Plain label) = plain_head label
-meaning_of (Timed side) = timed_head side
+abbrev pub form_meaning : Form → Meaning
+form_meaning (Plain label) = plain_head label
+form_meaning (Timed side) = timed_head side

@@ -1,7 +1,6 @@
 -- A domain: from a text to its actions, or to the first fault.
 use Rattle.std.specs.Prelude.{ℕ, Bool, false, ◌&&◌, List, [], ◌∷◌, ◌++◌, Option, Result, Ok, Err, find, if◌then◌else◌, codes}
-use Rattle.stn_pddl.specs.{declared.tree.scan.TreeFault.TreeFault, Tree.Names.is_same_word, Tree.Trees.Trees, Tree.Trees.End, Tree.Trees.Word, Tree.Trees.Group, Tree.Scan.tree_of, declared.fault.DomainFault.DomainFault, Faults.of_tree, Words.is_name, Words.section_of, Schemas.ActionSchema, Actions.action}
-use Rattle.stn_pddl.specs.declared.fault.DomainFault.TheVariants.{Syntax, Unsupported}
+use Rattle.stn_pddl.specs.{declared.{tree.scan.TreeFault.TreeFault, fault.DomainFault.{DomainFault, TheVariants.{Syntax, Unsupported}}}, Tree.{Names.is_same_word, Trees.{Trees, End, Word, Group}, Scan.tree_of}, Faults.of_tree, Words.{is_name, section_of}, Schemas.ActionSchema, Actions.action}
 use Rattle.stn_pddl.specs.declared.word.Section.TheVariants as section
 use Rattle.stn_text.specs.Faults.{◌>>=◌}
 

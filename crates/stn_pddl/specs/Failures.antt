@@ -1,6 +1,6 @@
 -- What is printed for a fault of a domain.
 use Rattle.stn_refusal.specs.declared.code.Code.TheVariants as code
-use Rattle.stn_refusal.specs.{declared.failure.Failure.Failure, Refusals.refused, Refusals.refused_at, Refusals.out_of_memory}
+use Rattle.stn_refusal.specs.{declared.failure.Failure.Failure, Refusals.{refused, refused_at, out_of_memory}}
 use Rattle.stn_pddl.specs.declared.fault.DomainFault.{DomainFault}
 use Rattle.stn_pddl.specs.declared.fault.DomainFault.TheVariants as domain
 

@@ -1,9 +1,7 @@
 -- The faults of a domain.
 use Rattle.std.specs.Prelude.{Bool, true, false}
-use Rattle.stn_pddl.specs.declared.tree.scan.TreeFault.{TreeFault}
+use Rattle.stn_pddl.specs.declared.{tree.scan.TreeFault.TreeFault, fault.DomainFault.{DomainFault, TheVariants.{TooLong, Syntax, TooDeep, Memory}}}
 use Rattle.stn_pddl.specs.declared.tree.scan.TreeFault.TheVariants as tree
-use Rattle.stn_pddl.specs.declared.fault.DomainFault.{DomainFault}
-use Rattle.stn_pddl.specs.declared.fault.DomainFault.TheVariants.{TooLong, Syntax, TooDeep, Memory}
 
 -- a fault of the bytes, as one of the domain
 abbrev pub of_tree : TreeFault → DomainFault

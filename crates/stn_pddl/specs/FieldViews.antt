@@ -1,8 +1,7 @@
 -- For proofs alone: no public clause cites these words.
 -- What the values of an action's keys say.
 use Rattle.std.specs.Option.{option_map}
-use Rattle.stn_pddl.specs.Tree.Cursors.{row_at}
-use Rattle.stn_pddl.specs.{declared.fields.Listing.Listing, declared.fields.Values.Values}
+use Rattle.stn_pddl.specs.{Tree.Cursors.row_at, declared.fields.{Listing.Listing, Values.Values}}
 use Rattle.stn_pddl.specs.Fields as spec
 
 abbrev pub listing_of : Listing → spec.Listing

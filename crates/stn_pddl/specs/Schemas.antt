@@ -1,7 +1,6 @@
 -- What a domain says of its actions.
 use Rattle.std.specs.Prelude.{ℕ, Bool, true, false, List, [], ◌∷◌, ◌++◌, ℤ}
-use Rattle.stn_pddl.specs.declared.action.Label.{Label}
-use Rattle.stn_pddl.specs.declared.action.Label.TheVariants.{StartCondition, OverAll, EndCondition, StartEffect, EndEffect}
+use Rattle.stn_pddl.specs.declared.action.Label.{Label, TheVariants.{StartCondition, OverAll, EndCondition, StartEffect, EndEffect}}
 
 -- a term is a parameter of its action, by its place from 0 on, or a constant
 pub data TermSchema : Type 0 where

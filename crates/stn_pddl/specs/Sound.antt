@@ -1,9 +1,6 @@
 -- What every domain and each of its actions keeps.
-use Rattle.std.specs.Prelude.{◌≡◌, ℕ, ◌<◌, ◌≤◌, length, pos, ◌≤ℤ◌, Ok}
-use Rattle.std.specs.List.{AllByRecursion}
-use Rattle.stn_pddl.specs.Tree.Scan.{most_text}
-use Rattle.stn_pddl.specs.Schemas.{TermSchema, AtomSchema, ActionSchema, Parameter, Constant}
-use Rattle.stn_pddl.specs.Domains.{DomainSchema, domain_of}
+use Rattle.std.specs.{Prelude.{◌≡◌, ℕ, ◌<◌, ◌≤◌, length, pos, ◌≤ℤ◌, Ok}, List.AllByRecursion}
+use Rattle.stn_pddl.specs.{Tree.Scan.most_text, Schemas.{TermSchema, AtomSchema, ActionSchema, Parameter, Constant}, Domains.{DomainSchema, domain_of}}
 
 -- a parameter is one of so many
 abbrev pub IsSoundTerm : ℕ → TermSchema → Type 0

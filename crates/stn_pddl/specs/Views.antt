@@ -1,32 +1,30 @@
 -- What the values of the code say.
 use Rattle.std.specs.Prelude.{◌≡◌, ℕ, List, [], ◌∷◌, map}
-use Rattle.stn_pddl.specs.declared.tree.name.Name.{Name}
-use Rattle.stn_pddl.specs.{declared.action.Term.Term, declared.action.Atom.Atom, declared.action.Action.Action}
+use Rattle.stn_pddl.specs.{declared.{tree.name.Name.Name, action.{Term.Term, Atom.Atom, Action.Action}}, Schemas.{TermSchema, AtomSchema, ActionSchema, Parameter, Constant}}
 use Rattle.stn_pddl.specs.declared.action.Term.TheVariants as code
-use Rattle.stn_pddl.specs.Schemas.{TermSchema, AtomSchema, ActionSchema, Parameter, Constant}
 
-abbrev pub word_of : Name → List ℕ
-word_of name = name.bytes.now
+abbrev pub bytes_of_name : Name → List ℕ
+bytes_of_name name = name.bytes.now
 
 abbrev pub words_of : List Name → List (List ℕ)
-words_of names = map word_of names
+words_of names = map bytes_of_name names
 
 abbrev pub term_schema : Term → TermSchema
 term_schema (code.Parameter place) = Parameter place
-term_schema (code.Constant name) = Constant (word_of name)
+term_schema (code.Constant name) = Constant (bytes_of_name name)
 
 abbrev pub terms_schema : List Term → List TermSchema
 terms_schema terms = map term_schema terms
 
 abbrev pub atom_schema : {A : Type 0} → Atom A → AtomSchema
-atom_schema atom = record { predicate = word_of atom.predicate; terms = terms_schema atom.terms.items }
+atom_schema atom = record { predicate = bytes_of_name atom.predicate; terms = terms_schema atom.terms.items }
 
 abbrev pub atoms_schema : {A : Type 0} → List (Atom A) → List AtomSchema
 atoms_schema atoms = map atom_schema atoms
 
 unfoldable pub action_schema : {A : Type 0} → Action A → ActionSchema
 action_schema action = record {
-  name = word_of action.name;
+  name = bytes_of_name action.name;
   parameters = words_of action.parameters.keys;
   duration = action.duration;
   start_needs = atoms_schema action.start_needs.items;
@@ -45,4 +43,4 @@ entries_schema entries = map (λ e. action_schema e.1) entries
 -- each action stands under its own name
 abbrev pub AreNamed : {A : Type 0} → List (Name × Action A) → Type 0
 AreNamed [] = Unit {0}
-AreNamed (e ∷ entries) = (word_of e.0 ≡ (action_schema e.1).name) × AreNamed entries
+AreNamed (e ∷ entries) = (bytes_of_name e.0 ≡ (action_schema e.1).name) × AreNamed entries

@@ -1,25 +1,23 @@
 -- What the words of a domain stand for. Words are compared without regard to ASCII case.
-use Rattle.std.specs.Prelude.{ℕ, Bool, false, not, ◌||◌, ◌&&◌, ◌==◌, List, [], ◌∷◌, length, nat_lt, if◌then◌else◌, codes}
-use Rattle.std.specs.List.{list_any}
-use Rattle.stn_pddl.specs.Tree.Names.{is_same_word}
-use Rattle.stn_pddl.specs.{declared.word.Head.Head, declared.word.Item.Item, declared.word.Key.Key, declared.word.Section.Section}
+use Rattle.std.specs.{Prelude.{ℕ, Bool, false, not, ◌||◌, ◌&&◌, ◌==◌, List, [], ◌∷◌, length, nat_lt, if◌then◌else◌, codes}, List.list_any}
+use Rattle.stn_pddl.specs.{Tree.Names.is_same_word, declared.word.{Head.Head, Item.Item, Key.Key, Section.Section}}
 use Rattle.stn_pddl.specs.declared.word.Head.TheVariants as head
 use Rattle.stn_pddl.specs.declared.word.Item.TheVariants as item
 use Rattle.stn_pddl.specs.declared.word.Field.TheVariants as field
 use Rattle.stn_pddl.specs.declared.word.Key.TheVariants as key
 use Rattle.stn_pddl.specs.declared.word.Section.TheVariants as section
 
-abbrev pub begins_with : ℕ → List ℕ → Bool
-begins_with b [] = false
-begins_with b (first ∷ word) = first == b
+abbrev pub begins_with_byte : ℕ → List ℕ → Bool
+begins_with_byte b [] = false
+begins_with_byte b (first ∷ word) = first == b
 
 -- begins with `?`
 unfoldable pub is_variable : List ℕ → Bool
-is_variable word = begins_with 63 word
+is_variable word = begins_with_byte 63 word
 
 -- begins with `:`
 unfoldable pub is_key : List ℕ → Bool
-is_key word = begins_with 58 word
+is_key word = begins_with_byte 58 word
 
 -- a name begins neither with `?` nor with `:`
 unfoldable pub is_name : List ℕ → Bool

@@ -1,8 +1,7 @@
 //! Durative actions.
 
 ghost use Rattle.std.specs.Prelude.{◌≡◌, [], pos, IfOk};
-ghost use Rattle.stn_pddl.specs.Schemas.{bare_action, with_literal};
-ghost use Rattle.stn_pddl.specs.Views.{action_schema, atom_schema, word_of};
+ghost use Rattle.stn_pddl.specs.{Schemas.{bare_action, with_literal}, Views.{action_schema, atom_schema, bytes_of_name}};
 
 use crate::tree::Name;
 use indexmap::IndexSet;
@@ -84,7 +83,7 @@ impl<'a, A: Allocator + Copy> Action<'a, A> {
     /// An action without parameters, conditions and effects, of no duration.
     #[tactic(auto, unfolding(crate::specs::Views::action_schema))]
     pub(crate) fn bare(alloc: A, name: Name<'a>) -> Action<'a, A>
-        ensures { action_schema result ≡ bare_action (word_of name.entry) [] (pos 0) }
+        ensures { action_schema result ≡ bare_action (bytes_of_name name.entry) [] (pos 0) }
     {
         Action {
             name,

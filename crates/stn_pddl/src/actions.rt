@@ -1,11 +1,7 @@
 //! The actions of a domain by name.
 
-ghost use Rattle.std.specs.Prelude.{◌≡◌, ◌++◌, ◌∷◌, [], false, IfOk, OnOk, OnErr, MatchOption, Some, None};
-ghost use Rattle.std.specs.Map.{lookup};
-ghost use Rattle.stn_pddl.specs.Tree.Names.{is_same_word};
-ghost use Rattle.stn_pddl.specs.Actions.{is_taken};
-ghost use Rattle.stn_pddl.specs.Domains.{action_named};
-ghost use Rattle.stn_pddl.specs.Views.{action_schema, word_of};
+ghost use Rattle.std.specs.{Prelude.{◌≡◌, ◌++◌, ◌∷◌, [], false, IfOk, OnOk, OnErr, MatchOption, Some, None}, Map.lookup};
+ghost use Rattle.stn_pddl.specs.{Tree.Names.is_same_word, Actions.is_taken, Domains.action_named, Views.{action_schema, bytes_of_name}};
 
 use crate::action::Action;
 use crate::tree::Name;
@@ -77,7 +73,7 @@ fn insert_new<'a, T: Drop, A: Allocator>(
     name: Name<'a>,
     value: T,
 ) -> Result<(), AllocError>
-    requires { lookup (λ other. is_same_word (word_of name) (word_of other)) by_name.old.entries ≡ None }
+    requires { lookup (λ other. is_same_word (bytes_of_name name) (bytes_of_name other)) by_name.old.entries ≡ None }
     ensures added { OnOk result (by_name.new.entries ≡ by_name.old.entries ++ (name.entry, value) ∷ []) }
     ensures kept { OnErr result (by_name.new.entries ≡ by_name.old.entries) }
 {

@@ -1,10 +1,8 @@
 //! Terms, atoms and equalities.
 
 ghost use Rattle.std.specs.Prelude.{◌≡◌, [], IfOk};
-ghost use Rattle.stn_text.specs.Faults.{Gives};
-ghost use Rattle.stn_pddl.specs.Tree.Cursors.{row_at, IsPast};
-ghost use Rattle.stn_pddl.specs.Faults.{is_memory};
-ghost use Rattle.stn_pddl.specs.Views.{term_schema, terms_schema, words_of, action_schema};
+ghost use Rattle.stn_text.specs.Faults.{Returns};
+ghost use Rattle.stn_pddl.specs.{Tree.Cursors.{row_at, IsPast}, Faults.is_memory, Views.{term_schema, terms_schema, words_of, action_schema}};
 ghost use Rattle.stn_pddl.specs.Atoms as spec;
 
 use crate::action::{Action, Atom, Label, Names, Term};
@@ -20,7 +18,7 @@ fn read_term<'a, A: Allocator + Copy>(
     line: u32,
     word: &'a [u8],
 ) -> Result<Term<'a>, DomainFault>
-    ensures { Gives is_memory term_schema result (spec.term (words_of parameters.now.keys) line word.now) }
+    ensures { Returns is_memory term_schema result (spec.term (words_of parameters.now.keys) line word.now) }
 {
     let name = Name { bytes: word };
     if is_variable(word) {
@@ -42,7 +40,7 @@ fn read_terms<'a, A: Allocator + Copy>(
     parameters: &Names<'a, A>,
     children: Cursor<'a>,
 ) -> Result<(Vec<Term<'a>, A>, Cursor<'a>), DomainFault>
-    ensures given { Gives is_memory (λ found. terms_schema found.0.items) result
+    ensures given { Returns is_memory (λ found. terms_schema found.0.items) result
         (spec.terms (words_of parameters.now.keys) (row_at children.entry) []) }
     ensures passed { IfOk result (λ found. IsPast children.entry found.1) }
 {
@@ -71,7 +69,7 @@ impl<'a, A: Allocator + Copy> Action<'a, A> {
         predicate: &'a [u8],
         children: Cursor<'a>,
     ) -> Result<Cursor<'a>, DomainFault>
-        ensures given { Gives is_memory (λ _. action_schema self.new) result
+        ensures given { Returns is_memory (λ _. action_schema self.new) result
             (spec.atom label negated predicate.now (row_at children.entry) (action_schema self.old)) }
         ensures passed { IfOk result (IsPast children.entry) }
     {
@@ -88,7 +86,7 @@ impl<'a, A: Allocator + Copy> Action<'a, A> {
         line: u32,
         children: Cursor<'a>,
     ) -> Result<Cursor<'a>, DomainFault>
-        ensures given { Gives is_memory (λ _. action_schema self.now) result
+        ensures given { Returns is_memory (λ _. action_schema self.now) result
             (spec.equality line (row_at children.entry) (action_schema self.now)) }
         ensures passed { IfOk result (IsPast children.entry) }
     {

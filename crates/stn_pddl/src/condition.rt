@@ -1,10 +1,8 @@
 //! Conditions and effects: conjunctions of literals with their times.
 
 ghost use Rattle.std.specs.Prelude.{◌≡◌, IfOk, true};
-ghost use Rattle.stn_text.specs.Faults.{Gives};
-ghost use Rattle.stn_pddl.specs.Tree.Cursors.{row_at, IsPast};
-ghost use Rattle.stn_pddl.specs.Faults.{is_memory};
-ghost use Rattle.stn_pddl.specs.Views.{action_schema};
+ghost use Rattle.stn_text.specs.Faults.{Returns};
+ghost use Rattle.stn_pddl.specs.{Tree.Cursors.{row_at, IsPast}, Faults.is_memory, Views.action_schema};
 ghost use Rattle.stn_pddl.specs.Conditions as spec;
 
 use crate::action::{Action, Form, Label, Side};
@@ -23,7 +21,7 @@ fn is_effect(label: Label) -> bool
 }
 
 fn start_of(side: Side) -> Label
-    ensures { result ≡ spec.start_of side }
+    ensures { result ≡ spec.start_label side }
 {
     match side {
         Side::Condition => Label::StartCondition,
@@ -32,7 +30,7 @@ fn start_of(side: Side) -> Label
 }
 
 fn end_of(side: Side) -> Label
-    ensures { result ≡ spec.end_of side }
+    ensures { result ≡ spec.end_label side }
 {
     match side {
         Side::Condition => Label::EndCondition,
@@ -69,7 +67,7 @@ impl<'a, A: Allocator + Copy> Action<'a, A> {
         line: u32,
         children: Cursor<'a>,
     ) -> Result<Cursor<'a>, DomainFault>
-        ensures given { Gives is_memory (λ _. action_schema self.now) result
+        ensures given { Returns is_memory (λ _. action_schema self.now) result
             (spec.equal_tree label line (row_at children.entry) (action_schema self.now)) }
         ensures passed { IfOk result (IsPast children.entry) }
     {
@@ -87,7 +85,7 @@ impl<'a, A: Allocator + Copy> Action<'a, A> {
         line: u32,
         children: Cursor<'a>,
     ) -> Result<Cursor<'a>, DomainFault>
-        ensures given { Gives is_memory (λ _. action_schema self.new) result
+        ensures given { Returns is_memory (λ _. action_schema self.new) result
             (spec.negated_tree label line (row_at children.entry) (action_schema self.old)) }
         ensures passed { IfOk result (IsPast children.entry) }
     {
@@ -110,7 +108,7 @@ impl<'a, A: Allocator + Copy> Action<'a, A> {
         line: u32,
         children: Cursor<'a>,
     ) -> Result<Cursor<'a>, DomainFault>
-        ensures given { Gives is_memory (λ _. action_schema self.new) result
+        ensures given { Returns is_memory (λ _. action_schema self.new) result
             (spec.negation label line (row_at children.entry) (action_schema self.old)) }
         ensures passed { IfOk result (IsPast children.entry) }
     {
@@ -136,7 +134,7 @@ impl<'a, A: Allocator + Copy> Action<'a, A> {
         word: &'a [u8],
         rest: Cursor<'a>,
     ) -> Result<Cursor<'a>, DomainFault>
-        ensures given { Gives is_memory (λ _. action_schema self.new) result
+        ensures given { Returns is_memory (λ _. action_schema self.new) result
             (spec.headed (spec.plain_head label) line word.now (row_at rest.entry) (action_schema self.old)) }
         ensures passed { IfOk result (IsPast rest.entry) }
     {
@@ -160,7 +158,7 @@ impl<'a, A: Allocator + Copy> Action<'a, A> {
         line: u32,
         children: Cursor<'a>,
     ) -> Result<Cursor<'a>, DomainFault>
-        ensures given { Gives is_memory (λ _. action_schema self.new) result
+        ensures given { Returns is_memory (λ _. action_schema self.new) result
             (spec.labelled side head line (row_at children.entry) (action_schema self.old)) }
         ensures passed { IfOk result (IsPast children.entry) }
     {
@@ -182,7 +180,7 @@ impl<'a, A: Allocator + Copy> Action<'a, A> {
         word: &'a [u8],
         rest: Cursor<'a>,
     ) -> Result<Cursor<'a>, DomainFault>
-        ensures given { Gives is_memory (λ _. action_schema self.new) result
+        ensures given { Returns is_memory (λ _. action_schema self.new) result
             (spec.headed (spec.timed_head side) line word.now (row_at rest.entry) (action_schema self.old)) }
         ensures passed { IfOk result (IsPast rest.entry) }
     {
@@ -200,8 +198,8 @@ impl<'a, A: Allocator + Copy> Action<'a, A> {
     #[cycle(conditions)]
     #[tactic(auto, using(crate::proofs::Steps::fails_first), unfolding(crate::specs::Conditions::row))]
     fn read_row(&mut self, form: Form, children: Cursor<'a>) -> Result<Cursor<'a>, DomainFault>
-        ensures given { Gives is_memory (λ _. action_schema self.new) result
-            (spec.row (spec.meaning_of form) (row_at children.entry) (action_schema self.old)) }
+        ensures given { Returns is_memory (λ _. action_schema self.new) result
+            (spec.row (spec.form_meaning form) (row_at children.entry) (action_schema self.old)) }
         ensures passed { IfOk result (IsPast children.entry) }
     {
         let mut cursor = children;
@@ -225,8 +223,8 @@ impl<'a, A: Allocator + Copy> Action<'a, A> {
         line: u32,
         children: Cursor<'a>,
     ) -> Result<Cursor<'a>, DomainFault>
-        ensures given { Gives is_memory (λ _. action_schema self.new) result
-            (spec.tree (spec.meaning_of form) line (row_at children.entry) (action_schema self.old)) }
+        ensures given { Returns is_memory (λ _. action_schema self.new) result
+            (spec.tree (spec.form_meaning form) line (row_at children.entry) (action_schema self.old)) }
         ensures passed { IfOk result (IsPast children.entry) }
     {
         match children.next_child() {

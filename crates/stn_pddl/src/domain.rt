@@ -1,19 +1,9 @@
 //! Whole domains.
 
-ghost use Rattle.std.specs.Prelude.{◌≡◌, ◌≤◌, [], false, length, pos, IfOk, IfErr, IfSome, MatchOption, Some, None, Ok, Err};
-ghost use Rattle.std.specs.Option.{option_map};
-ghost use Rattle.stn_text.specs.Faults.{Gives, ◌>>=◌ as ◌and_then◌};
-ghost use Rattle.stn_pddl.specs.Tree.Cursors.{row_at};
-ghost use Rattle.stn_pddl.specs.Tree.Scan.{most_text};
-ghost use Rattle.stn_pddl.specs.Faults.{is_memory};
-ghost use Rattle.stn_pddl.specs.Causes.{IsCause};
+ghost use Rattle.std.specs.{Prelude.{◌≡◌, ◌≤◌, [], false, length, pos, IfOk, IfErr, IfSome, MatchOption, Some, None, Ok, Err}, Option.option_map};
+ghost use Rattle.stn_text.specs.Faults.{Returns, ◌>>=◌ as ◌and_then◌};
+ghost use Rattle.stn_pddl.specs.{Tree.{Cursors.row_at, Scan.most_text}, Faults.is_memory, Causes.IsDomainCause, Domains.{part, parts, is_title, root, domain_of_tree, domain_of, action_named}, Sound.IsSound, Schemas.bare_action, Views.{action_schema, bytes_of_name}, declared.action.Side.TheVariants.{Condition, Effect}, FieldViews.{listing_of, values_of}};
 ghost use Rattle.stn_pddl.specs.Actions as rule;
-ghost use Rattle.stn_pddl.specs.Domains.{part, parts, is_title, root, domain_of_tree, domain_of, action_named};
-ghost use Rattle.stn_pddl.specs.Sound.{IsSound};
-ghost use Rattle.stn_pddl.specs.Schemas.{bare_action};
-ghost use Rattle.stn_pddl.specs.Views.{action_schema, word_of};
-ghost use Rattle.stn_pddl.specs.declared.action.Side.TheVariants.{Condition, Effect};
-ghost use Rattle.stn_pddl.specs.FieldViews.{listing_of, values_of};
 
 use crate::action::{Action, Form, Side};
 use crate::actions::Actions;
@@ -50,7 +40,7 @@ fn read_timed_value<'a, A: Allocator + Copy>(
     value: Option<Listing<'a>>,
     action: &mut Action<'a, A>,
 ) -> Result<(), DomainFault>
-    ensures { Gives is_memory (λ _. action_schema action.new) result
+    ensures { Returns is_memory (λ _. action_schema action.new) result
         (rule.timed_value side (option_map listing_of value.entry) (action_schema action.old)) }
 {
     if let Some(listing) = value {
@@ -64,7 +54,7 @@ fn read_sides<'a, A: Allocator + Copy>(
     values: Values<'a>,
     action: &mut Action<'a, A>,
 ) -> Result<(), DomainFault>
-    ensures { Gives is_memory (λ _. action_schema action.new) result
+    ensures { Returns is_memory (λ _. action_schema action.new) result
         (rule.timed_value Condition (values_of values.entry).condition (action_schema action.old)
         and_then rule.timed_value Effect (values_of values.entry).effect) }
 {
@@ -81,7 +71,7 @@ fn read_values<'a, A: Allocator + Copy>(
     action: &mut Action<'a, A>,
 ) -> Result<(), DomainFault>
     requires { action_schema action.old ≡ bare_action (action_schema action.old).name [] (pos 0) }
-    ensures { Gives is_memory (λ _. action_schema action.new) result
+    ensures { Returns is_memory (λ _. action_schema action.new) result
         (rule.action_of_lists (action_schema action.old).name (listing_of parameters.entry) (listing_of duration.entry) (values_of values.entry)) }
 {
     read_parameters(parameters.inside, &mut action.parameters)?;
@@ -97,7 +87,7 @@ fn read_fields<'a, A: Allocator + Copy>(
     action: &mut Action<'a, A>,
 ) -> Result<(), DomainFault>
     requires { action_schema action.old ≡ bare_action (action_schema action.old).name [] (pos 0) }
-    ensures { Gives is_memory (λ _. action_schema action.new) result
+    ensures { Returns is_memory (λ _. action_schema action.new) result
         (rule.named_action line (action_schema action.old).name (row_at children.entry)) }
 {
     let values = Values::read(children)?;
@@ -118,8 +108,8 @@ fn read_name<'a, A: Allocator + Copy>(
     earlier: &Actions<'a, A>,
 ) -> Result<(Name<'a>, Cursor<'a>), DomainFault>
     ensures named { IfOk result (λ found. rule.action line (row_at children.entry) earlier.now
-        ≡ rule.named_action line (word_of found.0) (row_at found.1)) }
-    ensures new { IfOk result (λ found. rule.is_taken (word_of found.0) earlier.now ≡ false) }
+        ≡ rule.named_action line (bytes_of_name found.0) (row_at found.1)) }
+    ensures new { IfOk result (λ found. rule.is_taken (bytes_of_name found.0) earlier.now ≡ false) }
     ensures fault { IfErr result (λ fault. rule.action line (row_at children.entry) earlier.now ≡ Err fault) }
 {
     let Child::Word(at, word, rest) = children.next_child() else {
@@ -143,7 +133,7 @@ fn read_action<'a, A: Allocator + Copy>(
     children: Cursor<'a>,
     earlier: &Actions<'a, A>,
 ) -> Result<Action<'a, A>, DomainFault>
-    ensures given { Gives is_memory action_schema result (rule.action line (row_at children.entry) earlier.now) }
+    ensures given { Returns is_memory action_schema result (rule.action line (row_at children.entry) earlier.now) }
     ensures new { IfOk result (λ action. rule.is_taken (action_schema action).name earlier.now ≡ false) }
 {
     let (name, rest) = read_name(line, children, earlier)?;
@@ -159,7 +149,7 @@ fn read_part<'a, A: Allocator + Copy>(
     children: Cursor<'a>,
     actions: &mut Actions<'a, A>,
 ) -> Result<(), DomainFault>
-    ensures { Gives is_memory (λ _. actions.new) result (part line (row_at children.entry) actions.old) }
+    ensures { Returns is_memory (λ _. actions.new) result (part line (row_at children.entry) actions.old) }
 {
     let Child::Word(_, word, rest) = children.next_child() else {
         return Err(DomainFault::Syntax(line));
@@ -176,22 +166,22 @@ fn read_part<'a, A: Allocator + Copy>(
     }
 }
 
-/// Takes up the parts of a domain in a row.
+/// The actions of the parts of a domain, in a row.
 #[tactic(auto, unfolding(crate::specs::Domains::parts))]
 fn read_parts<'a, A: Allocator + Copy>(
     alloc: A,
     children: Cursor<'a>,
-    actions: &mut Actions<'a, A>,
-) -> Result<(), DomainFault>
-    ensures { Gives is_memory (λ _. actions.new) result (parts (row_at children.entry) actions.old) }
+) -> Result<Actions<'a, A>, DomainFault>
+    ensures { Returns is_memory (λ actions. actions) result (parts (row_at children.entry) []) }
 {
+    let mut actions = Actions::new(alloc);
     let mut cursor = children;
     'parts: loop {
         match cursor.next_child() {
-            Child::End(_) => return Ok(()),
+            Child::End(_) => return Ok(actions),
             Child::Word(line, _, _) => return Err(DomainFault::Syntax(line)),
             Child::Group(line, inside) => {
-                read_part(alloc, line, inside, actions)?;
+                read_part(alloc, line, inside, &mut actions)?;
                 cursor = inside.skip();
             }
         }
@@ -215,16 +205,14 @@ fn is_title(children: Cursor<'_>) -> bool
     is_same_word(domain, b"domain") && is_name(name)
 }
 
-/// Takes up the list of a whole domain, on a line, where there are no actions yet.
+/// The actions of the list of a whole domain, on a line.
 #[tactic(auto, unfolding(crate::specs::Domains::root))]
 fn read_root<'a, A: Allocator + Copy>(
     alloc: A,
     line: u32,
     children: Cursor<'a>,
-    actions: &mut Actions<'a, A>,
-) -> Result<(), DomainFault>
-    requires { actions.old ≡ [] }
-    ensures { Gives is_memory (λ _. actions.new) result (root line (row_at children.entry)) }
+) -> Result<Actions<'a, A>, DomainFault>
+    ensures { Returns is_memory (λ actions. actions) result (root line (row_at children.entry)) }
 {
     let Child::Word(_, define, rest) = children.next_child() else {
         return Err(DomainFault::Syntax(line));
@@ -233,26 +221,24 @@ fn read_root<'a, A: Allocator + Copy>(
         return Err(DomainFault::Syntax(line));
     };
     if is_same_word(define, b"define") && is_title(title) {
-        read_parts(alloc, title.skip(), actions)
+        read_parts(alloc, title.skip())
     } else {
         Err(DomainFault::Syntax(line))
     }
 }
 
-/// Takes up the actions of a text, where there are none yet.
+/// The actions of a text.
 #[tactic(auto, unfolding(crate::specs::Domains::domain_of, crate::specs::Domains::domain_of_tree))]
 fn read_actions<'a, A: Allocator + Copy>(
     alloc: A,
     text: &'a [u8],
-    actions: &mut Actions<'a, A>,
-) -> Result<(), DomainFault>
-    requires { actions.old ≡ [] }
-    ensures { Gives is_memory (λ _. actions.new) result (domain_of text.now) }
+) -> Result<Actions<'a, A>, DomainFault>
+    ensures { Returns is_memory (λ actions. actions) result (domain_of text.now) }
 {
     match crate::tree::start(text)?.next_child() {
         Child::End(_) => Err(DomainFault::Syntax(1)),
         Child::Word(line, _, _) => Err(DomainFault::Syntax(line)),
-        Child::Group(line, children) => read_root(alloc, line, children, actions),
+        Child::Group(line, children) => read_root(alloc, line, children),
     }
 }
 
@@ -262,14 +248,13 @@ impl<'a, A: Allocator + Copy> Domain<'a, A> {
     #[tactic(auto, using(crate::proofs::Causes::cause_of))]
     pub fn read(alloc: A, text: &'a [u8]) -> Result<Domain<'a, A>, DomainFault>
         // The domain that the text means, or its first fault.
-        ensures given { Gives is_memory (λ domain. domain.actions) result (domain_of text.now) }
+        ensures given { Returns is_memory (λ domain. domain.actions) result (domain_of text.now) }
         ensures text { IfOk result (λ domain. domain.text ≡ text.now) }
 
         // The text is too long, or its bytes have the fault, or it does not begin as a domain does, or the first part with a fault has it.
-        ensures cause { IfErr result (IsCause text.now) }
+        ensures cause { IfErr result (IsDomainCause text.now) }
     {
-        let mut actions = Actions::new(alloc);
-        read_actions(alloc, text, &mut actions)?;
+        let actions = read_actions(alloc, text)?;
         Ok(Domain { text, actions })
     }
 

@@ -1,9 +1,7 @@
 //! Why a text is no domain.
 
 ghost use Rattle.std.specs.Prelude.{◌≡◌};
-ghost use Rattle.stn_pddl.specs.declared.fault.DomainFault.TheVariants.{Memory};
-ghost use Rattle.stn_pddl.specs.Faults.{of_tree};
-ghost use Rattle.stn_pddl.specs.Failures.{domain_failure};
+ghost use Rattle.stn_pddl.specs.{declared.fault.DomainFault.TheVariants.Memory, Faults.of_tree, Failures.domain_failure};
 
 use crate::tree::TreeFault;
 use std::alloc::AllocError;

@@ -1,10 +1,8 @@
 //! The keys of an action with their values, its parameters and its duration.
 
 ghost use Rattle.std.specs.Prelude.{◌≡◌, []};
-ghost use Rattle.stn_text.specs.Faults.{Gives};
-ghost use Rattle.stn_pddl.specs.Tree.Cursors.{row_at};
-ghost use Rattle.stn_pddl.specs.Faults.{is_memory};
-ghost use Rattle.stn_pddl.specs.Views.{words_of};
+ghost use Rattle.stn_text.specs.Faults.{Returns};
+ghost use Rattle.stn_pddl.specs.{Tree.Cursors.row_at, Faults.is_memory, Views.words_of};
 ghost use Rattle.stn_pddl.specs.Fields as spec;
 
 use crate::action::Names;
@@ -20,7 +18,7 @@ pub fn read_parameters<'a, A: Allocator + Copy>(
     children: Cursor<'a>,
     names: &mut Names<'a, A>,
 ) -> Result<(), DomainFault>
-    ensures { Gives is_memory (λ _. words_of names.new.keys) result
+    ensures { Returns is_memory (λ _. words_of names.new.keys) result
         (spec.parameters (row_at children.entry) (words_of names.old.keys)) }
 {
     let mut cursor = children;
@@ -52,7 +50,7 @@ pub fn read_parameters<'a, A: Allocator + Copy>(
 /// A constant duration on a line.
 #[tactic(auto, unfolding(crate::specs::Fields::constant))]
 fn read_constant(line: u32, word: &[u8]) -> Result<Ms, DomainFault>
-    ensures { Gives is_memory (λ time. time) result (spec.constant line word.now) }
+    ensures { Returns is_memory (λ time. time) result (spec.constant line word.now) }
 {
     match Ms::read(word) {
         Ok(time) => {
@@ -69,7 +67,7 @@ fn read_constant(line: u32, word: &[u8]) -> Result<Ms, DomainFault>
 /// The duration that a list on a line says.
 #[tactic(auto, unfolding(crate::specs::Fields::duration))]
 pub fn read_duration(line: u32, children: Cursor<'_>) -> Result<Ms, DomainFault>
-    ensures { Gives is_memory (λ time. time) result (spec.duration line (row_at children.entry)) }
+    ensures { Returns is_memory (λ time. time) result (spec.duration line (row_at children.entry)) }
 {
     let Child::Word(_, equal, rest) = children.next_child() else {
         return Err(DomainFault::Unsupported(line));
@@ -108,11 +106,9 @@ pub struct Values<'a> {
 
 impl<'a> Values<'a> {
     ghost use Rattle.std.specs.Prelude.{◌≡◌, is_some};
-    ghost use Rattle.stn_text.specs.Faults.{Gives};
-    ghost use Rattle.stn_pddl.specs.Tree.Cursors.{row_at};
-    ghost use Rattle.stn_pddl.specs.Faults.{is_memory};
+    ghost use Rattle.stn_text.specs.Faults.{Returns};
+    ghost use Rattle.stn_pddl.specs.{Tree.Cursors.row_at, Faults.is_memory, FieldViews.{listing_of, values_of}};
     ghost use Rattle.stn_pddl.specs.Fields as spec;
-    ghost use Rattle.stn_pddl.specs.FieldViews.{listing_of, values_of};
 
     fn is_known(&self, field: Field) -> bool
         ensures { result ≡ is_some (spec.value_of field (values_of self.now)) }
@@ -152,7 +148,7 @@ impl<'a> Values<'a> {
     /// The values of the keys of a row.
     #[tactic(auto, unfolding(crate::specs::Fields::fields, crate::specs::Fields::field_value))]
     pub fn read(children: Cursor<'a>) -> Result<Values<'a>, DomainFault>
-        ensures { Gives is_memory values_of result (spec.fields (row_at children.entry) spec.no_values) }
+        ensures { Returns is_memory values_of result (spec.fields (row_at children.entry) spec.no_values) }
     {
         let mut values = Values {
             parameters: None,

@@ -1,17 +1,12 @@
 //! Laws of domains, each the contract of a function that does nothing.
 
 ghost use Rattle.std.specs.Prelude.{◌≡◌, ◌↔◌, ℕ, false, List, Err};
-ghost use Rattle.stn_pddl.specs.Tree.Names.{folded};
-ghost use Rattle.stn_pddl.specs.declared.fault.DomainFault.{DomainFault};
-ghost use Rattle.stn_pddl.specs.Faults.{is_memory};
-ghost use Rattle.stn_pddl.specs.Domains.{domain_of};
-ghost use Rattle.stn_pddl.specs.Causes.{IsCause};
-ghost use Rattle.stn_pddl.specs.Case.{domain_in_small};
+ghost use Rattle.stn_pddl.specs.{Tree.Names.folded, declared.fault.DomainFault.DomainFault, Faults.is_memory, Domains.domain_of, Causes.IsDomainCause, Case.domain_in_small};
 
 /// The law that a text has a fault exactly where it has the cause of that fault.
 #[tactic(auto, using(crate::proofs::FromCauses::cause_for, crate::proofs::FromCauses::fault_of))]
 pub fn faults_by_cause()
-    ensures { (text : List ℕ) (fault : DomainFault) → is_memory fault ≡ false → (domain_of text ≡ Err fault) ↔ IsCause text fault }
+    ensures { (text : List ℕ) (fault : DomainFault) → is_memory fault ≡ false → (domain_of text ≡ Err fault) ↔ IsDomainCause text fault }
 {}
 
 /// The law that the case of letters changes only the names: a text in small letters is the domain of the text with its names in

@@ -1,7 +1,6 @@
 //! What the words of a domain stand for.
 
-ghost use Rattle.std.specs.Prelude.{◌≡◌};
-ghost use Rattle.std.specs.List.{list_any};
+ghost use Rattle.std.specs.{Prelude.◌≡◌, List.list_any};
 ghost use Rattle.stn_pddl.specs.Tree.Names.{is_same_word};
 ghost use Rattle.stn_pddl.specs.Words as spec;
 
@@ -61,7 +60,7 @@ pub enum Section {
 }
 
 fn begins_with(byte: u8, word: &[u8]) -> bool
-    ensures { result ≡ spec.begins_with byte word.now }
+    ensures { result ≡ spec.begins_with_byte byte word.now }
 {
     match word {
         [] => false,

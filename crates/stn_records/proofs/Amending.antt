@@ -1,12 +1,8 @@
 -- When an amendment is refused, and what it leaves where it is not.
-use Rattle.std.proofs.Common.{◌≡◌, ◌≢◌, ℕ, ◌+◌, ◌≤◌, Bool, true, false, cond, not, ◌||◌, Option, Some, None, is_some, sym, refl, ap, subst, ◌∙◌, arith, ltb}
-use Rattle.std.proofs.{lemmas.Bool.false≢true, lemmas.Bool.false_from_ne_true, lemmas.Bool.le-leb, lemmas.Bool.leb-true, lemmas.Bool.not-false, lemmas.Bool.or_parts, lemmas.Option.same_Some, lemmas.Bool.Decides.nat_tests}
-use Rattle.std.specs.Bool.{Decides}
+use Rattle.std.{proofs.{Common.{◌≡◌, ◌≢◌, ℕ, ◌+◌, ◌≤◌, Bool, true, false, cond, not, ◌||◌, Option, Some, None, is_some, sym, refl, ap, subst, ◌∙◌, arith, ltb}, lemmas.{Bool.{false≢true, false_from_ne_true, le-leb, leb-true, not-false, or_parts, Decides.nat_tests}, Option.same_Some}}, specs.Bool.Decides}
 use Rattle.std.specs.FinMap as fin
 use Rattle.stn_net.specs.Difference.{Difference}
-use Rattle.stn_records.specs.{Id.SiteCounter, Id.same_ids, Record.same_records, Maps.differ, Maps.AgreesAt, ContentLaws.records_decide, ContentLaws.ids_decide, Refusals.clashes, Refusals.is_too_much, Refusals.amend_refusal, Refusals.replace_refusal}
-use Rattle.stn_records.specs.Content.{most_known, Content, IsSound, plain, is_known, known_count, with_amendment}
-use Rattle.stn_records.proofs.{OneItem.amendment_again, Replaced.replaced_by_entry, Limits.amended_count, Outcomes.known_by_replaced, Outcomes.amendment_sound}
+use Rattle.stn_records.{specs.{Id.{SiteCounter, same_ids}, Record.same_records, Maps.{differ, AgreesAt}, ContentLaws.{records_decide, ids_decide}, Refusals.{clashes, is_too_much, amendment_refusal, replace_refusal}, Content.{most_known, Content, IsSound, plain, is_known, known_count, with_amendment}}, proofs.{OneItem.amendment_again, Replaced.replaced_by_entry, Limits.amended_count, Outcomes.{known_by_replaced, amendment_sound}}}
 
 agreed : {X : Type 0} (same : X → X → Bool) → ((x y : X) → Decides (same x y) (x ≡ y)) → (o : Option X) (x : X) → differ same o (Some x) ≡ false → (there : X) → o ≡ Some there → there ≡ x
 agreed same decides None x e there is = absurd (false≢true (ap is_some is))
@@ -35,7 +31,7 @@ skipped : {F : Type 0} (b : Bool) (f : F) (rest : Option F) → b ≡ false → 
 skipped b f rest p q = ap (λ t. cond t (Some f) rest) p ∙ q
 
 -- an amendment that is not refused
-pub amend_unrefused : (s : Content) (id old : SiteCounter) (bound : Difference) → amend_refusal s id old bound ≡ None → (clashes s id old bound ≡ false) × (is_too_much s id old bound ≡ false)
+pub amend_unrefused : (s : Content) (id old : SiteCounter) (bound : Difference) → amendment_refusal s id old bound ≡ None → (clashes s id old bound ≡ false) × (is_too_much s id old bound ≡ false)
 amend_unrefused s id old bound e =
     let first = passed (same_ids id old) _ _ e in
     let second = passed (clashes s id old bound) _ _ first.1 in
@@ -61,7 +57,7 @@ module _ (s : Content) (sound : IsSound s) (id old : SiteCounter) (bound : Diffe
       let most : known_count (with_amendment s id old bound) ≤ most_known = subst (λ t. known_count t ≤ most_known) (amendment_again s id old bound there entry) sound.limited in
       ap not (le-leb (known_count (with_amendment s id old bound)) most_known most)
 
-  pub amend_again : amend_refusal s id old bound ≡ None
+  pub amend_again : amendment_refusal s id old bound ≡ None
   amend_again = skipped (same_ids id old) _ _ differs (skipped (clashes s id old bound) _ _ none_clashes (skipped (not (is_known s old)) _ _ (ap not (known_by_replaced s old (replaced_by_entry s id old entry))) (skipped (is_too_much s id old bound) _ _ fits refl)))
 
   pub replace_again : replace_refusal s id old bound ≡ None

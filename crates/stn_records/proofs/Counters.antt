@@ -1,11 +1,6 @@
 -- The greatest counter of a site, in a list in order and in a content, and the next one.
-use Rattle.std.proofs.Common.{◌≡◌, ℕ, zero, suc, ◌<◌, ◌≤◌, ◌-◌, ◌⊎◌, true, false, cond, max, List, [], ◌∷◌, length, get_or, take, Less, sym, refl, ap, ◌∙◌, arith, eqb, nat_le, ◌+◌, ◌↔◌, ◌++◌, Option, Some, None, subst, ⊎_elim, Result, Ok, Err, IfOk, IsErr}
-use Rattle.std.proofs.{lemmas.List.length-take, lemmas.List.length-take-le, lemmas.List.get_or-take, lemmas.Bool.Decides.nat_tests}
-use Rattle.std.proofs.lemmas.Bool.{false_from_ne_true, leb-true, leb-false, false≢true, cases_lt, eq-eqb, and_parts, or_cases}
-use Rattle.std.specs.{List.Sorted.IsNonDecreasingBy, List.Sorted.IsPartitionPoint, FinMap.is_sorted, Map.keys_of, Option.SomeIff, Option.ok_or, Cmp.Equal-is, Set.is_member}
-use Rattle.stn_records.specs.{Id.SiteCounter, Id.id_cmp, Sorted.IsEndOf, ContentLaws.ids_total, ContentLaws.ids_exact, declared.record.Record.Record}
-use Rattle.stn_records.specs.Content.{greatest_counter, next_counter, Content, same_ids, known_ids, is_known, replaced_set, replaced_ids}
-use Rattle.stn_records.proofs.{Entries.above_at, KnownIds.known_member}
+use Rattle.std.{proofs.{Common.{◌≡◌, ℕ, zero, suc, ◌<◌, ◌≤◌, ◌-◌, ◌⊎◌, true, false, cond, max, List, [], ◌∷◌, length, get_or, take, Less, sym, refl, ap, ◌∙◌, arith, eqb, nat_le, ◌+◌, ◌↔◌, ◌++◌, Option, Some, None, subst, ⊎_elim, Result, Ok, Err, IfOk, IsErr}, lemmas.{List.{length-take, length-take-le, get_or-take}, Bool.{false_from_ne_true, leb-true, leb-false, false≢true, cases_lt, eq-eqb, and_parts, or_cases, Decides.nat_tests}}}, specs.{List.Sorted.{IsNonDecreasingBy, IsPartitionPoint}, FinMap.is_sorted, Map.keys_of, Option.{SomeIff, ok_or}, Cmp.Equal-is, Set.is_member}}
+use Rattle.stn_records.{specs.{Id.{SiteCounter, id_cmp}, Sorted.IsEndOf, ContentLaws.{ids_total, ids_exact}, declared.record.Record.Record, Content.{greatest_counter, next_counter, Content, same_ids, known_ids, is_known, replaced_set, replaced_ids}}, proofs.{Entries.above_at, KnownIds.known_member}}
 use Rattle.std.specs.FinMap as fin
 
 -- a lesser id is of a lesser site, or has a lesser counter

@@ -1,9 +1,6 @@
 -- The count of the ids of four lists in order, by the least first id.
-use Rattle.std.proofs.Common.{◌≡◌, suc, ◌+◌, ◌<◌, ◌≤◌, ◌⊎◌, Bool, true, false, cond, not, ◌&&◌, ◌||◌, List, [], ◌∷◌, ◌++◌, length, Option, Some, None, is_some, slice_get, Less, Equal, Greater, is_eq, is_lt, sym, refl, ap, subst, ◌∙◌, inl, inr, ⊎_elim, arith, length-append}
-use Rattle.std.proofs.{lemmas.List.length-map, Math.Bool.and-or_distrib_right, lemmas.Bool.false≢true, lemmas.Bool.and_right, lemmas.Bool.not_from_true, lemmas.Bool.and_parts, lemmas.Option.same_Some}
-use Rattle.std.specs.{Cmp.Equal-is, Cmp.tied_itself, Cmp.alike_right, Set.distinct_count, Set.is_member, FinMap.is_sorted, FinMap.Entries.below_all, Map.keys_of}
-use Rattle.stn_records.specs.{Id.SiteCounter, Id.id_cmp, Id.lesser_of, Sorted.first_key, Sorted.past_id, Content.same_ids, ContentLaws.ids_total, ContentLaws.ids_exact, ContentLaws.lesser_none}
-use Rattle.stn_records.proofs.{Entries.less_is, Entries.less_back, Entries.greater_back, Entries.below_less, KnownIds.same_count, KnownIds.one_more, KnownIds.member-append}
+use Rattle.std.{proofs.{Common.{◌≡◌, suc, ◌+◌, ◌<◌, ◌≤◌, ◌⊎◌, Bool, true, false, cond, not, ◌&&◌, ◌||◌, List, [], ◌∷◌, ◌++◌, length, Option, Some, None, is_some, slice_get, Less, Equal, Greater, is_eq, is_lt, sym, refl, ap, subst, ◌∙◌, inl, inr, ⊎_elim, arith, length-append}, lemmas.{List.length-map, Bool.{false≢true, and_right, not_from_true, and_parts}, Option.same_Some}, Math.Bool.and-or_distrib_right}, specs.{Cmp.{Equal-is, tied_itself, alike_right}, Set.{distinct_count, is_member}, FinMap.{is_sorted, Entries.below_all}, Map.keys_of}}
+use Rattle.stn_records.{specs.{Id.{SiteCounter, id_cmp, lesser_of}, Sorted.{first_key, past_id}, Content.same_ids, ContentLaws.{ids_total, ids_exact, lesser_none}}, proofs.{Entries.{less_is, less_back, greater_back, below_less}, KnownIds.{same_count, one_more, member-append}}}
 
 -- the id is not above the first id
 abbrev pub NotAbove : SiteCounter → Option SiteCounter → Type 0

@@ -1,10 +1,7 @@
 -- The first id in dispute of two lists, by their first entries.
-use Rattle.std.proofs.Common.{◌≡◌, Bool, true, false, cond, not, List, [], ◌∷◌, Option, Some, None, find, Less, Equal, Greater, is_lt, is_eq, length, ◌⊎◌, ⊎_elim, arith, sym, refl, ap, ◌∙◌}
-use Rattle.std.proofs.lemmas.Bool.{and_parts, and_from}
-use Rattle.std.specs.{Cmp.tied_back, Cmp.tied_itself, FinMap.FinMap, FinMap.is_sorted, FinMap.get-entries, FinMap.Entries.below_all, Map.keys_of}
+use Rattle.std.{proofs.{Common.{◌≡◌, Bool, true, false, cond, not, List, [], ◌∷◌, Option, Some, None, find, Less, Equal, Greater, is_lt, is_eq, length, ◌⊎◌, ⊎_elim, arith, sym, refl, ap, ◌∙◌}, lemmas.Bool.{and_parts, and_from}}, specs.{Cmp.{tied_back, tied_itself}, FinMap.{FinMap, is_sorted, get-entries, Entries.below_all}, Map.keys_of}}
 use Rattle.std.specs.FinMap as fin
-use Rattle.stn_records.specs.{Id.SiteCounter, Id.id_cmp, Maps.differ, Maps.dispute, Sorted.dispute_of, ContentLaws.ids_total, MapLaws.none_found}
-use Rattle.stn_records.proofs.Entries.{less_is, greater_back, tied_less, below_less, find_below, passed_over}
+use Rattle.stn_records.{specs.{Id.{SiteCounter, id_cmp}, Maps.{differ, dispute}, Sorted.dispute_of, ContentLaws.ids_total, MapLaws.none_found}, proofs.Entries.{less_is, greater_back, tied_less, below_less, find_below, passed_over}}
 
 module _ {X : Type 0} (equal : X → X → Bool) where
   -- whether an id has different values in two lists

@@ -1,9 +1,5 @@
 -- A text in two parts around its first dot.
-use Rattle.std.proofs.Common.{◌≡◌, ◌≢◌, ℕ, ◌+◌, ◌<◌, ◌^◌, List, [], ◌∷◌, ◌++◌, length, get_or, take, drop, decimal, All, sym, refl, ap, subst, ◌∙◌, arith, append_assoc, take-append-drop}
-use Rattle.std.proofs.lemmas.List.{drop_more}
-use Rattle.std.proofs.lemmas.List.Elements.{All-head, All-tail, All-nil, All-cons}
-use Rattle.std.proofs.lemmas.Fmt.{decimal_is_IsNumeral}
-use Rattle.std.specs.Str.Parse.{AllDigits}
+use Rattle.std.{proofs.{Common.{◌≡◌, ◌≢◌, ℕ, ◌+◌, ◌<◌, ◌^◌, List, [], ◌∷◌, ◌++◌, length, get_or, take, drop, decimal, All, sym, refl, ap, subst, ◌∙◌, arith, append_assoc, take-append-drop}, lemmas.{List.{drop_more, Elements.{All-head, All-tail, All-nil, All-cons}}, Fmt.decimal_is_IsNumeral}}, specs.Str.Parse.AllDigits}
 use Rattle.stn_records.specs.Id.{SiteCounter, id_text}
 
 abbrev NotDot : ℕ → Type 0

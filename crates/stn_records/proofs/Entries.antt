@@ -1,9 +1,7 @@
 -- Lists of entries whose keys rise: what is found in them, and in their merge.
-use Rattle.std.proofs.Common.{◌≡◌, ℕ, zero, suc, ◌+◌, ◌<◌, ◌≤◌, Bool, true, false, cond, T, List, [], ◌∷◌, ◌++◌, length, get_or, drop, Option, Some, None, Ordering, Less, Equal, Greater, is_lt, is_eq, sym, refl, ap, ◌∙◌, ⊎_elim, arith, add-one, ◌⊎◌, append_assoc, append-nil}
-use Rattle.std.proofs.lemmas.Bool.{false≢true, and_parts, and_from}
-use Rattle.std.specs.{Option.option_or, List.insert, List.IsAllAdjacentAnswer, Prelude.IsTrue, Prelude.◌↔◌, List.Sorted.IsSortedBy, Ordering.eq_by_cmp, Ordering.ordering_reverse, Cmp.IsTotalOrder, Cmp.alike_right, Cmp.tied_back, Cmp.Equal-is, FinMap.FinMap, FinMap.is_sorted, FinMap.put, FinMap.Entries.below_all, FinMap.Entries.by_order}
+use Rattle.std.{proofs.{Common.{◌≡◌, ℕ, zero, suc, ◌+◌, ◌<◌, ◌≤◌, Bool, true, false, cond, T, List, [], ◌∷◌, ◌++◌, length, get_or, drop, Option, Some, None, Ordering, Less, Equal, Greater, is_lt, is_eq, sym, refl, ap, ◌∙◌, ⊎_elim, arith, add-one, ◌⊎◌, append_assoc, append-nil}, lemmas.Bool.{false≢true, and_parts, and_from}}, specs.{Option.option_or, List.{insert, IsAllAdjacentAnswer, Sorted.IsSortedBy}, Prelude.{IsTrue, ◌↔◌}, Ordering.{eq_by_cmp, ordering_reverse}, Cmp.{IsTotalOrder, alike_right, tied_back, Equal-is}, FinMap.{FinMap, is_sorted, put, Entries.{below_all, by_order}}}}
 use Rattle.std.specs.FinMap as fin
-use Rattle.stn_records.specs.{MapLaws.or_after, Sorted.merge, Sorted.merge_from}
+use Rattle.stn_records.specs.{MapLaws.or_after, Sorted.{merge, merge_from}}
 
 -- what the logic takes as true holds
 pub T_true : (b : Bool) → T b → b ≡ true
@@ -54,12 +52,6 @@ module _ {K X : Type 0} {R : K → K → Ordering} (o : IsTotalOrder R) where
   -- an entry before a key is no match for it
   pub passed_over : (q : K) (e : K × X) (es : List (K × X)) → R e.0 q ≡ Less → fin.find R q (e ∷ es) ≡ fin.find R q es
   passed_over q e es l = ap (λ r. cond (is_eq r) (Some e.1) (fin.find R q es)) (less_back o e.0 q l)
-
-  -- a front of one leaves a list in order
-  pub sorted_drop : (i : ℕ) (es : List (K × X)) → is_sorted R es ≡ true → is_sorted R (drop i es) ≡ true
-  sorted_drop zero es h = h
-  sorted_drop (suc i) [] h = h
-  sorted_drop (suc i) (e ∷ es) h = sorted_drop i es (and_parts _ _ h).1
 
   -- each key is less than the next
   rising_on : (es : List (K × X)) → is_sorted R es ≡ true → (k : ℕ) (d : K × X) → suc k < length es → is_lt (R (get_or es k d).0 (get_or es (suc k) d).0) ≡ true

@@ -1,8 +1,5 @@
 -- What is found in the entries of a finite map, and what holds of each of them.
-use Rattle.std.proofs.Common.{◌≡◌, true, false, cond, List, [], ◌∷◌, Some, is_some, Ordering, is_eq, sym, refl, ap, subst, ◌∙◌, All}
-use Rattle.std.specs.{List.AllByRecursion, Ordering.eq_by_cmp, Cmp.IsTotalOrder, Cmp.tied_itself, Cmp.Equal-is, FinMap.Entries.below_all}
-use Rattle.std.proofs.{lemmas.Bool.false≢true, lemmas.Bool.and_parts, lemmas.List.Elements.All-from_recursion, lemmas.List.Elements.recursion_from_All, lemmas.Option.same_Some}
-use Rattle.std.specs.FinMap.{FinMap, IsAntisymmetric, entries, get, get-entries, find, is_sorted}
+use Rattle.std.{proofs.{Common.{◌≡◌, true, false, cond, List, [], ◌∷◌, Some, is_some, Ordering, is_eq, sym, refl, ap, subst, ◌∙◌, All}, lemmas.{Bool.{false≢true, and_parts}, List.Elements.{All-from_recursion, recursion_from_All}, Option.same_Some}}, specs.{List.AllByRecursion, Ordering.eq_by_cmp, Cmp.{IsTotalOrder, tied_itself, Equal-is}, FinMap.{FinMap, IsAntisymmetric, entries, get, get-entries, find, is_sorted, Entries.below_all}}}
 use Rattle.stn_records.proofs.Entries.{in_order, find_below}
 
 module _ {K X : Type 0} {R : K → K → Ordering} (o : IsTotalOrder R) (exact : IsAntisymmetric R) where

@@ -1,13 +1,7 @@
 -- Whether all that one site holds is held by another.
-use Rattle.std.proofs.Common.{◌≡◌, ◌↔◌, Bool, true, false, cond, ◌&&◌, ◌≤◌, List, [], ◌∷◌, Option, Some, None, is_some, option_and_then, Less, Equal, Greater, is_lt, is_eq, sym, refl, ap, subst, ◌∙◌, inl, inr, ⊎_elim}
-use Rattle.std.proofs.lemmas.Bool.{false≢true, and_from, and_parts, not-true, le-leb}
-use Rattle.std.proofs.{lemmas.List.Sums.AllPass-from_list_all, lemmas.List.Sums.list_all-from_AllPass, lemmas.Option.cond_some, lemmas.Option.same_Some}
-use Rattle.std.specs.{Bool.Decides, Prelude.IsTrue, Cmp.tied_back, FinMap.FinMap, FinMap.is_sorted, FinMap.get-entries, FinMap.Entries.below_all}
+use Rattle.std.{proofs.{Common.{◌≡◌, ◌↔◌, Bool, true, false, cond, ◌&&◌, ◌≤◌, List, [], ◌∷◌, Option, Some, None, is_some, option_and_then, Less, Equal, Greater, is_lt, is_eq, sym, refl, ap, subst, ◌∙◌, inl, inr, ⊎_elim}, lemmas.{Bool.{false≢true, and_from, and_parts, not-true, le-leb}, List.Sums.{AllPass-from_list_all, list_all-from_AllPass}, Option.{cond_some, same_Some}}}, specs.{Bool.Decides, Prelude.IsTrue, Cmp.tied_back, FinMap.{FinMap, is_sorted, get-entries, Entries.below_all}}}
 use Rattle.std.specs.FinMap as fin
-use Rattle.stn_records.specs.{Id.SiteCounter, Id.id_cmp, Maps.HasEntries, Sorted.is_there, Sorted.has_entries, Join.passing, JoinLaws.first_step, JoinLaws.join_is}
-use Rattle.stn_records.specs.Content.{Content, addition, withdrawal, replacement, IsPart, most_known, is_within, known_count, dispute_contents, join_contents, taken}
-use Rattle.stn_records.specs.ContentLaws.{ids_total, ids_exact, contents_join, contents_dispute}
-use Rattle.stn_records.proofs.{Entries.less_is, Entries.greater_back, Entries.below_less, Entries.find_below, Entries.passed_over, Gets.entries_from_get, Gets.get_from_entries}
+use Rattle.stn_records.{specs.{Id.{SiteCounter, id_cmp}, Maps.HasEntries, Sorted.{is_there, has_entries}, Join.passing, JoinLaws.{first_step, join_is}, Content.{Content, addition, withdrawal, replacement, IsPart, most_known, is_limited, known_count, dispute_contents, join_contents, content_taken}, ContentLaws.{ids_total, ids_exact, contents_join, contents_dispute}}, proofs.{Entries.{less_is, greater_back, below_less, find_below, passed_over}, Gets.{entries_from_get, get_from_entries}}}
 
 module _ {X : Type 0} (same : X → X → Bool) where
   -- an entry of ours before all of theirs is none of theirs
@@ -48,10 +42,10 @@ module _ {X : Type 0} (same : X → X → Bool) (decides : (x y : X) → Decides
 
 module _ (a b : Content) where
   -- what b holds is what a holds already
-  pub joined_is : taken a b ≡ Some a → join_contents a b ≡ Some a
-  joined_is is = let first = first_step (passing is_within) (join_contents a b) a is in first.1 ∙ ap Some (cond_some _ _ _ first.2).1
+  pub joined_is : content_taken a b ≡ Some a → join_contents a b ≡ Some a
+  joined_is is = let first = first_step (passing is_limited) (join_contents a b) a is in first.1 ∙ ap Some (cond_some _ _ _ first.2).1
 
-  pub held_agrees : taken a b ≡ Some a → dispute_contents a b ≡ None
+  pub held_agrees : content_taken a b ≡ Some a → dispute_contents a b ≡ None
   held_agrees is = none_of (dispute_contents a b) (not-true _ (sym (contents_dispute a b) ∙ ap is_some (joined_is is)))
     where
       none_of : (o : Option SiteCounter) → is_some o ≡ false → o ≡ None
@@ -71,9 +65,9 @@ module _ (a b : Content) where
       of_parts parts (replacement id old) = parts.2 (id, old)
 
   -- and then a take leaves a as it is
-  pub told_taken : known_count a ≤ most_known → IsPart b a ↔ (taken a b ≡ Some a)
+  pub told_taken : known_count a ≤ most_known → IsPart b a ↔ (content_taken a b ≡ Some a)
   told_taken few = (
-    λ inside. ap (option_and_then (passing is_within)) (join_is contents_join a b a (λ item. (inl, λ h. ⊎_elim (λ x. x) (λ x. inside item x) h)))
+    λ inside. ap (option_and_then (passing is_limited)) (join_is contents_join a b a (λ item. (inl, λ h. ⊎_elim (λ x. x) (λ x. inside item x) h)))
         ∙ ap (λ b. cond b (Some a) None) (le-leb (known_count a) most_known few),
     λ is item h. (contents_join.union a b a (joined_is is) item).1 (inr h),
   )

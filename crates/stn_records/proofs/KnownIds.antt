@@ -1,12 +1,7 @@
 -- How many ids are known, each counted once.
-use Rattle.std.proofs.Common.{◌≡◌, suc, ◌≤◌, Bool, true, false, cond, ◌||◌, List, [], ◌∷◌, ◌++◌, length, Option, Some, None, is_some, sym, refl, ap, ◌∙◌, ⊎_elim, arith}
-use Rattle.std.proofs.lemmas.Bool.{false≢true, or_left, or_right, or_cases}
-use Rattle.std.specs.{FinMap.contains_key-keys, Cmp.IsEquivalence, Cmp.eq_by_cmp_equiv, List.IsDistinct, List.AllByRecursion, Set.distinct_count, Set.unique_keys, Set.is_member}
-use Rattle.stn_records.specs.Content.{Content, Item, addition, HasItem, same_ids, known_ids, known_count, is_known, replaced_set, replaced_ids}
-use Rattle.stn_records.specs.{ContentLaws.ids_total, Id.SiteCounter}
-use Rattle.std.proofs.{lemmas.Map.Made.length-le_from_is_member, lemmas.List.Folds.list_any-append}
+use Rattle.std.{proofs.{Common.{◌≡◌, suc, ◌≤◌, Bool, true, false, cond, ◌||◌, List, [], ◌∷◌, ◌++◌, length, Option, Some, None, is_some, sym, refl, ap, ◌∙◌, ⊎_elim, arith}, lemmas.{Bool.{false≢true, or_left, or_right, or_cases}, Map.Made.length-le_from_is_member, List.Folds.list_any-append}}, specs.{FinMap.contains_key-keys, Cmp.{IsEquivalence, eq_by_cmp_equiv}, List.{IsDistinct, AllByRecursion}, Set.{distinct_count, unique_keys, is_member}}}
+use Rattle.stn_records.{specs.{Content.{Content, Item, addition, HasItem, same_ids, known_ids, known_count, is_known, replaced_set, replaced_ids}, ContentLaws.ids_total, Id.SiteCounter}, proofs.Replaced.replaced_fewer}
 use Rattle.std.specs.FinMap as fin
-use Rattle.stn_records.proofs.Replaced.{replaced_fewer}
 
 laws : IsEquivalence same_ids
 laws = eq_by_cmp_equiv ids_total

@@ -1,15 +1,8 @@
 -- How many ids a content knows after a change, and how many two know together.
-use Rattle.std.proofs.Common.{◌≡◌, ◌+◌, ◌<◌, ◌≤◌, Bool, true, false, cond, ◌||◌, List, [], ◌∷◌, ◌++◌, length, Option, Some, None, is_some, is_eq, sym, refl, ap, ◌∙◌, arith, length-append}
-use Rattle.std.proofs.lemmas.Bool.{false≢true, and_parts, or_left, or_right}
-use Rattle.std.specs.{FinMap.contains_key-keys, FinMap.is_sorted, FinMap.get-empty, FinMap.get-insert, Map.keys_of, Option.option_or, FinMap.Entries.below_all, List.IsDistinct, List.AllByRecursion, Set.distinct_count, Set.unique_keys, Set.is_member}
+use Rattle.std.{proofs.{Common.{◌≡◌, ◌+◌, ◌<◌, ◌≤◌, Bool, true, false, cond, ◌||◌, List, [], ◌∷◌, ◌++◌, length, Option, Some, None, is_some, is_eq, sym, refl, ap, ◌∙◌, arith, length-append}, lemmas.{Bool.{false≢true, and_parts, or_left, or_right}, Map.{Made.distinct_count-le, Entries.length-keys_of}}}, specs.{FinMap.{contains_key-keys, is_sorted, get-empty, get-insert, Entries.below_all}, Map.keys_of, Option.option_or, List.{IsDistinct, AllByRecursion}, Set.{distinct_count, unique_keys, is_member}}}
 use Rattle.stn_net.specs.Difference.{Difference}
-use Rattle.stn_records.specs.Content.{most_known, Content, Item, addition, withdrawal, replacement, HasItem, same_ids, known_ids, known_count, known_in_either, is_known, is_replaced, replaced_set, replaced_ids, dispute_contents, joined_contents, part_of, plain, with_record, with_tombstone, with_amendment, no_content, AllAmend}
-use Rattle.stn_records.specs.{ContentLaws.ids_total, ContentLaws.ids_exact, Id.SiteCounter, Id.id_cmp, declared.record.Record.Record, MapLaws.get-union}
-use Rattle.std.proofs.{lemmas.Map.Made.distinct_count-le, lemmas.Map.Entries.length-keys_of}
+use Rattle.stn_records.{specs.{Content.{most_known, Content, Item, addition, withdrawal, replacement, HasItem, same_ids, known_ids, known_count, known_in_either, is_known, is_replaced, replaced_set, replaced_ids, dispute_contents, joined_contents, part_of, plain, with_record, with_tombstone, with_amendment, no_content, AllAmend}, ContentLaws.{ids_total, ids_exact}, Id.{SiteCounter, id_cmp}, declared.record.Record.Record, MapLaws.get-union}, proofs.{Entries.{less_is, in_order}, Proper.retained_value, OneItem.gone, KnownIds.{fewer, same_count, one_more, member-append, known_member, known_fewer, keys_within, there_is}, Replaced.{or_swap, inserted_key, replaced_by_withdrawal, replaced_in_join, replaced_withdrawn, replaced_amended, replaced_of_nothing}}}
 use Rattle.std.specs.FinMap as fin
-use Rattle.stn_records.proofs.{Entries.less_is, Entries.in_order, Proper.retained_value, OneItem.gone}
-use Rattle.stn_records.proofs.KnownIds.{fewer, same_count, one_more, member-append, known_member, known_fewer, keys_within, there_is}
-use Rattle.stn_records.proofs.Replaced.{or_swap, inserted_key, replaced_by_withdrawal, replaced_in_join, replaced_withdrawn, replaced_amended, replaced_of_nothing}
 
 keys_apart : {X : Type 0} (x : SiteCounter) (es : List (SiteCounter × X)) → below_all id_cmp x es ≡ true → AllByRecursion (λ y. same_ids x y ≡ false) (keys_of es)
 keys_apart x [] h = tt

@@ -1,11 +1,7 @@
 -- Contents that are made of lists of entries.
-use Rattle.std.proofs.Common.{◌≡◌, ◌↔◌, ℕ, ◌<◌, length, Bool, true, false, not, ◌&&◌, eqb, List, get_or, Some, sym, refl, ap, ◌∙◌, All}
-use Rattle.std.proofs.{lemmas.Bool.false≢true, lemmas.List.Elements.All-same}
-use Rattle.std.proofs.lemmas.Bool.Decides.{Decides-eqb, Decides-and, Decides-like}
-use Rattle.std.specs.{Bool.Decides, FinMap.get-entries, FinMap.is_sorted, FinMap.same_entries_map, Cmp.tied_itself}
+use Rattle.std.{proofs.{Common.{◌≡◌, ◌↔◌, ℕ, ◌<◌, length, Bool, true, false, not, ◌&&◌, eqb, List, get_or, Some, sym, refl, ap, ◌∙◌, All}, lemmas.{Bool.{false≢true, Decides.{Decides-eqb, Decides-and, Decides-like}}, List.Elements.All-same}}, specs.{Bool.Decides, FinMap.{get-entries, is_sorted, same_entries_map}, Cmp.tied_itself}}
 use Rattle.std.specs.FinMap as fin
-use Rattle.stn_records.specs.{Id.SiteCounter, Id.id_cmp, declared.record.Record.Record, declared.record.Mark.TheVariants.Plain, Content.RecordMap, Content.Content, Content.AllAmend, Content.IsAmendment, ContentLaws.ids_total, ContentLaws.ids_exact}
-use Rattle.stn_records.proofs.{Gets.entries_from_get, Gets.get_from_entries, Entries.in_order, Entries.find_at}
+use Rattle.stn_records.{specs.{Id.{SiteCounter, id_cmp}, declared.record.{Record.Record, Mark.TheVariants.Plain}, Content.{RecordMap, Content, AllAmend, IsAmendment}, ContentLaws.{ids_total, ids_exact}}, proofs.{Gets.{entries_from_get, get_from_entries}, Entries.{in_order, find_at}}}
 
 -- the entry at a place is what its id has
 pub entry_at : (m : RecordMap) (es : List (SiteCounter × Record)) (place : ℕ) (e : SiteCounter × Record) → es ≡ fin.entries m → place < length es → e ≡ get_or es place e → fin.get m e.0 ≡ Some e.1

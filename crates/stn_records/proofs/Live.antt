@@ -1,9 +1,6 @@
 -- The entries of ours whose ids theirs lacks, and the live records among them.
-use Rattle.std.proofs.Common.{◌≡◌, Bool, true, false, ◌&&◌, cond, not, List, [], ◌∷◌, filter, Option, Some, None, is_some, Less, Equal, Greater, is_lt, is_eq, sym, refl, ap, ◌∙◌}
-use Rattle.std.proofs.lemmas.Bool.{and_parts, and_from}
-use Rattle.std.specs.{Cmp.tied_back, FinMap.entries, FinMap.entries_sorted, FinMap.find, FinMap.get, FinMap.get-entries, FinMap.is_sorted, FinMap.Entries.is_sorted-where_key, FinMap.Entries.find-where_key, FinMap.Entries.below_all}
-use Rattle.stn_records.specs.{Content.Content, Content.is_live, Content.is_replaced, Content.live_of, Content.replaced_set, Id.SiteCounter, Id.id_cmp, declared.record.Record.Record, Sorted.without_ids, ContentLaws.ids_total, ContentLaws.ids_exact}
-use Rattle.stn_records.proofs.Entries.{T_true, less_is, greater_back, below_less, below_tied, find_below, passed_over}
+use Rattle.std.{proofs.{Common.{◌≡◌, Bool, true, false, ◌&&◌, cond, not, List, [], ◌∷◌, filter, Option, Some, None, is_some, Less, Equal, Greater, is_lt, is_eq, sym, refl, ap, ◌∙◌}, lemmas.Bool.{and_parts, and_from}}, specs.{Cmp.tied_back, FinMap.{entries, entries_sorted, find, get, get-entries, is_sorted, Entries.{is_sorted-where_key, find-where_key, below_all}}}}
+use Rattle.stn_records.{specs.{Content.{Content, is_live, is_replaced, live_of, replaced_set}, Id.{SiteCounter, id_cmp}, declared.record.Record.Record, Sorted.without_ids, ContentLaws.{ids_total, ids_exact}}, proofs.Entries.{T_true, less_is, greater_back, below_less, below_tied, find_below, passed_over}}
 
 module _ {X Y : Type 0} where
   -- an entry of theirs before all of ours is none of ours

@@ -1,9 +1,6 @@
 -- A content and one item more.
-use Rattle.std.proofs.Common.{◌≡◌, ◌⊎◌, ◌↔◌, true, false, cond, Option, Some, None, is_some, is_eq, sym, refl, ap, ◌∙◌, inl, inr, ⊎_elim}
-use Rattle.std.proofs.lemmas.Bool.{false≢true, cond_both}
-use Rattle.std.specs.{FinMap.FinMap, FinMap.get-empty, FinMap.get-insert, Cmp.Equal-is, Cmp.tied_itself}
-use Rattle.stn_records.specs.Content.{Content, Item, addition, withdrawal, replacement, HasItem, join_contents, plain, with_record, with_tombstone, with_amendment, one_record, one_tombstone, one_amendment}
-use Rattle.stn_records.specs.{ContentLaws.ids_total, ContentLaws.ids_exact, ContentLaws.contents_join, Id.SiteCounter, Id.id_cmp, declared.record.Record.Record, Maps.AgreesAt, JoinLaws.join_is}
+use Rattle.std.{proofs.{Common.{◌≡◌, ◌⊎◌, ◌↔◌, true, false, cond, Option, Some, None, is_some, is_eq, sym, refl, ap, ◌∙◌, inl, inr, ⊎_elim}, lemmas.Bool.{false≢true, cond_both}}, specs.{FinMap.{FinMap, get-empty, get-insert}, Cmp.{Equal-is, tied_itself}}}
+use Rattle.stn_records.specs.{Content.{Content, Item, addition, withdrawal, replacement, HasItem, join_contents, plain, with_record, with_tombstone, with_amendment, one_record, one_tombstone, one_amendment}, ContentLaws.{ids_total, ids_exact, contents_join}, Id.{SiteCounter, id_cmp}, declared.record.Record.Record, Maps.AgreesAt, JoinLaws.join_is}
 use Rattle.std.specs.FinMap as fin
 use Rattle.stn_net.specs.Difference.{Difference}
 

@@ -1,13 +1,8 @@
 -- What each call leaves.
-use Rattle.std.proofs.Common.{◌≡◌, ◌≢◌, ℕ, ◌+◌, ◌<◌, ◌≤◌, ◌↔◌, Bool, true, false, cond, List, length, Some, None, is_some, option_and_then, Equal, sym, refl, ap, subst, ◌∙◌, inl, inr, ⊎_elim, arith, Result, Ok, Err, OnOk, OnErr, IsTrue, le_trans, nat_le}
-use Rattle.std.proofs.lemmas.Bool.{false≢true, cases_lt, leb-true, le-leb, or_right}
+use Rattle.std.{proofs.{Common.{◌≡◌, ◌≢◌, ℕ, ◌+◌, ◌<◌, ◌≤◌, ◌↔◌, Bool, true, false, cond, List, length, Some, None, is_some, option_and_then, Equal, sym, refl, ap, subst, ◌∙◌, inl, inr, ⊎_elim, arith, Result, Ok, Err, OnOk, OnErr, IsTrue, le_trans, nat_le}, lemmas.Bool.{false≢true, cases_lt, leb-true, le-leb, or_right}}, specs.{FinMap.{get-empty, get-retain_keys}, Set.is_member}}
 use Rattle.std.specs.FinMap as fin
-use Rattle.std.specs.{FinMap.get-empty, FinMap.get-retain_keys, Set.is_member}
 use Rattle.stn_net.specs.Difference.{Difference}
-use Rattle.stn_records.specs.{Id.SiteCounter, Id.id_cmp, Id.same_ids, Record.IsProper, Record.IsProperRecord, declared.record.Record.Record, MapLaws.get-union, MapLaws.either_value, Join.passing, ContentLaws.ids_total, ContentLaws.ids_exact, ContentLaws.contents_undisputed}
-use Rattle.stn_records.specs.Content.{most_known, dispute_contents, taken, is_within, IsSound, IsAmendment, AllAmend, part_of, RecordMap, Content, addition, known_count, known_in_either, is_known, is_replaced, replaced_set, joined_contents, no_content, plain, with_record, with_tombstone, with_amendment}
-use Rattle.stn_records.proofs.{OneItem.gone, OneItem.inserted_value, OneItem.inserted_here, OneItem.kept_value, Replaced.items_back, Replaced.replaced_by_withdrawal, Proper.empty_fits, Proper.insert_fits, Proper.union_fits, Proper.retain_fits, Proper.retained_value}
-use Rattle.stn_records.proofs.Limits.{known_within, together, record_limited, tombstone_limited, part_limited, empty_limited}
+use Rattle.stn_records.{specs.{Id.{SiteCounter, id_cmp, same_ids}, Record.{IsProper, IsProperRecord}, declared.record.Record.Record, MapLaws.{get-union, either_value}, Join.passing, ContentLaws.{ids_total, ids_exact, contents_undisputed}, Content.{most_known, dispute_contents, content_taken, is_limited, IsSound, IsAmendment, AllAmend, part_of, RecordMap, Content, addition, known_count, known_in_either, is_known, is_replaced, replaced_set, joined_contents, no_content, plain, with_record, with_tombstone, with_amendment}}, proofs.{OneItem.{gone, inserted_value, inserted_here, kept_value}, Replaced.{items_back, replaced_by_withdrawal}, Proper.{empty_fits, insert_fits, union_fits, retain_fits, retained_value}, Limits.{known_within, together, record_limited, tombstone_limited, part_limited, empty_limited}}}
 
 -- what a call leaves that changes all or nothing
 pub left_by : {T E : Type 0} (result : Result T E) (P : Content → Type 0) (old new changed : Content) → OnOk result (new ≡ changed) → OnErr result (new ≡ old) → P old → P changed → P new
@@ -104,18 +99,18 @@ not_too_much s t b tells f = elim (cases_lt most_known (known_in_either s t)) [
 ]
 
 -- a join that knows too much is refused
-pub too_many : (s t : Content) → dispute_contents s t ≡ None → most_known < known_in_either s t → taken s t ≡ None
+pub too_many : (s t : Content) → dispute_contents s t ≡ None → most_known < known_in_either s t → content_taken s t ≡ None
 too_many s t none many =
     let wide : most_known < known_count (joined_contents s t) = omega (arith, together s t none, many) in
-    ap (option_and_then (passing is_within)) (contents_undisputed s t none)
+    ap (option_and_then (passing is_limited)) (contents_undisputed s t none)
     ∙ ap (λ b. cond b (Some (joined_contents s t)) None) (lt-leb-false (known_count (joined_contents s t)) most_known wide)
   where
     lt-leb-false : (a b : ℕ) → b < a → nat_le a b ≡ false
     lt-leb-false a b h = elim (nat_le a b) as (λ v. nat_le a b ≡ v → v ≡ false) [ true ↦ λ e. let w : a ≤ b = leb-true a b e in absurd (omega arith) | false ↦ λ e. refl ] refl
 
 -- and one within the limit is what a take leaves
-pub taken_is : (s t all : Content) → dispute_contents s t ≡ None → known_in_either s t ≤ most_known → all ≡ joined_contents s t → taken s t ≡ Some all
+pub taken_is : (s t all : Content) → dispute_contents s t ≡ None → known_in_either s t ≤ most_known → all ≡ joined_contents s t → content_taken s t ≡ Some all
 taken_is s t all none few is =
     let within : known_count (joined_contents s t) ≤ most_known = omega (arith, together s t none, few) in
-    ap (option_and_then (passing is_within)) (contents_undisputed s t none)
+    ap (option_and_then (passing is_limited)) (contents_undisputed s t none)
     ∙ ap (λ b. cond b (Some (joined_contents s t)) None) (le-leb (known_count (joined_contents s t)) most_known within) ∙ ap Some (sym is)

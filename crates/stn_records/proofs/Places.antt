@@ -1,13 +1,7 @@
 -- What a search for an id finds, and what an edit at that place does.
-use Rattle.std.proofs.Common.{◌≡◌, ◌<◌, Bool, Equal, ℕ, zero, suc, is_eq, is_ok, ⊎_elim, true, false, cond, List, [], ◌∷◌, length, get_or, Option, Some, None, Result, Ok, Err, IfOk, IfErr, filter, sym, refl, ap, subst, ◌∙◌, arith, ◌||◌, All}
-use Rattle.std.specs.List.Sorted.{IsSearchInRange, IsBinarySearchResult, IsSorted, IsPermutation}
-use Rattle.std.specs.{Cmp.tied_back, Prelude.IsTrue, Option.option_or, List.insert, Set.is_member, FinMap.Entries.is_sorted-where_key, FinMap.Entries.find-where_key}
-use Rattle.std.proofs.{lemmas.Float.T_from_true, lemmas.List.get_or_default, lemmas.Bool.cases_lt, lemmas.Bool.or_right, lemmas.List.Sorted.searchable_from_sorted, lemmas.List.Sorted.list_any-IsPermutation, lemmas.List.Elements.All-same, lemmas.List.Elements.filter_agree}
+use Rattle.std.{proofs.{Common.{◌≡◌, ◌<◌, Bool, Equal, ℕ, zero, suc, is_eq, is_ok, ⊎_elim, true, false, cond, List, [], ◌∷◌, length, get_or, Option, Some, None, Result, Ok, Err, IfOk, IfErr, filter, sym, refl, ap, subst, ◌∙◌, arith, ◌||◌, All}, lemmas.{Float.T_from_true, List.{get_or_default, Sorted.{searchable_from_sorted, list_any-IsPermutation}, Elements.{All-same, filter_agree}}, Bool.{cases_lt, or_right}}}, specs.{List.{insert, Sorted.{IsSearchInRange, IsBinarySearchResult, IsSorted, IsPermutation}}, Cmp.tied_back, Prelude.IsTrue, Option.option_or, Set.is_member, FinMap.{FinMap, is_sorted, put, entries-from_sorted, get-from_sorted, get-entries, entries-insert, same_entries_map, same_map, get-retain_keys, empty_of_len, len-entries, Entries.{is_sorted-where_key, find-where_key}}}}
 use Rattle.std.specs.FinMap as fin
-use Rattle.std.specs.FinMap.{FinMap, is_sorted, put, entries-from_sorted, get-from_sorted, get-entries, entries-insert, same_entries_map, same_map, get-retain_keys, empty_of_len, len-entries}
-use Rattle.stn_records.specs.{Id.SiteCounter, Id.id_cmp, Sorted.IsPlaceOf, Sorted.IsGapFor, Sorted.merge, Maps.union, Maps.AgreesAt, Maps.AllFit, MapLaws.get-union, Content.same_ids, ContentLaws.ids_total, ContentLaws.ids_exact}
-use Rattle.stn_records.proofs.{OneItem.again, Gets.get_from_entries}
-use Rattle.stn_records.proofs.Entries.{T_true, in_order, less_back, greater_back, neighbours_rise, find_at, find_gap, put_gap, sorted-merge, find-merge}
+use Rattle.stn_records.{specs.{Id.{SiteCounter, id_cmp}, Sorted.{IsPlaceOf, IsGapFor, merge}, Maps.{union, AgreesAt, AllFit}, MapLaws.get-union, Content.same_ids, ContentLaws.{ids_total, ids_exact}}, proofs.{OneItem.again, Gets.get_from_entries, Entries.{T_true, in_order, less_back, greater_back, neighbours_rise, find_at, find_gap, put_gap, sorted-merge, find-merge}}}
 
 alike : (p : SiteCounter → Bool) (q x : SiteCounter) → id_cmp q x ≡ Equal → p x ≡ p q
 alike p q x t = ap p (sym (ids_exact q x t))

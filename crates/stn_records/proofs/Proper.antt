@@ -1,10 +1,7 @@
 -- Which changes of a map keep its values fit.
-use Rattle.std.proofs.Common.{◌≡◌, Bool, true, false, cond, Option, Some, None, is_some, sym, ap, subst, ◌∙◌, ⊎_elim}
-use Rattle.std.proofs.lemmas.Bool.{false≢true}
-use Rattle.std.specs.FinMap.{FinMap, get-empty, get-retain_keys}
+use Rattle.std.{proofs.{Common.{◌≡◌, Bool, true, false, cond, Option, Some, None, is_some, sym, ap, subst, ◌∙◌, ⊎_elim}, lemmas.Bool.false≢true}, specs.FinMap.{FinMap, get-empty, get-retain_keys}}
 use Rattle.std.specs.FinMap as fin
-use Rattle.stn_records.specs.{Id.SiteCounter, Id.id_cmp, Maps.union, Maps.AllFit, MapLaws.get-union, MapLaws.either_value, ContentLaws.ids_total, ContentLaws.ids_exact}
-use Rattle.stn_records.proofs.OneItem.{inserted_value}
+use Rattle.stn_records.{specs.{Id.{SiteCounter, id_cmp}, Maps.{union, AllFit}, MapLaws.{get-union, either_value}, ContentLaws.{ids_total, ids_exact}}, proofs.OneItem.inserted_value}
 
 retained : {X : Type 0} (b : Bool) (o : Option X) (x : X) → cond b o None ≡ Some x → o ≡ Some x
 retained true o x e = e

@@ -1,14 +1,8 @@
 -- An id that is replaced is withdrawn, or some record replaces it.
-use Rattle.std.proofs.Common.{◌≡◌, ◌⊎◌, inl, inr, ⊎_elim, Bool, true, false, cond, ◌||◌, List, [], ◌∷◌, map, ℕ, ◌+◌, ◌<◌, get_or, drop, Option, Some, None, is_some, length, sym, refl, ap, subst, ◌∙◌, All}
-use Rattle.std.proofs.lemmas.Bool.{false≢true, or_left, or_right, or_cases}
-use Rattle.std.proofs.{Math.Bool.or_assoc, lemmas.Bool.Decides.same_from_decides, lemmas.List.drop_more, lemmas.List.Elements.All-head, lemmas.List.Elements.All-tail, lemmas.Option.same_Some}
-use Rattle.std.specs.{Ordering.eq_by_cmp, FinMap.get-insert, FinMap.get-entries, Set.is_member, Option.option_or}
+use Rattle.std.{proofs.{Common.{◌≡◌, ◌⊎◌, inl, inr, ⊎_elim, Bool, true, false, cond, ◌||◌, List, [], ◌∷◌, map, ℕ, ◌+◌, ◌<◌, get_or, drop, Option, Some, None, is_some, length, sym, refl, ap, subst, ◌∙◌, All}, lemmas.{Bool.{false≢true, or_left, or_right, or_cases, Decides.same_from_decides}, List.{drop_more, Elements.{All-head, All-tail}}, Option.same_Some}, Math.Bool.or_assoc}, specs.{Ordering.eq_by_cmp, FinMap.{get-insert, get-entries}, Set.is_member, Option.option_or}}
 use Rattle.std.specs.FinMap as fin
-use Rattle.stn_records.specs.{Id.SiteCounter, Id.id_cmp, Id.same_ids, Maps.union, MapLaws.get-union}
+use Rattle.stn_records.{specs.{Id.{SiteCounter, id_cmp, same_ids}, Maps.union, MapLaws.get-union, Content.{Content, Item, IdSet, ReplacementMap, withdrawal, replacement, HasItem, dispute_contents, joined_contents, is_replaced, replaced_set, with_ids, with_tombstone, with_amendment}, ContentLaws.{ids_total, ids_exact, ids_decide, contents_join, contents_undisputed}}, proofs.{Gets.entries_from_get, Places.nothing_listed, OneItem.{gone, inserted_value, inserted_here, kept_value}}}
 use Rattle.stn_net.specs.Difference.{Difference}
-use Rattle.stn_records.specs.Content.{Content, Item, IdSet, ReplacementMap, withdrawal, replacement, HasItem, dispute_contents, joined_contents, is_replaced, replaced_set, with_ids, with_tombstone, with_amendment}
-use Rattle.stn_records.specs.ContentLaws.{ids_total, ids_exact, ids_decide, contents_join, contents_undisputed}
-use Rattle.stn_records.proofs.{Gets.entries_from_get, Places.nothing_listed, OneItem.gone, OneItem.inserted_value, OneItem.inserted_here, OneItem.kept_value}
 
 pub inserted_key : (m : IdSet) (id q : SiteCounter) → fin.contains_key (fin.insert m id tt) q ≡ (same_ids q id || fin.contains_key m q)
 inserted_key m id q = ap is_some (get-insert ids_total m id tt q) ∙ by (same_ids q id)

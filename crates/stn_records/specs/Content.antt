@@ -1,10 +1,9 @@
 -- What a state holds, as three finite maps.
-use Rattle.std.specs.Prelude.{◌≡◌, ◌≢◌, ℕ, ◌+◌, ◌≤◌, Bool, not, ◌&&◌, ◌||◌, ◌==◌, nat_le, max, length, List, [], ◌∷◌, ◌++◌, filter, All, Option, Some, None, is_some, IsTrue, if◌then◌else◌, refl}
-use Rattle.std.specs.{Coded.Coded, Coded.code_by, Coded.coded×, Set.distinct_count, Set.is_member, FinMap.FinMap}
+use Rattle.std.specs.{Prelude.{◌≡◌, ◌≢◌, ℕ, ◌+◌, ◌≤◌, Bool, not, ◌&&◌, ◌||◌, ◌==◌, nat_le, max, length, List, [], ◌∷◌, ◌++◌, filter, All, Option, Some, None, is_some, IsTrue, if◌then◌else◌, refl}, Coded.{Coded, code_by, coded×}, Set.{distinct_count, is_member}, FinMap.FinMap}
 use base.Stored.{coded_unit}
 use Rattle.std.specs.FinMap as map
 use Rattle.stn_net.specs.Difference.{Difference}
-use Rattle.stn_records.specs.{Id.SiteCounter, Id.id_cmp, Id.coded_id, Id.lesser_of, Record.IsProperRecord, Record.same_records, Record.coded_record, Join.join_within, declared.record.Mark.Mark, declared.record.Mark.TheVariants.Plain, declared.record.Record.Record}
+use Rattle.stn_records.specs.{Id.{SiteCounter, id_cmp, coded_id, lesser_of}, Record.{IsProperRecord, same_records, coded_record}, Join.join_within, declared.record.{Mark.{Mark, TheVariants.Plain}, Record.Record}}
 pub use Rattle.stn_records.specs.Id.{same_ids}
 use Rattle.stn_records.specs.Maps as maps
 
@@ -108,11 +107,11 @@ abbrev pub known_in_either : Content → Content → ℕ
 known_in_either a b = distinct_count same_ids (known_ids a ++ known_ids b)
 
 -- what a take leaves: the join, where it is there and knows no more ids than the most
-abbrev pub is_within : Content → Bool
-is_within s = nat_le (known_count s) most_known
+abbrev pub is_limited : Content → Bool
+is_limited s = nat_le (known_count s) most_known
 
-abbrev pub taken : Content → Content → Option Content
-taken = join_within is_within join_contents
+abbrev pub content_taken : Content → Content → Option Content
+content_taken = join_within is_limited join_contents
 
 -- whether a record is live: it was added, and is not replaced
 abbrev pub is_live : Content → SiteCounter → Bool

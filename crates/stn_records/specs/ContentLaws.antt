@@ -1,16 +1,10 @@
 -- For proofs alone: no public clause cites these words. They stand here since the laws of the trait `Join` name them.
 -- The joins of maps of records, of sets of ids and of contents are the unions of their items.
-use Rattle.std.specs.Prelude.{◌≡◌, ℕ, Bool, true, false, cond, not, ◌↔◌, ◌⊎◌, Option, Some, None, option_and_then, is_some, refl}
-use Rattle.std.specs.{Bool.Decides, Cmp.IsTotalOrder, Cmp.nat_cmp_total, Cmp.Equal-is, Cmp.tied_itself, Ordering.nat_cmp, Ordering.is_eq, Ordering.is_lt, FinMap.FinMap, FinMap.IsAntisymmetric}
+use Rattle.std.{specs.{Prelude.{◌≡◌, ℕ, Bool, true, false, cond, not, ◌↔◌, ◌⊎◌, Option, Some, None, option_and_then, is_some, refl}, Bool.Decides, Cmp.{IsTotalOrder, nat_cmp_total, Equal-is, tied_itself}, Ordering.{nat_cmp, is_eq, is_lt}, FinMap.{FinMap, IsAntisymmetric}}, proofs.{Common.{sym, ap, subst, ◌∙◌}, lemmas.{Bool.{false≢true, Decides.{Decides-eqb, Decides-int_eq, Decides-and, Decides-like}}, Cmp.{on_total, then_total}, Map.Lookups.{exact_pairs, exact_unsigned}}}}
 use Rattle.std.specs.FinMap as map
-use Rattle.std.proofs.Common.{sym, ap, subst, ◌∙◌}
-use Rattle.std.proofs.{lemmas.Bool.false≢true, lemmas.Cmp.on_total, lemmas.Cmp.then_total, lemmas.Map.Lookups.exact_pairs, lemmas.Map.Lookups.exact_unsigned}
-use Rattle.std.proofs.lemmas.Bool.Decides.{Decides-eqb, Decides-int_eq, Decides-and, Decides-like}
 use Rattle.stn_net.specs.Difference.{Difference}
-use Rattle.stn_records.specs.{Id.SiteCounter, Id.id_cmp, Id.same_ids, Id.lesser_of, Record.same_marks, Record.same_bounds, Record.same_records, declared.record.Mark.Mark, declared.record.Record.Record, Join.IsJoin, JoinLaws.commutes, JoinLaws.regroups, JoinLaws.repeats, Maps.same_units, MapLaws.map_join, MapLaws.join_undisputed, MapLaws.undisputed, MapLaws.disputes, MapLaws.chosen}
-use Rattle.stn_records.specs.declared.record.Mark.TheVariants.{Plain, Done}
+use Rattle.stn_records.specs.{Id.{SiteCounter, id_cmp, same_ids, lesser_of}, Record.{same_marks, same_bounds, same_records}, declared.record.{Mark.{Mark, TheVariants.{Plain, Done}}, Record.Record}, Join.IsJoin, JoinLaws.{commutes, regroups, repeats}, Maps.same_units, MapLaws.{map_join, join_undisputed, undisputed, disputes, chosen}, Content.{RecordMap, IdSet, ReplacementMap, Content, Item, addition, withdrawal, replacement, HasItem, dispute_contents, join_contents, joined_contents}}
 use Rattle.stn_records.specs.Maps as maps
-use Rattle.stn_records.specs.Content.{RecordMap, IdSet, ReplacementMap, Content, Item, addition, withdrawal, replacement, HasItem, dispute_contents, join_contents, joined_contents}
 
 -- ids that compare alike are one
 pub ids_exact : IsAntisymmetric id_cmp

@@ -1,6 +1,4 @@
-use Rattle.std.specs.Prelude.{◌≡◌, ◌≢◌, ℕ, ◌≤◌, Bool, List, ◌∷◌, ◌++◌, All, Option, Some, None, if◌then◌else◌, refl}
-use Rattle.std.specs.{Coded.Coded, Coded.code_by, Coded.coded×, Coded.coded_ℕ, declared.cmp.Ordering.Ordering}
-use Rattle.std.specs.Ordering.{nat_cmp, ordering_then, eq_by_cmp, is_lt}
+use Rattle.std.specs.{Prelude.{◌≡◌, ◌≢◌, ℕ, ◌≤◌, Bool, List, ◌∷◌, ◌++◌, All, Option, Some, None, if◌then◌else◌, refl}, Coded.{Coded, code_by, coded×, coded_ℕ}, declared.cmp.Ordering.Ordering, Ordering.{nat_cmp, ordering_then, eq_by_cmp, is_lt}}
 pub use Rattle.stn_text.specs.Names.{SiteCounter, id_text}
 
 -- sites are numbered from 1 to this

@@ -16,17 +16,17 @@ abbrev pub SameItems : {C I : Type 0} → (C → I → Type 0) → List C → Li
 SameItems {I = I} Holds ours theirs = (item : I) → HeldByOne Holds ours item ↔ HeldByOne Holds theirs item
 
 -- takes of contents, in some grouping: a content as it is, or what the first takes leave, which takes what the second leave
-pub data Takes (C : Type 0) : Type 0 where
-  alone : C → Takes C
-  both : Takes C → Takes C → Takes C
+pub data GroupedTakes (C : Type 0) : Type 0 where
+  alone : C → GroupedTakes C
+  both : GroupedTakes C → GroupedTakes C → GroupedTakes C
 
 -- the contents that take part, in their order
-abbrev pub contents_of : {C : Type 0} → Takes C → List C
-contents_of (alone content) = content ∷ []
-contents_of (both ours theirs) = contents_of ours ++ contents_of theirs
+abbrev pub contents_taken : {C : Type 0} → GroupedTakes C → List C
+contents_taken (alone content) = content ∷ []
+contents_taken (both ours theirs) = contents_taken ours ++ contents_taken theirs
 
 -- what the takes leave, where none of them is refused
-abbrev pub outcome_of : {C : Type 0} → (C → C → Option C) → Takes C → Option C
+abbrev pub outcome_of : {C : Type 0} → (C → C → Option C) → GroupedTakes C → Option C
 outcome_of taken (alone content) = Some content
 outcome_of taken (both ours theirs) = option_and_then (λ a. option_and_then (λ b. taken a b) (outcome_of taken theirs)) (outcome_of taken ours)
 

@@ -1,12 +1,8 @@
 -- For proofs alone: no public clause cites these words. They stand here since the laws of the trait `Join` name them.
 -- The laws of a join that is the union of the items.
-use Rattle.std.specs.Prelude.{◌≡◌, ℕ, ◌<◌, Bool, true, false, cond, ◌⊎◌, ◌↔◌, List, [], ◌∷◌, ◌++◌, Option, Some, None, option_and_then, is_some, refl, length, All, Contains}
-use Rattle.std.specs.List.Sorted.{IsPermutation}
-use Rattle.std.proofs.Common.{zero, suc, get_or, arith, sym, ap, subst, ◌∙◌, inl, inr, ⊎_elim}
-use Rattle.std.proofs.{lemmas.Bool.false≢true, lemmas.Option.same_Some}
-use Rattle.std.proofs.lemmas.List.Sorted.{All-permutation, Contains-permutation, IsPermutation-sym}
+use Rattle.std.{specs.{Prelude.{◌≡◌, ℕ, ◌<◌, Bool, true, false, cond, ◌⊎◌, ◌↔◌, List, [], ◌∷◌, ◌++◌, Option, Some, None, option_and_then, is_some, refl, length, All, Contains}, List.Sorted.IsPermutation}, proofs.{Common.{zero, suc, get_or, arith, sym, ap, subst, ◌∙◌, inl, inr, ⊎_elim}, lemmas.{Bool.false≢true, Option.same_Some, List.Sorted.{All-permutation, Contains-permutation, IsPermutation-sym}}}}
 use Rattle.stn_time.proofs.Each.{All-left, All-right}
-use Rattle.stn_records.specs.Join.{join_all, HeldByOne, SameItems, Takes, alone, both, contents_of, outcome_of, passing, join_within, IsJoin}
+use Rattle.stn_records.specs.Join.{join_all, HeldByOne, SameItems, GroupedTakes, alone, both, contents_taken, outcome_of, passing, join_within, IsJoin}
 
 -- two options that give the same values are equal
 pub same_options : {C : Type 0} (o p : Option C) → ((c : C) → o ≡ Some c → p ≡ Some c) → ((c : C) → p ≡ Some c → o ≡ Some c) → o ≡ p
@@ -143,35 +139,35 @@ module _ {C I : Type 0} {Holds : C → I → Type 0} {join : C → C → Option 
     passes c e = ap (λ b. cond b (Some c) None) e
 
     -- what takes leave has the items of the contents, and passes the test
-    left_by_takes : (takes : Takes C) (c : C) → All (λ x. test x ≡ true) (contents_of takes) → outcome_of (join_within test join) takes ≡ Some c → Gathers (contents_of takes) c × (test c ≡ true)
+    left_by_takes : (takes : GroupedTakes C) (c : C) → All (λ x. test x ≡ true) (contents_taken takes) → outcome_of (join_within test join) takes ≡ Some c → Gathers (contents_taken takes) c × (test c ≡ true)
     left_by_takes (alone a) c within e = let is = same_Some a c e in (one_gathers a c is, subst (λ x. test x ≡ true) is (within 0 a (omega arith)))
     left_by_takes (both ours theirs) c within e =
         let first = first_step (λ a. option_and_then (λ b. join_within test join a b) (outcome_of (join_within test join) theirs)) (outcome_of (join_within test join) ours) c e in
         let second = first_step (λ b. join_within test join first.0 b) (outcome_of (join_within test join) theirs) c first.2 in
         let third = first_step (passing test) (join first.0 second.0) c second.2 in
         let last = passed third.0 c third.2 in
-        let a = left_by_takes ours first.0 (All-left (λ x. test x ≡ true) (contents_of ours) (contents_of theirs) within) first.1 in
-        let b = left_by_takes theirs second.0 (All-right (λ x. test x ≡ true) (contents_of ours) (contents_of theirs) within) second.1 in
+        let a = left_by_takes ours first.0 (All-left (λ x. test x ≡ true) (contents_taken ours) (contents_taken theirs) within) first.1 in
+        let b = left_by_takes theirs second.0 (All-right (λ x. test x ≡ true) (contents_taken ours) (contents_taken theirs) within) second.1 in
         let union = j.union first.0 second.0 third.0 third.1 in (
           λ i. (
-            λ h. ⊎_elim (λ x. held_left (contents_of ours) (contents_of theirs) i ((a.0 i).0 x)) (λ x. held_right (contents_of ours) (contents_of theirs) i ((b.0 i).0 x)) ((union i).0 (subst (λ x. Holds x i) (sym last.0) h)),
-            λ h. subst (λ x. Holds x i) last.0 ((union i).1 (⊎_elim (λ x. inl ((a.0 i).1 x)) (λ x. inr ((b.0 i).1 x)) (held_by_either (contents_of ours) (contents_of theirs) i h))),
+            λ h. ⊎_elim (λ x. held_left (contents_taken ours) (contents_taken theirs) i ((a.0 i).0 x)) (λ x. held_right (contents_taken ours) (contents_taken theirs) i ((b.0 i).0 x)) ((union i).0 (subst (λ x. Holds x i) (sym last.0) h)),
+            λ h. subst (λ x. Holds x i) last.0 ((union i).1 (⊎_elim (λ x. inl ((a.0 i).1 x)) (λ x. inr ((b.0 i).1 x)) (held_by_either (contents_taken ours) (contents_taken theirs) i h))),
           ),
           subst (λ x. test x ≡ true) last.0 last.1,
         )
 
     -- below a content that passes the test no take is refused
-    taken_below : (takes : Takes C) (c : C) → All (λ x. test x ≡ true) (contents_of takes) → test c ≡ true → ((i : I) → HeldByOne Holds (contents_of takes) i → Holds c i) → (d : C) × (outcome_of (join_within test join) takes ≡ Some d)
+    taken_below : (takes : GroupedTakes C) (c : C) → All (λ x. test x ≡ true) (contents_taken takes) → test c ≡ true → ((i : I) → HeldByOne Holds (contents_taken takes) i → Holds c i) → (d : C) × (outcome_of (join_within test join) takes ≡ Some d)
     taken_below (alone a) c within fits below = (a, refl)
     taken_below (both ours theirs) c within fits below =
-        let ours_within = All-left (λ x. test x ≡ true) (contents_of ours) (contents_of theirs) within in
-        let theirs_within = All-right (λ x. test x ≡ true) (contents_of ours) (contents_of theirs) within in
-        let a = taken_below ours c ours_within fits (λ i h. below i (held_left (contents_of ours) (contents_of theirs) i h)) in
-        let b = taken_below theirs c theirs_within fits (λ i h. below i (held_right (contents_of ours) (contents_of theirs) i h)) in
+        let ours_within = All-left (λ x. test x ≡ true) (contents_taken ours) (contents_taken theirs) within in
+        let theirs_within = All-right (λ x. test x ≡ true) (contents_taken ours) (contents_taken theirs) within in
+        let a = taken_below ours c ours_within fits (λ i h. below i (held_left (contents_taken ours) (contents_taken theirs) i h)) in
+        let b = taken_below theirs c theirs_within fits (λ i h. below i (held_right (contents_taken ours) (contents_taken theirs) i h)) in
         let in_a = left_by_takes ours a.0 ours_within a.1 in
         let in_b = left_by_takes theirs b.0 theirs_within b.1 in
-        let a_below = λ (i : I) (h : Holds a.0 i). below i (held_left (contents_of ours) (contents_of theirs) i ((in_a.0 i).0 h)) in
-        let b_below = λ (i : I) (h : Holds b.0 i). below i (held_right (contents_of ours) (contents_of theirs) i ((in_b.0 i).0 h)) in
+        let a_below = λ (i : I) (h : Holds a.0 i). below i (held_left (contents_taken ours) (contents_taken theirs) i ((in_a.0 i).0 h)) in
+        let b_below = λ (i : I) (h : Holds b.0 i). below i (held_right (contents_taken ours) (contents_taken theirs) i ((in_b.0 i).0 h)) in
         let d = j.defined a.0 b.0 c a_below b_below in
         let union = j.union a.0 b.0 d.0 d.1 in
         let d_fits = smaller d.0 c (λ i h. ⊎_elim (a_below i) (b_below i) ((union i).0 h)) fits in (
@@ -182,18 +178,18 @@ module _ {C I : Type 0} {Holds : C → I → Type 0} {join : C → C → Option 
         )
 
     -- takes in any order and grouping leave the join of the list, where it is defined and passes the test; else one is refused
-    pub takes_agree : (takes : Takes C) (first : C) (rest : List C) → IsPermutation (contents_of takes) (first ∷ rest) → All (λ x. test x ≡ true) (first ∷ rest) → outcome_of (join_within test join) takes ≡ option_and_then (passing test) (join_all join first rest)
+    pub takes_agree : (takes : GroupedTakes C) (first : C) (rest : List C) → IsPermutation (contents_taken takes) (first ∷ rest) → All (λ x. test x ≡ true) (first ∷ rest) → outcome_of (join_within test join) takes ≡ option_and_then (passing test) (join_all join first rest)
     takes_agree takes first rest p within =
-        let same = same_items_in_any_order (contents_of takes) (first ∷ rest) p in
-        let parts_within = All-permutation (λ x. test x ≡ true) (first ∷ rest) (contents_of takes) (IsPermutation-sym (contents_of takes) (first ∷ rest) p) within in
+        let same = same_items_in_any_order (contents_taken takes) (first ∷ rest) p in
+        let parts_within = All-permutation (λ x. test x ≡ true) (first ∷ rest) (contents_taken takes) (IsPermutation-sym (contents_taken takes) (first ∷ rest) p) within in
         same_options _ _
         (λ c e.
         let left = left_by_takes takes c parts_within e in
-        both_steps (passing test) (join_all join first rest) c (gathered first rest c (regathered (contents_of takes) (first ∷ rest) c same left.0)) ∙ passes c left.1)
+        both_steps (passing test) (join_all join first rest) c (gathered first rest c (regathered (contents_taken takes) (first ∷ rest) c same left.0)) ∙ passes c left.1)
         (λ c e.
         let chain = first_step (passing test) (join_all join first rest) c e in
         let last = passed chain.0 c chain.2 in
-        let all = regathered (first ∷ rest) (contents_of takes) chain.0 (λ i. ((same i).1, (same i).0)) (gathers first rest chain.0 chain.1) in
+        let all = regathered (first ∷ rest) (contents_taken takes) chain.0 (λ i. ((same i).1, (same i).0)) (gathers first rest chain.0 chain.1) in
         let d = taken_below takes chain.0 parts_within last.1 (λ i h. (all i).1 h) in
         let left = left_by_takes takes d.0 parts_within d.1 in
         d.1 ∙ ap Some (j.same d.0 chain.0 (λ i. (λ h. (all i).1 ((left.0 i).0 h), λ h. (left.0 i).1 ((all i).0 h))) ∙ last.0))

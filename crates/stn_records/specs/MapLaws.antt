@@ -1,12 +1,8 @@
 -- For proofs alone: no public clause cites these words. They stand here since the laws of the trait `Join` name them.
 -- The join of two finite maps is the union of their entries.
-use Rattle.std.specs.Prelude.{◌≡◌, Bool, true, false, cond, not, ◌↔◌, ◌⊎◌, List, [], ◌∷◌, map, Option, Some, None, is_some, find, refl}
-use Rattle.std.specs.{declared.cmp.Ordering.Ordering, Bool.Decides, Cmp.IsTotalOrder, Cmp.Equal-is, Option.option_or, Ordering.eq_by_cmp}
-use Rattle.std.specs.FinMap.{FinMap, IsAntisymmetric, get, entries, get-insert, get-entries, same_map}
+use Rattle.std.{specs.{Prelude.{◌≡◌, Bool, true, false, cond, not, ◌↔◌, ◌⊎◌, List, [], ◌∷◌, map, Option, Some, None, is_some, find, refl}, declared.cmp.Ordering.Ordering, Bool.Decides, Cmp.{IsTotalOrder, Equal-is}, Option.option_or, Ordering.eq_by_cmp, FinMap.{FinMap, IsAntisymmetric, get, entries, get-insert, get-entries, same_map}}, proofs.{Common.{sym, ap, subst, ◌∙◌, inl, inr, ⊎_elim}, lemmas.{Bool.false≢true, Option.same_Some}}}
 use Rattle.std.specs.FinMap as fin
-use Rattle.std.proofs.Common.{sym, ap, subst, ◌∙◌, inl, inr, ⊎_elim}
-use Rattle.std.proofs.{lemmas.Bool.false≢true, lemmas.Option.same_Some}
-use Rattle.stn_records.specs.{Join.IsJoin, JoinLaws.same_options, Maps.differ, Maps.with_entries, Maps.union, Maps.dispute, Maps.join, Maps.HasEntry}
+use Rattle.stn_records.specs.{Join.IsJoin, JoinLaws.same_options, Maps.{differ, with_entries, union, dispute, join, HasEntry}}
 
 pub or_after : {X : Type 0} (b : Bool) (x : X) (o p : Option X) → cond b (Some x) (option_or o p) ≡ option_or (cond b (Some x) o) p
 or_after true x o p = refl

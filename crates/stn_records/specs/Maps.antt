@@ -1,6 +1,5 @@
 -- The union of two finite maps, and their join, which is there where the maps agree.
-use Rattle.std.specs.Prelude.{◌≡◌, Bool, true, false, not, List, [], ◌∷◌, Option, Some, None, is_some, find, if◌then◌else◌}
-use Rattle.std.specs.{declared.cmp.Ordering.Ordering, FinMap.FinMap}
+use Rattle.std.specs.{Prelude.{◌≡◌, Bool, true, false, not, List, [], ◌∷◌, Option, Some, None, is_some, find, if◌then◌else◌}, declared.cmp.Ordering.Ordering, FinMap.FinMap}
 use Rattle.std.specs.FinMap as map
 
 -- both values are there, and they differ

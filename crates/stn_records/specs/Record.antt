@@ -1,9 +1,6 @@
-use Rattle.std.specs.Prelude.{◌≡◌, ℕ, ℤ, Bool, true, false, ◌&&◌, ◌==◌, refl}
-use Rattle.std.specs.Ordering.{int_eq}
-use Rattle.std.specs.Coded.{Coded, code_by, coded×, coded_ℕ, coded_ℤ, coded_bool}
+use Rattle.std.specs.{Prelude.{◌≡◌, ℕ, ℤ, Bool, true, false, ◌&&◌, ◌==◌, refl}, Ordering.int_eq, Coded.{Coded, code_by, coded×, coded_ℕ, coded_ℤ, coded_bool}}
 use Rattle.stn_net.specs.Difference.{Difference}
-use Rattle.stn_records.specs.{declared.record.Mark.Mark, declared.record.Record.Record}
-use Rattle.stn_records.specs.declared.record.Mark.TheVariants.{Plain, Done}
+use Rattle.stn_records.specs.declared.record.{Mark.{Mark, TheVariants.{Plain, Done}}, Record.Record}
 
 -- a Done record fixes the time of an event: its bound is from the origin, and its sides are equal
 abbrev pub IsProper : Mark → Difference → Type 0

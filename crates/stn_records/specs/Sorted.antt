@@ -1,8 +1,7 @@
 -- For proofs alone: no public clause cites these words.
 -- Lists of entries in the order of their ids.
-use Rattle.std.specs.Prelude.{◌≡◌, ℕ, ◌<◌, ◌≤◌, Bool, false, not, List, [], ◌∷◌, length, filter, insert, slice_index_or, Option, Some, None, is_some, slice_get, find as first_such, if◌then◌else◌}
-use Rattle.std.specs.{List.list_all, declared.cmp.Ordering.Ordering, Ordering.eq_by_cmp, FinMap.find, FinMap.put, FinMap.Entries.by_order, Map.keys_of}
-use Rattle.stn_records.specs.{Id.SiteCounter, Id.id_cmp, Maps.differ}
+use Rattle.std.specs.{Prelude.{◌≡◌, ℕ, ◌<◌, ◌≤◌, Bool, false, not, List, [], ◌∷◌, length, filter, insert, slice_index_or, Option, Some, None, is_some, slice_get, find as first_such, if◌then◌else◌}, List.list_all, declared.cmp.Ordering.Ordering, Ordering.eq_by_cmp, FinMap.{find, put, Entries.by_order}, Map.keys_of}
+use Rattle.stn_records.specs.{Id.{SiteCounter, id_cmp}, Maps.differ}
 
 -- the first id at which the two have different values
 abbrev pub dispute_of : {X : Type 0} → (X → X → Bool) → List (SiteCounter × X) → List (SiteCounter × X) → Option SiteCounter

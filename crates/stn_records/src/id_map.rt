@@ -1,10 +1,6 @@
-ghost use Rattle.std.specs.Prelude.{◌≡◌, Some, IsTrue, IfOk, IfSome, OnOk, OnErr, ◌↔◌};
-ghost use Rattle.std.specs.Set.{is_member};
-ghost use Rattle.std.specs.FinMap.{is_sorted};
+ghost use Rattle.std.specs.{Prelude.{◌≡◌, Some, IsTrue, IfOk, IfSome, OnOk, OnErr, ◌↔◌}, Set.is_member, FinMap.is_sorted};
 ghost use Rattle.std.specs.FinMap as map;
-ghost use Rattle.stn_records.specs.Id.{id_cmp};
-ghost use Rattle.stn_records.specs.Maps.{union as union_of, dispute as dispute_of, AgreesAt, AllFit, HasEntries};
-ghost use Rattle.stn_records.specs.Content.{same_ids, AllHeld};
+ghost use Rattle.stn_records.specs.{Id.id_cmp, Maps.{union as union_of, dispute as dispute_of, AgreesAt, AllFit, HasEntries}, Content.{same_ids, AllHeld}};
 
 use crate::id::Id;
 use crate::join::{Join, JoinFault};
@@ -33,8 +29,7 @@ pub struct IdMap<X: MapValue, A: Allocator> {
 impl<X: MapValue, A: Allocator> Model for IdMap<X, A> {
     ghost use Rattle.std.specs.Prelude.{IsTrue};
     ghost use Rattle.std.specs.FinMap as map;
-    ghost use Rattle.stn_records.specs.Id.{id_cmp, coded_id};
-    ghost use Rattle.stn_records.specs.Maps.{AllFit};
+    ghost use Rattle.stn_records.specs.{Id.{id_cmp, coded_id}, Maps.AllFit};
 
     ghost Value = { map.FinMap id_cmp X };
 
@@ -174,8 +169,7 @@ impl<X: MapValue, A: Allocator + Copy> IdMap<X, A> {
 }
 
 impl<X: MapValue, A: Allocator + Copy> Join for IdMap<X, A> {
-    ghost use Rattle.stn_records.specs.Maps.{join as join_of, dispute as dispute_of};
-    ghost use Rattle.stn_records.specs.ContentLaws.{maps_commute, maps_regroup, maps_repeat, maps_dispute};
+    ghost use Rattle.stn_records.specs.{Maps.{join as join_of, dispute as dispute_of}, ContentLaws.{maps_commute, maps_regroup, maps_repeat, maps_dispute}};
 
     ghost join = { join_of X.same };
 

@@ -1,6 +1,5 @@
 ghost use Rattle.std.specs.Prelude.{◌≡◌, true, Option, Some, Err, not, is_some, option_and_then, IfOk, OnOk, OnErr};
-ghost use Rattle.stn_records.specs.Id.{SiteCounter};
-ghost use Rattle.stn_records.specs.declared.join.JoinFault.TheVariants.{Memory};
+ghost use Rattle.stn_records.specs.{Id.SiteCounter, declared.join.JoinFault.TheVariants.Memory};
 
 use crate::id::Id;
 use std::alloc::AllocError;

@@ -1,12 +1,7 @@
-ghost use Rattle.std.specs.Prelude.{◌≡◌, List, ◌∷◌, None, Some, true, All, option_and_then};
-ghost use Rattle.std.specs.FinMap.{FinMap};
+ghost use Rattle.std.specs.{Prelude.{◌≡◌, List, ◌∷◌, None, Some, true, All, option_and_then}, FinMap.FinMap, List.Sorted.IsPermutation};
 ghost use Rattle.std.specs.FinMap as map;
 ghost use Rattle.stn_net.specs.Difference.{Difference};
-ghost use Rattle.std.specs.List.Sorted.{IsPermutation};
-ghost use Rattle.stn_records.specs.Join.{Takes, contents_of, outcome_of, passing, join_all, SameItems};
-ghost use Rattle.stn_records.specs.Id.{SiteCounter, id_cmp};
-ghost use Rattle.stn_records.specs.Maps.{HasEntry, join, same_units, union};
-ghost use Rattle.stn_records.specs.Content.{Content, IdSet, HasItem, CountsSame, is_known, is_within, join_contents, known_count, live_of, plain, replaced_count, taken, with_amendment, with_record, with_tombstone};
+ghost use Rattle.stn_records.specs.{Join.{GroupedTakes, contents_taken, outcome_of, passing, join_all, SameItems}, Id.{SiteCounter, id_cmp}, Maps.{HasEntry, join, same_units, union}, Content.{Content, IdSet, HasItem, CountsSame, is_known, is_limited, join_contents, known_count, live_of, plain, replaced_count, content_taken, with_amendment, with_record, with_tombstone}};
 
 use crate::map_value::MapValue;
 
@@ -14,8 +9,8 @@ use crate::map_value::MapValue;
 /// knows at most 4,096 ids; where it is not, one of the takes is refused. A list of states is given
 /// by its first and the rest; each of them knows at most 4,096 ids.
 pub fn takes_agree()
-    ensures { (takes : Takes Content) (first : Content) (rest : List Content) → IsPermutation (contents_of takes) (first ∷ rest) → All (λ state. is_within state ≡ true) (first ∷ rest)
-        → outcome_of taken takes ≡ option_and_then (passing is_within) (join_all join_contents first rest) }
+    ensures { (takes : GroupedTakes Content) (first : Content) (rest : List Content) → IsPermutation (contents_taken takes) (first ∷ rest) → All (λ state. is_limited state ≡ true) (first ∷ rest)
+        → outcome_of content_taken takes ≡ option_and_then (passing is_limited) (join_all join_contents first rest) }
 {}
 
 /// Two lists of states with the same items, additions, withdrawals and replacements, have one join,

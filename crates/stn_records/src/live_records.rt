@@ -1,9 +1,5 @@
-ghost use Rattle.std.specs.Prelude.{◌≡◌, length, IsTrue};
-ghost use Rattle.std.specs.FinMap.{is_sorted};
-ghost use Rattle.std.specs.Iterator.{at_most};
-ghost use Rattle.std.specs.Map.Iter.{TakesFirst};
-ghost use Rattle.stn_records.specs.Id.{id_cmp};
-ghost use Rattle.stn_records.specs.Sorted.{without_ids};
+ghost use Rattle.std.specs.{Prelude.{◌≡◌, length, IsTrue}, FinMap.is_sorted, Iterator.at_most, Map.Iter.TakesFirst};
+ghost use Rattle.stn_records.specs.{Id.id_cmp, Sorted.without_ids};
 
 use crate::id::Id;
 use crate::record::Record;
@@ -20,13 +16,8 @@ pub struct LiveRecords<'a> {
 }
 
 impl<'a> Model for LiveRecords<'a> {
-    ghost use Rattle.std.specs.Prelude.{List, IsTrue};
-    ghost use Rattle.std.specs.FinMap.{is_sorted};
-    ghost use Rattle.std.specs.Coded.{coded_list, coded×};
-    ghost use Rattle.stn_records.specs.Id.{SiteCounter, id_cmp, coded_id};
-    ghost use Rattle.stn_records.specs.Record.{coded_record};
-    ghost use Rattle.stn_records.specs.declared.record.Record.{Record};
-    ghost use Rattle.stn_records.specs.Sorted.{without_ids};
+    ghost use Rattle.std.specs.{Prelude.{List, IsTrue}, FinMap.is_sorted, Coded.{coded_list, coded×}};
+    ghost use Rattle.stn_records.specs.{Id.{SiteCounter, id_cmp, coded_id}, Record.coded_record, declared.record.Record.Record, Sorted.without_ids};
 
     ghost Value = { List (SiteCounter × Record) };
 

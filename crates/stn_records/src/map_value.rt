@@ -1,5 +1,4 @@
-ghost use Rattle.std.specs.Prelude.{◌≡◌, ◌↔◌, Bool, IsTrue};
-ghost use Rattle.std.specs.Bool.{Decides};
+ghost use Rattle.std.specs.{Prelude.{◌≡◌, ◌↔◌, Bool, IsTrue}, Bool.Decides};
 
 use crate::id::Id;
 use crate::record::{Mark, Record};
@@ -27,8 +26,7 @@ pub trait MapValue: Copy {
 
 // A record is fit where it is Plain, or fixes the time of an event.
 impl MapValue for Record {
-    ghost use Rattle.stn_records.specs.Record.{IsProperRecord, same_records};
-    ghost use Rattle.stn_records.specs.ContentLaws.{records_decide};
+    ghost use Rattle.stn_records.specs.{Record.{IsProperRecord, same_records}, ContentLaws.records_decide};
 
     ghost same = { same_records };
 
@@ -51,8 +49,7 @@ impl MapValue for Record {
 }
 
 impl MapValue for Id {
-    ghost use Rattle.stn_records.specs.Id.{same_ids};
-    ghost use Rattle.stn_records.specs.ContentLaws.{ids_decide};
+    ghost use Rattle.stn_records.specs.{Id.same_ids, ContentLaws.ids_decide};
 
     ghost same = { same_ids };
 
@@ -70,8 +67,7 @@ impl MapValue for Id {
 }
 
 impl MapValue for () {
-    ghost use Rattle.stn_records.specs.Maps.{same_units};
-    ghost use Rattle.stn_records.specs.ContentLaws.{units_decide};
+    ghost use Rattle.stn_records.specs.{Maps.same_units, ContentLaws.units_decide};
 
     ghost same = { same_units };
 

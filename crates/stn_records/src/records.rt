@@ -1,9 +1,6 @@
 ghost use Rattle.std.specs.Prelude.{◌≡◌, ◌≢◌, cond, ◌+◌, ◌<◌, ◌≤◌, ◌↔◌, IsTrue, Some, None, true, false, map, slice_get, option_map, unwrap_or, is_some, IfOk, IfErr, IfSome, IsOk, Err, IsErr, IsErrOf, OnOk, OnErr};
 ghost use Rattle.std.specs.FinMap as fin;
-ghost use Rattle.stn_records.specs.Id.{most_counter, SiteCounter, id_cmp};
-ghost use Rattle.stn_records.specs.Record.{IsProper};
-ghost use Rattle.stn_records.specs.Content.{most_known, Content, IsSound, IsPart, AllHeld, no_content, one_record, one_tombstone, one_amendment, with_record, with_tombstone, with_amendment, plain, is_known as is_known_in, is_live as is_live_in, is_replaced as is_replaced_in, AllProper, known_count, known_in_either, live_of, listed, next_counter as next_counter_of, part_of, replaced_set, dispute_contents, join_contents, taken as taken_of};
-ghost use Rattle.stn_records.specs.Refusals.{add_refusal, withdraw_refusal, bury_refusal, take_refusal, amend_refusal as amend_refusal_of, replace_refusal as replace_refusal_of, clashes as clashes_in, is_too_much};
+ghost use Rattle.stn_records.specs.{Id.{most_counter, SiteCounter, id_cmp}, Record.IsProper, Content.{most_known, Content, IsSound, IsPart, AllHeld, no_content, one_record, one_tombstone, one_amendment, with_record, with_tombstone, with_amendment, plain, is_known as is_known_in, is_live as is_live_in, is_replaced as is_replaced_in, AllProper, known_count, known_in_either, live_of, listed, next_counter as next_counter_of, part_of, replaced_set, dispute_contents, join_contents, content_taken as taken_of}, Refusals.{addition_refusal, withdrawal_refusal, bury_refusal, join_refusal, amendment_refusal as amend_refusal_of, replace_refusal as replace_refusal_of, clashes as clashes_in, is_too_much}};
 
 use crate::MOST_KNOWN;
 use crate::faults::{CounterSpent, PartFault, RecordsFault};
@@ -101,8 +98,8 @@ impl<A: Allocator + Copy> Records<A> {
         ensures joined { OnOk result (join_contents self.old (one_record id (record { mark = mark; bound = bound })) ≡ Some self.new) }
         ensures again { fin.get self.old.additions id ≡ Some (record { mark = mark; bound = bound }) → IsOk result × (self.new ≡ self.old) }
 
-        ensures accepted { OnOk result (add_refusal self.old id (record { mark = mark; bound = bound }) ≡ None) }
-        ensures fault { IfErr result (λ fault. fault ≡ unwrap_or (add_refusal self.old id (record { mark = mark; bound = bound })) RecordsFault.Memory) }
+        ensures accepted { OnOk result (addition_refusal self.old id (record { mark = mark; bound = bound }) ≡ None) }
+        ensures fault { IfErr result (λ fault. fault ≡ unwrap_or (addition_refusal self.old id (record { mark = mark; bound = bound })) RecordsFault.Memory) }
         ensures kept { OnErr result (self.new ≡ self.old) }
     {
         let added = Record { mark, bound };
@@ -134,8 +131,8 @@ impl<A: Allocator + Copy> Records<A> {
         ensures joined { OnOk result (join_contents self.old (one_tombstone id) ≡ Some self.new) }
         ensures again { fin.contains_key self.old.tombstones id ≡ true → IsOk result × (self.new ≡ self.old) }
 
-        ensures accepted { OnOk result (withdraw_refusal self.old id ≡ None) }
-        ensures fault { IfErr result (λ fault. fault ≡ unwrap_or (withdraw_refusal self.old id) RecordsFault.Memory) }
+        ensures accepted { OnOk result (withdrawal_refusal self.old id ≡ None) }
+        ensures fault { IfErr result (λ fault. fault ≡ unwrap_or (withdrawal_refusal self.old id) RecordsFault.Memory) }
         ensures kept { OnErr result (self.new ≡ self.old) }
     {
         if !self.is_known(id) {
@@ -244,8 +241,8 @@ impl<A: Allocator + Copy> Records<A> {
         ensures joined { IfOk result (λ all. join_contents self.now other.now ≡ Some all) }
         ensures taken { IfOk result (λ all. taken_of self.now other.now ≡ Some all) }
 
-        ensures accepted { OnOk result (take_refusal self.now other.now ≡ None) }
-        ensures fault { IfErr result (λ fault. fault ≡ unwrap_or (take_refusal self.now other.now) RecordsFault.Memory) }
+        ensures accepted { OnOk result (join_refusal self.now other.now ≡ None) }
+        ensures fault { IfErr result (λ fault. fault ≡ unwrap_or (join_refusal self.now other.now) RecordsFault.Memory) }
         ensures refused { IfErr result (λ fault. fault ≢ RecordsFault.Memory → taken_of self.now other.now ≡ None) }
     {
         if let Some(id) = self.state.dispute(&other.state) {
@@ -266,8 +263,8 @@ impl<A: Allocator + Copy> Records<A> {
         ensures joined { OnOk result (join_contents self.old other.now ≡ Some self.new) }
         ensures taken { OnOk result (taken_of self.old other.now ≡ Some self.new) }
 
-        ensures accepted { OnOk result (take_refusal self.old other.now ≡ None) }
-        ensures fault { IfErr result (λ fault. fault ≡ unwrap_or (take_refusal self.old other.now) RecordsFault.Memory) }
+        ensures accepted { OnOk result (join_refusal self.old other.now ≡ None) }
+        ensures fault { IfErr result (λ fault. fault ≡ unwrap_or (join_refusal self.old other.now) RecordsFault.Memory) }
         ensures refused { IfErr result (λ fault. fault ≢ RecordsFault.Memory → taken_of self.old other.now ≡ None) }
         ensures kept { OnErr result (self.new ≡ self.old) }
     {

@@ -1,12 +1,6 @@
 // Lists of entries in the order of their ids.
-ghost use Rattle.std.specs.Prelude.{◌≡◌, ◌↔◌, ◌+◌, ◌^◌, ◌<◌, ◌++◌, All, IsTrue, IfOk, IfErr, length, filter};
-ghost use Rattle.std.specs.Set.{distinct_count, is_member};
-ghost use Rattle.std.specs.List.Sorted.{IsSorted};
-ghost use Rattle.std.specs.Map.{keys_of};
-ghost use Rattle.std.specs.FinMap.{is_sorted};
-ghost use Rattle.stn_records.specs.Id.{id_cmp, lesser_of};
-ghost use Rattle.stn_records.specs.Content.{same_ids, greatest_counter as greatest_of};
-ghost use Rattle.stn_records.specs.Sorted.{dispute_of, first_key, has_entries as has_entries_of, IsPlaceOf, IsGapFor, IsEndOf, merge, past_id};
+ghost use Rattle.std.specs.{Prelude.{◌≡◌, ◌↔◌, ◌+◌, ◌^◌, ◌<◌, ◌++◌, All, IsTrue, IfOk, IfErr, length, filter}, Set.{distinct_count, is_member}, List.Sorted.IsSorted, Map.keys_of, FinMap.is_sorted};
+ghost use Rattle.stn_records.specs.{Id.{id_cmp, lesser_of}, Content.{same_ids, greatest_counter as greatest_of}, Sorted.{dispute_of, first_key, has_entries as has_entries_of, IsPlaceOf, IsGapFor, IsEndOf, merge, past_id}};
 
 use crate::id::{Id, Site};
 use crate::map_value::MapValue;

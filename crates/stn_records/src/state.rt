@@ -1,10 +1,6 @@
 ghost use Rattle.std.specs.Prelude.{◌≡◌, ◌≤◌, ◌≢◌, ◌↔◌, cond, false, Some, None, All, IfOk, IsTrue, OnOk, OnErr};
 ghost use Rattle.std.specs.FinMap as map;
-ghost use Rattle.stn_records.specs.Id.{id_cmp};
-ghost use Rattle.stn_records.specs.Record.{IsProper};
-ghost use Rattle.stn_records.specs.Maps.{AgreesAt, differ};
-ghost use Rattle.stn_records.specs.Refusals.{amend_refusal as amend_refusal_of, replace_refusal as replace_refusal_of, clashes as clashes_in, is_too_much};
-ghost use Rattle.stn_records.specs.Content.{Content, no_content, dispute_contents, join_contents, joined_contents, is_known as is_known_in, is_replaced as is_replaced_in, known_count, part_of, replaced_set, with_amendment, with_record, with_tombstone, with_ids, plain, AllAmend, IsAmendment, IsPart};
+ghost use Rattle.stn_records.specs.{Id.id_cmp, Record.IsProper, Maps.{AgreesAt, differ}, Refusals.{amendment_refusal as amend_refusal_of, replace_refusal as replace_refusal_of, clashes as clashes_in, is_too_much}, Content.{Content, no_content, dispute_contents, join_contents, joined_contents, is_known as is_known_in, is_replaced as is_replaced_in, known_count, part_of, replaced_set, with_amendment, with_record, with_tombstone, with_ids, plain, AllAmend, IsAmendment, IsPart}};
 
 use crate::MOST_KNOWN;
 use crate::faults::RecordsFault;
@@ -274,8 +270,7 @@ impl<A: Allocator + Copy> State<A> {
 }
 
 impl<A: Allocator + Copy> Join for State<A> {
-    ghost use Rattle.stn_records.specs.Content.{dispute_contents, join_contents};
-    ghost use Rattle.stn_records.specs.ContentLaws.{contents_commute, contents_regroup, contents_repeat, contents_dispute};
+    ghost use Rattle.stn_records.specs.{Content.{dispute_contents, join_contents}, ContentLaws.{contents_commute, contents_regroup, contents_repeat, contents_dispute}};
 
     ghost join = { join_contents };
 

@@ -1,7 +1,6 @@
 -- The table of codes: the number that is printed for each cause of a refusal.
 use Rattle.std.specs.Prelude.{ℕ}
-use Rattle.stn_refusal.specs.declared.code.Code.{Code}
-use Rattle.stn_refusal.specs.declared.code.Code.TheVariants.{Malformed, TooFine, OutOfRange, NoEvent, SameEvent, Crossed, Overdue, DomainTooLong, DomainSyntax, DomainTooDeep, DomainUnsupported, DomainNumber, DomainTwice, DomainVariable, PlanTooLong, PlanSyntax, PlanNumber, PlanNegative, PlanTooManySteps, UnknownAction, Arity, DurationDiffers, PastHorizon, BareTooManySteps, Clash, Full, Unknown, CounterSpent, SelfReplace, NotRobust, FrameLength, FrameKind, FrameBody, OldFrame, OtherPlan, Unexpected, LogForm, Reply, LogThere, OldVersion, Line, NoSite, NoPacket, TooManyPackets}
+use Rattle.stn_refusal.specs.declared.code.Code.{Code, TheVariants.{Malformed, TooFine, OutOfRange, NoEvent, SameEvent, Crossed, Overdue, DomainTooLong, DomainSyntax, DomainTooDeep, DomainUnsupported, DomainNumber, DomainTwice, DomainVariable, PlanTooLong, PlanSyntax, PlanNumber, PlanNegative, PlanTooManySteps, UnknownAction, Arity, DurationDiffers, PastHorizon, BareTooManySteps, Clash, Full, Unknown, CounterSpent, SelfReplace, NotRobust, FrameLength, FrameKind, FrameBody, OldFrame, OtherPlan, Unexpected, LogForm, Reply, LogThere, OldVersion, Line, NoSite, NoPacket, TooManyPackets}}
 
 abbrev pub number_of : Code → ℕ
 number_of Malformed = 1

@@ -1,8 +1,7 @@
 -- What is printed for a refusal or a fault.
 use Rattle.std.specs.Prelude.{ℕ, List, [], ◌∷◌, ◌++◌, codes, decimal}
 use Rattle.stn_text.specs.Names.{event_text, id_text}
-use Rattle.stn_refusal.specs.{declared.refusal.Place.Place, declared.refusal.Refusal.Refusal, declared.failure.Fault.Fault}
-use Rattle.stn_refusal.specs.declared.refusal.Place.TheVariants.{Nowhere, Number, Event, Id}
+use Rattle.stn_refusal.specs.declared.{refusal.{Place.{Place, TheVariants.{Nowhere, Number, Event, Id}}, Refusal.Refusal}, failure.Fault.Fault}
 use Rattle.stn_refusal.specs.declared.failure.Fault.TheVariants as fault
 
 -- what stands after the number of a refusal

@@ -1,9 +1,7 @@
 -- Refusals and failures, by their codes and what they name.
 use Rattle.std.specs.Prelude.{ℕ, Option, Some, None}
 use Rattle.stn_text.specs.Names.{SiteCounter}
-use Rattle.stn_refusal.specs.{declared.code.Code.Code, declared.refusal.Place.Place, declared.refusal.Refusal.Refusal, declared.failure.Failure.Failure, declared.failure.Fault.TheVariants.Memory, Codes.number_of}
-use Rattle.stn_refusal.specs.declared.refusal.Place.TheVariants.{Nowhere, Number, Event, Id}
-use Rattle.stn_refusal.specs.declared.failure.Failure.TheVariants.{Refused, Failed}
+use Rattle.stn_refusal.specs.{declared.{code.Code.Code, refusal.{Place.{Place, TheVariants.{Nowhere, Number, Event, Id}}, Refusal.Refusal}, failure.{Failure.{Failure, TheVariants.{Refused, Failed}}, Fault.TheVariants.Memory}}, Codes.number_of}
 
 abbrev pub placed : Code → Place → Refusal
 placed code place = record { code = number_of code; place = place }

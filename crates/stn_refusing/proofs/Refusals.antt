@@ -3,19 +3,11 @@ use Rattle.std.proofs.Common.{◌≡◌, ℕ, List, [], ◌∷◌, refl, ap}
 use seplogic.Ra.Ura.{Ura}
 use mathlib.Core.Bool.{Bool}
 use mir.Val.{Val, vbool, vptr}
-use base.Logic.{SProp, ent, sep, guard, ex, id⊢}
-use base.Fml.{Lft, Share, ftrue, fsep, flft}
-use prog.Memory.{Memory}
-use prog.Routine.{Routine}
-use types.Logic.{Logic, sem}
+use base.{Logic.{SProp, ent, sep, guard, ex, id⊢}, Fml.{Lft, Share, ftrue, fsep, flft}}
+use prog.{Memory.Memory, Routine.Routine}
+use types.{Logic.{Logic, sem}, Kit.{‵, ◌⊛◌, some, later, ◌$◌, ◌∵◌, !, qed, move, keep, use1, split, join, pick, fjoin, feq_i, feq_l, check, await, show, updating, now as at_once, done}}
 use contract.Monad.{Fun}
-use types.Kit.{‵, ◌⊛◌, some, later, ◌$◌, ◌∵◌, !, qed, move, keep, use1, split, join, pick, fjoin, feq_i, feq_l, check, await, show, updating, now as at_once, done}
-use denote.RattleType.{RattleType}
-use denote.Memory.{hidden_shr}
-use denote.Builtin.{u64, bool}
-use denote.Steps.{nothing, only}
-use denote.Triple.Statement.{Contract}
-use denote.Triple.Spec.{triple_of}
+use denote.{RattleType.RattleType, Memory.hidden_shr, Builtin.{u64, bool}, Steps.{nothing, only}, Triple.{Statement.Contract, Spec.triple_of}}
 use Rattle.std.specs.contracts.cell.Cell as CE
 use Rattle.stn_refusing.specs.contracts.refuses as RF
 

@@ -1,9 +1,5 @@
 -- Digits read one after the other.
-use Rattle.std.proofs.Common.{◌≡◌, ℕ, true, false, ◌&&◌, List, length, Some, None, ap, ◌∙◌, ◌<◌, ◌^◌, decimal, arith}
-use Rattle.std.specs.{Prelude.nat_le, Prelude.nat_lt, Str.all_ascii_digits, Str.Parse.digits_value}
-use Rattle.std.proofs.{lemmas.Bool.cond-true, lemmas.Bool.cond-false, lemmas.Bool.and_left, lemmas.Bool.and_right, lemmas.Bool.and_from, lemmas.Bool.Decides.nat_tests}
-use Rattle.std.proofs.lemmas.Fmt.{digits_decimal, digits_value-decimal, length-decimal-le, decimal_nonempty}
-use Rattle.std.proofs.lemmas.Str.Parse.{IsNumeralModel, numerals_by_value, tells_all_ascii_digits}
+use Rattle.std.{proofs.{Common.{◌≡◌, ℕ, true, false, ◌&&◌, List, length, Some, None, ap, ◌∙◌, ◌<◌, ◌^◌, decimal, arith}, lemmas.{Bool.{cond-true, cond-false, and_left, and_right, and_from, Decides.nat_tests}, Fmt.{digits_decimal, digits_value-decimal, length-decimal-le, decimal_nonempty}, Str.Parse.{IsNumeralModel, numerals_by_value, tells_all_ascii_digits}}}, specs.{Prelude.{nat_le, nat_lt}, Str.{all_ascii_digits, Parse.digits_value}}}
 use Rattle.stn_text.specs.Numbers.{number_of}
 
 -- the two tests of digits agree

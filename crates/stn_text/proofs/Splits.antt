@@ -1,7 +1,5 @@
 -- The first line of a text and the first word of a line.
-use Rattle.std.proofs.Common.{◌≡◌, ℕ, suc, ◌+◌, ◌<◌, ◌≤◌, Bool, true, false, cond, not, ltb, List, [], ◌∷◌, ◌++◌, length, take, drop, take-append-drop, Some, None, refl, sym, ap, ◌∙◌, arith, position}
-use Rattle.std.specs.{List.slice_split, List.position_or_len, Prelude.filter}
-use Rattle.std.proofs.{lemmas.Bool.eqb-true, lemmas.Bool.ltb-true, lemmas.Bool.Decides.nat_tests, lemmas.Option.cond_some, Math.Numerals.one-add, lemmas.List.drop_more, lemmas.List.Quantifiers.position-Some, lemmas.List.Sums.fails_before_first, lemmas.List.Splits.length-slice_split, lemmas.List.Splits.slice_split_none, lemmas.List.Splits.slice_split-cons_yes, lemmas.List.Splits.slice_split_first}
+use Rattle.std.{proofs.{Common.{◌≡◌, ℕ, suc, ◌+◌, ◌<◌, ◌≤◌, Bool, true, false, cond, not, ltb, List, [], ◌∷◌, ◌++◌, length, take, drop, take-append-drop, Some, None, refl, sym, ap, ◌∙◌, arith, position}, lemmas.{Bool.{eqb-true, ltb-true, Decides.nat_tests}, Option.cond_some, List.{drop_more, Quantifiers.position-Some, Sums.fails_before_first, Splits.{length-slice_split, slice_split_none, slice_split-cons_yes, slice_split_first}}}, Math.Numerals.one-add}, specs.{List.{slice_split, position_or_len}, Prelude.filter}}
 use Rattle.stn_text.specs.Lines.{is_line_end, is_gap, without_empty_last, is_word, lines_of, words_of, begins_with_gap}
 
 -- where a byte passes, `position` is the length of what stands before it

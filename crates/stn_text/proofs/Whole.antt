@@ -1,6 +1,5 @@
 -- What is left where a text is appended whole or not at all.
-use Rattle.std.proofs.Common.{◌≡◌, ◌∙◌, subst, sym}
-use Rattle.std.specs.Prelude.{Result, Ok, Err, OnOk}
+use Rattle.std.{proofs.Common.{◌≡◌, ◌∙◌, subst, sym}, specs.Prelude.{Result, Ok, Err, OnOk}}
 
 -- what was appended stays, if nothing was taken back
 pub appended_whole : {X T E : Type 0} (outcome result : Result T E) (between new text : X)

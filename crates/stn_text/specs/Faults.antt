@@ -16,6 +16,6 @@ abbrev pub Fails : {F Y : Type 0} → (F → Bool) → F → Result Y F → Type
 Fails is_memory fault meaning = Unless (is_memory fault) (meaning ≡ Err fault)
 
 -- What a function returned, seen by view, is what the meaning gives, unless memory ran out.
-abbrev pub Gives : {F X Y : Type 0} → (F → Bool) → (X → Y) → Result X F → Result Y F → Type 0
-Gives is_memory view (Ok x) meaning = meaning ≡ Ok (view x)
-Gives is_memory view (Err fault) meaning = Fails is_memory fault meaning
+abbrev pub Returns : {F X Y : Type 0} → (F → Bool) → (X → Y) → Result X F → Result Y F → Type 0
+Returns is_memory view (Ok x) meaning = meaning ≡ Ok (view x)
+Returns is_memory view (Err fault) meaning = Fails is_memory fault meaning

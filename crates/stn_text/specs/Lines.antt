@@ -1,6 +1,5 @@
 -- A text by lines and words.
-use Rattle.std.specs.Prelude.{◌≡◌, ◌⊎◌, ℕ, Bool, true, false, ◌||◌, ◌==◌, List, [], ◌∷◌, ◌++◌, filter}
-use Rattle.std.specs.List.{slice_split}
+use Rattle.std.specs.{Prelude.{◌≡◌, ◌⊎◌, ℕ, Bool, true, false, ◌||◌, ◌==◌, List, [], ◌∷◌, ◌++◌, filter}, List.slice_split}
 use Rattle.stn_text.specs.Bytes.{line_feed}
 
 -- the byte LF

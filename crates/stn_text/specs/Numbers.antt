@@ -1,6 +1,5 @@
 -- Numbers of one to five decimal digits.
-use Rattle.std.specs.Prelude.{ℕ, ◌&&◌, List, length, nat_le, nat_lt, Option, Some, None, if◌then◌else◌}
-use Rattle.std.specs.{Str.all_ascii_digits, Str.Parse.digits_value}
+use Rattle.std.specs.{Prelude.{ℕ, ◌&&◌, List, length, nat_le, nat_lt, Option, Some, None, if◌then◌else◌}, Str.{all_ascii_digits, Parse.digits_value}}
 
 -- a number has at most so many digits
 abbrev pub most_digits : ℕ

@@ -1,14 +1,7 @@
 -- The parts of a text: that they are found, and that there is one set of them at most.
-use Rattle.std.proofs.Common.{◌≡◌, ℕ, ◌<◌, ◌≤◌, Bool, true, false, cond, ◌&&◌, List, [], ◌∷◌, ◌++◌, length, take, drop, ℤ, Option, Some, None, Result, Ok, Err, refl, sym, ap, ◌∙◌, subst, ◌↔◌, arith, eqb}
-use Rattle.std.specs.{Char.is_ascii_digit, Char.digit_value, Int.IsInRange, Fmt.sign_text, List.prefix_len, Str.all_ascii_digits, Option.option_map}
-use Rattle.std.specs.Str.Parse.{AllDigits, IsNumeral, starts_with_minus}
-use Rattle.std.proofs.{lemmas.Str.Parse.digit_from_value, lemmas.Bool.false≢true, lemmas.Bool.false_from_ne_true, lemmas.Bool.cond_both, lemmas.Bool.ne_eqb, lemmas.Bool.eqb-true, lemmas.Bool.Decides.nat_tests, lemmas.Int.ints, lemmas.List.take-append-drop, lemmas.List.length-take, lemmas.List.Sums.take_while-cons, lemmas.List.Sums.prefix_len-le-length, Math.Seq.take-append_seam, Math.Seq.drop-append_seam}
-use Rattle.std.proofs.lemmas.Option.{cond_some, none-some, same_Some}
+use Rattle.std.{proofs.{lemmas.{Grind.common_steps, Str.Parse.digit_from_value, Bool.{false≢true, false_from_ne_true, cond_both, ne_eqb, eqb-true, Decides.nat_tests}, Int.ints, List.{take-append-drop, length-take, Sums.{take_while-cons, prefix_len-le-length}}, Option.{cond_some, none-some, same_Some}}, Common.{◌≡◌, ℕ, ◌<◌, ◌≤◌, Bool, true, false, cond, ◌&&◌, List, [], ◌∷◌, ◌++◌, length, take, drop, ℤ, Option, Some, None, Result, Ok, Err, refl, sym, ap, ◌∙◌, subst, ◌↔◌, arith, eqb}}, specs.{Char.{is_ascii_digit, digit_value}, Int.IsInRange, Fmt.sign_text, List.prefix_len, Str.{all_ascii_digits, Parse.{AllDigits, IsNumeral, starts_with_minus}}, Option.option_map}}
 use Rattle.stn_text.proofs.Digits.{own}
-use Rattle.stn_time.specs.Text.{Parts, these_parts, point_text, HasParts, IsTimeForm, is_fine, millis_of, Spells, IsTooFine, IsOutOfRange}
-use Rattle.stn_time.specs.TimeOf.{is_numeral, fraction_of, parts_with, parts_of, time_of_found, time_of, is_within_horizon}
-use Rattle.stn_time.specs.{Time.IsWithinHorizon, declared.reading.TimeFault.TimeFault}
-use Rattle.stn_time.specs.declared.reading.TimeFault.TheVariants.{Malformed, TooFine, OutOfRange}
+use Rattle.stn_time.specs.{Text.{Parts, these_parts, point_text, HasParts, IsTimeForm, is_fine, millis_of, SpellsTime, IsTooFine, IsOutOfRange}, TimeOf.{is_numeral, fraction_of, parts_with, parts_of, time_of_found, time_of, is_within_horizon}, Time.IsWithinHorizon, declared.reading.TimeFault.{TimeFault, TheVariants.{Malformed, TooFine, OutOfRange}}}
 
 -- a byte with a decimal digit's value is a digit, and the other way round
 pub is_ascii_digit-from_value : (c : ℕ) → digit_value c < 10 → is_ascii_digit c ≡ true
@@ -58,13 +51,7 @@ point-fraction_of (c ∷ cs) fraction e =
 
 -- the parts of digits followed by a point and digits
 parts_with-text : (negative : Bool) (whole fraction : List ℕ) → IsNumeral 10 whole → AllDigits 10 fraction → parts_with negative (whole ++ point_text fraction) ≡ Some (these_parts negative whole fraction)
-parts_with-text negative whole fraction numeral digits =
-    let end : prefix_len is_ascii_digit (whole ++ point_text fraction) ≡ length whole = prefix_len-append whole (point_text fraction) numeral.1 (prefix_len-point fraction) in
-    let front : take (length whole) (whole ++ point_text fraction) ≡ whole = take-append_seam whole (point_text fraction) in
-    let back : drop (length whole) (whole ++ point_text fraction) ≡ point_text fraction = drop-append_seam whole (point_text fraction) in
-    let found : fraction_of (point_text fraction) ≡ Some fraction = fraction_of-point fraction digits in
-    let some_digits : eqb (length whole) 0 ≡ false = ne_eqb _ _ (omega (arith, numeral.0)) in
-    rw end (rw some_digits (rw front (rw back (rw found refl))))
+parts_with-text negative whole fraction numeral digits = grind (arith, common_steps, prefix_len-append, prefix_len-point, fraction_of-point, ne_eqb)
 
 -- what parts that were found after the sign say of the bytes there
 record HasBytes (negative : Bool) (bytes : List ℕ) (parts : Parts) : Type 0 where
@@ -120,7 +107,7 @@ pub same_parts : (text : List ℕ) (p q : Parts) → HasParts text p → HasPart
 same_parts text p q a b = same_Some p q (sym (parts_of-form text p a) ∙ parts_of-form text q b)
 
 -- a text spells one number at most
-pub same_millis : (text : List ℕ) (m n : ℤ) → Spells text m → Spells text n → m ≡ n
+pub same_millis : (text : List ℕ) (m n : ℤ) → SpellsTime text m → SpellsTime text n → m ≡ n
 same_millis text m n a b = a.number ∙ (ap millis_of (same_parts text a.parts b.parts a.form b.form) ∙ sym b.number)
 
 within-is : (t : ℤ) → is_within_horizon t ≡ true → IsWithinHorizon t
@@ -131,7 +118,7 @@ is-within t h = grind (arith, ints)
 
 -- the meaning of each answer
 abbrev pub Means : List ℕ → Result ℤ TimeFault → Type 0
-Means text (Ok t) = Spells text t × IsWithinHorizon t
+Means text (Ok t) = SpellsTime text t × IsWithinHorizon t
 Means text (Err Malformed) = ¬ IsTimeForm text
 Means text (Err TooFine) = IsTooFine text
 Means text (Err OutOfRange) = IsOutOfRange text
@@ -142,7 +129,7 @@ means-found text (Some parts) e =
     let form = form-parts_of text parts e in
     cond_both (is_fine parts) _ _ (Means text)
     (λ fine.
-    let spelled : Spells text (millis_of parts) = record { parts = parts; form = form; fine = fine; number = refl } in
+    let spelled : SpellsTime text (millis_of parts) = record { parts = parts; form = form; fine = fine; number = refl } in
     cond_both (is_within_horizon (millis_of parts)) _ _ (Means text)
     (λ within. (spelled, within-is _ within))
     (λ beyond. record { millis = millis_of parts; spelled = spelled; beyond = λ h. false≢true (sym beyond ∙ is-within _ h) }))
@@ -159,12 +146,8 @@ unfolding time_of
 time_of-means text = means-found text (parts_of text) refl
 
 -- each meaning has its answer
-pub time_of-spells : (text : List ℕ) (t : ℤ) → Spells text t → IsWithinHorizon t → time_of text ≡ Ok t
-time_of-spells text t h w =
-    let found : parts_of text ≡ Some h.parts = parts_of-form text h.parts h.form in
-    let fine : is_fine h.parts ≡ true = h.fine in
-    let within : is_within_horizon (millis_of h.parts) ≡ true = ap is_within_horizon (sym h.number) ∙ is-within t w in
-    time_of-found text _ found ∙ rw fine (rw within (ap Ok (sym h.number)))
+pub time_of-spells : (text : List ℕ) (t : ℤ) → SpellsTime text t → IsWithinHorizon t → time_of text ≡ Ok t
+time_of-spells text t h w = grind (arith, common_steps, parts_of-form, is-within, time_of-found)
 
 pub time_of-malformed : (text : List ℕ) → ¬ IsTimeForm text → time_of text ≡ Err Malformed
 time_of-malformed text h = time_of-found text _ refl ∙ malformed-found text (parts_of text) refl h
@@ -174,20 +157,13 @@ time_of-malformed text h = time_of-found text _ refl ∙ malformed-found text (p
     malformed-found text (Some parts) e h = absurd (h (parts, form-parts_of text parts e))
 
 pub time_of-too_fine : (text : List ℕ) → IsTooFine text → time_of text ≡ Err TooFine
-time_of-too_fine text h =
-    let found : parts_of text ≡ Some h.parts = parts_of-form text h.parts h.form in
-    let fine : is_fine h.parts ≡ false = h.too_fine in
-    time_of-found text _ found ∙ rw fine refl
+time_of-too_fine text h = grind (arith, common_steps, parts_of-form, time_of-found)
 
 pub time_of-out_of_range : (text : List ℕ) → IsOutOfRange text → time_of text ≡ Err OutOfRange
-time_of-out_of_range text h =
-    let found : parts_of text ≡ Some h.spelled.parts = parts_of-form text h.spelled.parts h.spelled.form in
-    let fine : is_fine h.spelled.parts ≡ true = h.spelled.fine in
-    let beyond : is_within_horizon (millis_of h.spelled.parts) ≡ false = ap is_within_horizon (sym h.spelled.number) ∙ false_from_ne_true _ (λ e. h.beyond (within-is h.millis e)) in
-    time_of-found text _ found ∙ rw fine (rw beyond refl)
+time_of-out_of_range text h = grind (arith, common_steps, parts_of-form, false_from_ne_true, within-is, time_of-found)
 
 -- what the clauses of `read` say of an answer that is the definition's
-pub read-time : (text : List ℕ) (answer : Result ℤ TimeFault) → answer ≡ time_of text → (t : ℤ) → (answer ≡ Ok t) ↔ (Spells text t × IsWithinHorizon t)
+pub read-time : (text : List ℕ) (answer : Result ℤ TimeFault) → answer ≡ time_of text → (t : ℤ) → (answer ≡ Ok t) ↔ (SpellsTime text t × IsWithinHorizon t)
 read-time text answer same t = (λ e. subst (Means text) (sym same ∙ e) (time_of-means text), λ h. same ∙ time_of-spells text t h.0 h.1)
 
 pub read-malformed : (text : List ℕ) (answer : Result ℤ TimeFault) → answer ≡ time_of text → (answer ≡ Err Malformed) ↔ (¬ IsTimeForm text)

@@ -1,10 +1,6 @@
 -- The printed form of a number of milliseconds spells that number.
-use Rattle.std.proofs.Common.{◌≡◌, ℕ, ◌+◌, ◌*◌, ◌/◌, ◌%◌, ◌^◌, ◌<◌, false, cond, List, [], ◌∷◌, ◌++◌, map, length, ℤ, pos, negsuc, neg_ℤ, Ok, refl, sym, ap, ◌∙◌, arith, eqb, ltb, Result, Err, is_ok, OnOk, codes}
-use Rattle.std.specs.{Prelude.unsigned_abs, Char.digit_value, Int.is_negative, Int.Digits.AllBelowBase, Int.Digits.digits_of, Int.Digits.number_from_digits, Fmt.decimal, Fmt.sign_text, Str.Parse.AllDigits, Str.Parse.IsNumeral, Str.Parse.digits_value}
-use Rattle.std.proofs.{lemmas.List.length-map, lemmas.List.append_assoc, lemmas.Bool.eqb-true, lemmas.Bool.cond_both, lemmas.Bool.Decides.nat_tests, lemmas.Fmt.decimal_digit, lemmas.Fmt.decimal-digits_of}
-use Rattle.std.proofs.lemmas.Int.Digits.{digits_value_is, all_below_base_digits_of, length-digits_of_step, number_digits_of}
-use Rattle.stn_time.specs.{Text.whole_text, Text.three_digits, Text.printed, Text.these_parts, Text.Spells, Text.thousandths_of, TimeOf.time_of, Time.IsWithinHorizon}
-use Rattle.stn_time.proofs.Forms.{time_of-spells}
+use Rattle.std.{proofs.{lemmas.{Grind.common_steps, List.{length-map, append_assoc}, Bool.{eqb-true, cond_both, Decides.nat_tests}, Fmt.{decimal_digit, decimal-digits_of}, Int.Digits.{digits_value_is, all_below_base_digits_of, length-digits_of_step, number_digits_of}}, Common.{◌≡◌, ℕ, ◌+◌, ◌*◌, ◌/◌, ◌%◌, ◌^◌, ◌<◌, false, cond, List, [], ◌∷◌, ◌++◌, map, length, ℤ, pos, negsuc, neg_ℤ, Ok, refl, sym, ap, ◌∙◌, arith, ltb, Result, Err, is_ok, OnOk, codes}}, specs.{Prelude.unsigned_abs, Char.digit_value, Int.{is_negative, Digits.{AllBelowBase, digits_of, number_from_digits}}, Fmt.{decimal, sign_text}, Str.Parse.{AllDigits, IsNumeral, digits_value}}}
+use Rattle.stn_time.{specs.{Text.{whole_text, three_digits, printed, these_parts, SpellsTime, thousandths_of}, TimeOf.time_of, Time.IsWithinHorizon}, proofs.Forms.time_of-spells}
 
 -- the value of a digit's byte
 digit_value-byte : (d : ℕ) → d < 10 → digit_value (48 + d) ≡ d
@@ -28,17 +24,11 @@ whole-positive n h =
 
 -- the whole seconds are a numeral of their number
 pub whole_text-value : (n : ℕ) → IsNumeral 10 (whole_text n) × (digits_value 10 (whole_text n) ≡ n)
-whole_text-value n = cond_both (eqb n 0) _ _ (λ ds. IsNumeral 10 ds × (digits_value 10 ds ≡ n))
-    (λ e. ((omega arith, (omega arith, tt)), sym (eqb-true n 0 e)))
-    (λ e. whole-positive n (grind (arith, nat_tests)))
+whole_text-value n = grind (arith, common_steps, cond_both, eqb-true, whole-positive)
 
 -- three digits are digits, and their value is the number
 pub three_digits-value : (n : ℕ) → n < 1000 → AllDigits 10 (three_digits n) × (thousandths_of (three_digits n) ≡ n)
-three_digits-value n h =
-    let a = digit_value-byte (n / 100) (omega arith) in
-    let b = digit_value-byte (n / 10 % 10) (omega arith) in
-    let c = digit_value-byte (n % 10) (omega arith) in
-    ((omega (arith, a), (omega (arith, b), (omega (arith, c), tt))), omega (arith, a, b, c))
+three_digits-value n h = grind (arith, common_steps, digit_value-byte)
 
 -- a sign and a size are the number
 signed-size : (millis : ℤ) → millis ≡ cond (is_negative millis) (neg_ℤ (pos (unsigned_abs millis))) (pos (unsigned_abs millis))
@@ -46,7 +36,7 @@ signed-size (pos n) = let no_sign : ltb n 0 ≡ false = grind (arith, nat_tests)
 signed-size (negsuc n) = refl
 
 -- the printed form of each number spells it
-pub spells-printed : (millis : ℤ) → Spells (printed millis) millis
+pub spells-printed : (millis : ℤ) → SpellsTime (printed millis) millis
 unfolding printed
 spells-printed millis =
     let n = unsigned_abs millis in
@@ -66,14 +56,10 @@ time_of-printed millis within = time_of-spells (printed millis) millis (spells-p
 
 -- the whole seconds as the formatter of integers writes them
 pub decimal-whole_text : (n : ℕ) → n < 2 ^ 64 → decimal n ≡ whole_text n
-decimal-whole_text n small = cond_both (eqb n 0) _ _ (λ ds. decimal n ≡ ds)
-    (λ e. ap decimal (eqb-true n 0 e) ∙ decimal_digit 0 (omega arith))
-    (λ e. decimal-digits_of n (grind (arith, nat_tests)) small)
+decimal-whole_text n small = grind (arith, common_steps, cond_both, eqb-true, decimal_digit, decimal-digits_of)
 
 -- three pieces appended one after another are the printed form
 pub appends-printed : {E : Type 0} (r : Result (Unit {0}) E) (millis : ℤ) (old sign whole rest one two three : List ℕ) → sign ≡ sign_text (is_negative millis) → whole ≡ decimal (unsigned_abs millis / 1000) → unsigned_abs millis / 1000 < 2 ^ 64 → rest ≡ codes "." ++ three_digits (unsigned_abs millis % 1000) → one ≡ old ++ sign → two ≡ one ++ whole → three ≡ cond (is_ok r) (two ++ rest) two → OnOk r (three ≡ old ++ printed millis)
 unfolding printed
-appends-printed (Ok _) millis old sign whole rest one two three e f small g h i j =
-    let shown : whole ≡ whole_text (unsigned_abs millis / 1000) = f ∙ decimal-whole_text (unsigned_abs millis / 1000) small in
-    rw j (rw i (rw h (rw e (rw shown (rw g (simp append_assoc))))))
+appends-printed (Ok _) millis old sign whole rest one two three e f small g h i j = grind (arith, common_steps, decimal-whole_text, append_assoc)
 appends-printed (Err _) millis old sign whole rest one two three e f small g h i j = tt

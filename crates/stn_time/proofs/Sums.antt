@@ -1,7 +1,5 @@
 -- The numbers that digits write, as the code adds them up.
-use Rattle.std.proofs.Common.{◌≡◌, ℕ, suc, ◌+◌, ◌-◌, ◌*◌, ◌<◌, min, Bool, true, false, cond, ◌&&◌, List, [], ◌∷◌, length, get_or, take, ℤ, pos, neg_ℤ, refl, arith, eqb}
-use Rattle.std.specs.{Char.is_ascii_digit, Char.digit_value, Int.IsInRange, List.prefix_len, Str.all_ascii_digits, Str.Parse.AllDigits, Str.Parse.digits_value}
-use Rattle.std.proofs.{lemmas.Str.Parse.digit_at, lemmas.Int.ints, lemmas.Int.Digits.digits_value_more, lemmas.Bool.Decides.nat_tests}
+use Rattle.std.{proofs.{lemmas.{Grind.common_steps, Str.Parse.digit_at, Int.{ints, Digits.digits_value_more}, Bool.Decides.nat_tests}, Common.{◌≡◌, ℕ, suc, ◌+◌, ◌-◌, ◌*◌, ◌<◌, min, Bool, true, false, cond, ◌&&◌, List, [], ◌∷◌, length, get_or, take, ℤ, pos, neg_ℤ, refl, arith, eqb}}, specs.{Char.{is_ascii_digit, digit_value}, Int.IsInRange, List.prefix_len, Str.{all_ascii_digits, Parse.{AllDigits, digits_value}}}}
 use Rattle.stn_time.specs.{Near.IsNear, TimeOf.is_numeral, declared.reading.TheConstants.BEYOND}
 
 pub digit_value-range : (c : ℕ) → IsInRange 48 57 c → digit_value c ≡ c - 48
@@ -9,10 +7,7 @@ digit_value-range c h = grind (arith, nat_tests)
 
 -- a sum that saturates on the way is the saturated sum
 pub seconds-more : (ds : List ℕ) (i s : ℕ) → AllDigits 10 ds → i < length ds → s ≡ min BEYOND (digits_value 10 (take i ds)) → min (10 * s + (get_or ds i 0 - 48)) BEYOND ≡ min BEYOND (digits_value 10 (take (i + 1) ds))
-seconds-more ds i s digits within e =
-    let more = digits_value_more 10 ds i within in
-    let digit = digit_value-range (get_or ds i 0) (digit_at ds i digits within) in
-    rw e (rw more (rw digit (omega arith)))
+seconds-more ds i s digits within e = grind (arith, common_steps, digits_value_more, digit_value-range, digit_at)
 
 -- the digits reach to the end exactly where there is nothing else
 all-step : (p n : ℕ) (b rest : Bool) → eqb p n ≡ rest → eqb (cond b (1 + p) 0) (suc n) ≡ (b && rest)

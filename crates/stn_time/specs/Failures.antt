@@ -1,8 +1,7 @@
 -- What is printed for a faulty time.
 use Rattle.stn_refusal.specs.declared.code.Code.TheVariants as code
 use Rattle.stn_refusal.specs.{declared.failure.Failure.Failure, Refusals.refused}
-use Rattle.stn_time.specs.declared.reading.TimeFault.{TimeFault}
-use Rattle.stn_time.specs.declared.reading.TimeFault.TheVariants.{Malformed, TooFine, OutOfRange}
+use Rattle.stn_time.specs.declared.reading.TimeFault.{TimeFault, TheVariants.{Malformed, TooFine, OutOfRange}}
 
 abbrev pub time_failure : TimeFault → Failure
 time_failure Malformed = refused code.Malformed

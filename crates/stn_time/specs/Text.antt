@@ -2,8 +2,7 @@
 -- `-0.5` has a `-`, the whole digits `0` and the further digit `5`, and spells -500.
 -- Of std: `IsNumeral 10` is one decimal digit or more and nothing else, `AllDigits 10` allows none, and
 -- `digits_value 10` is the number that decimal digits write.
-use Rattle.std.specs.Prelude.{◌≡◌, ℕ, ◌+◌, ◌*◌, ◌/◌, ◌%◌, Bool, ◌==◌, if◌then◌else◌, List, [], ◌∷◌, ◌++◌, map, take, drop, ℤ, pos, neg_ℤ, unsigned_abs, IsTrue, IsFalse, codes}
-use Rattle.std.specs.{Fmt.sign_text, Int.is_negative, Int.Digits.digits_of, List.list_all, Str.Parse.AllDigits, Str.Parse.IsNumeral, Str.Parse.digits_value}
+use Rattle.std.specs.{Prelude.{◌≡◌, ℕ, ◌+◌, ◌*◌, ◌/◌, ◌%◌, Bool, ◌==◌, if◌then◌else◌, List, [], ◌∷◌, ◌++◌, map, take, drop, ℤ, pos, neg_ℤ, unsigned_abs, IsTrue, IsFalse, codes}, Fmt.sign_text, Int.{is_negative, Digits.digits_of}, List.list_all, Str.Parse.{AllDigits, IsNumeral, digits_value}}
 use Rattle.stn_time.specs.Time.{IsWithinHorizon}
 
 -- the parts of a time text: whether a `-` stands first, the digits of the whole seconds, and the digits after the
@@ -53,7 +52,7 @@ abbrev pub millis_of : Parts → ℤ
 millis_of parts = if parts.negative then neg_ℤ (pos (size_of parts)) else pos (size_of parts)
 
 -- the text is a time text, and spells this number of milliseconds, however large
-pub record Spells (text : List ℕ) (millis : ℤ) : Type 0 where
+pub record SpellsTime (text : List ℕ) (millis : ℤ) : Type 0 where
   pub parts : Parts
   pub form : HasParts text parts
   pub fine : IsTrue (is_fine parts)
@@ -68,7 +67,7 @@ pub record IsTooFine (text : List ℕ) : Type 0 where
 -- the text spells a number of milliseconds beyond the horizon
 pub record IsOutOfRange (text : List ℕ) : Type 0 where
   pub millis : ℤ
-  pub spelled : Spells text millis
+  pub spelled : SpellsTime text millis
   pub beyond : ¬ IsWithinHorizon millis
 
 -- the decimal digits of a number: `0` for zero, else without leading zeros

@@ -1,7 +1,5 @@
-ghost use Rattle.std.specs.Prelude.{◌≡◌, ◌++◌, ◌<◌, OnOk, OnErr, codes, take, vec_len};
-ghost use Rattle.std.specs.Fmt.{sign_text};
-ghost use Rattle.stn_time.specs.Text.{Spells, printed, three_digits};
-ghost use Rattle.stn_time.specs.TimeOf.{time_of};
+ghost use Rattle.std.specs.{Prelude.{◌≡◌, ◌++◌, ◌<◌, OnOk, OnErr, codes, take, vec_len}, Fmt.sign_text};
+ghost use Rattle.stn_time.specs.{Text.{SpellsTime, printed, three_digits}, TimeOf.time_of};
 
 use crate::Memory;
 use crate::millis::Ms;
@@ -17,7 +15,7 @@ impl Ms {
         ensures kept { OnErr result (out.new.items ≡ out.old.items) }
 
         // A printed time reads as itself.
-        ensures spells { Spells (printed self) self }
+        ensures spells { SpellsTime (printed self) self }
         ensures reads { time_of (printed self) ≡ Ok self }
     {
         print_millis(self.get(), out)
@@ -28,7 +26,7 @@ impl Ms {
 pub fn print_millis<A: Allocator>(millis: i64, out: &mut Vec<u8, A>) -> Result<(), Memory>
     ensures ok { OnOk result (out.new.items ≡ out.old.items ++ printed millis) }
     ensures kept { OnErr result (out.new.items ≡ out.old.items) }
-    ensures spells { Spells (printed millis) millis }
+    ensures spells { SpellsTime (printed millis) millis }
 {
     let before = out.len();
     let outcome = append_printed(millis, out);

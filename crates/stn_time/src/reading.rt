@@ -1,13 +1,5 @@
-ghost use Rattle.std.specs.Prelude.{◌≡◌, ◌==◌, ℤ, pos, neg_ℤ, ◌^◌, ◌<◌, ◌≤◌, ◌↔◌, if◌then◌else◌, min, length, drop, slice_index_or, MatchOption};
-ghost use Rattle.std.specs.Char.{is_ascii_digit, digit_value};
-ghost use Rattle.std.specs.List.{list_all, prefix_len};
-ghost use Rattle.std.specs.Option.{option_copied};
-ghost use Rattle.std.specs.Str.Parse.{AllDigits, digits_value};
-ghost use Rattle.stn_time.specs.Text.{IsOutOfRange, IsTimeForm, IsTooFine, Spells, millis_of, thousandths_of, these_parts};
-ghost use Rattle.stn_time.specs.TimeOf.{fraction_of, is_numeral, parts_of, time_of, time_of_found};
-ghost use Rattle.stn_time.specs.Near.{IsNear};
-ghost use Rattle.stn_time.specs.Time.{IsWithinHorizon};
-ghost use Rattle.stn_time.specs.Failures.{time_failure};
+ghost use Rattle.std.specs.{Prelude.{◌≡◌, ◌==◌, ℤ, pos, neg_ℤ, ◌^◌, ◌<◌, ◌≤◌, ◌↔◌, if◌then◌else◌, min, length, drop, slice_index_or, MatchOption}, Char.{is_ascii_digit, digit_value}, List.{list_all, prefix_len}, Option.option_copied, Str.Parse.{AllDigits, digits_value}};
+ghost use Rattle.stn_time.specs.{Text.{IsOutOfRange, IsTimeForm, IsTooFine, SpellsTime, millis_of, thousandths_of, these_parts}, TimeOf.{fraction_of, is_numeral, parts_of, time_of, time_of_found}, Near.IsNear, Time.IsWithinHorizon, Failures.time_failure};
 
 use crate::millis::{HORIZON, Ms};
 use stn_refusal::{Code, Failure};
@@ -58,13 +50,13 @@ impl Ms {
     pub fn read(text: &[u8]) -> Result<Ms, TimeFault>
         ensures value { result ≡ time_of text.now }
         ensures time { (millis : ℤ) →
-            (result ≡ Ok millis) ↔ (Spells text.now millis × IsWithinHorizon millis) }
+            (result ≡ Ok millis) ↔ (SpellsTime text.now millis × IsWithinHorizon millis) }
         ensures malformed { (result ≡ Err TimeFault.Malformed) ↔ (¬ IsTimeForm text.now) }
         ensures too_fine { (result ≡ Err TimeFault.TooFine) ↔ IsTooFine text.now }
         ensures out_of_range { (result ≡ Err TimeFault.OutOfRange) ↔ IsOutOfRange text.now }
 
         // A text spells one number at most.
-        ensures unique { (m : ℤ) → (n : ℤ) → Spells text.now m → Spells text.now n → m ≡ n }
+        ensures unique { (m : ℤ) → (n : ℤ) → SpellsTime text.now m → SpellsTime text.now n → m ≡ n }
     {
         match Parts::of(text) {
             Some(parts) => parts.time(),

@@ -1,13 +1,8 @@
 -- Frames with the same bodies are one.
-use Rattle.std.proofs.Common.{◌≡◌, ℕ, List, [], ◌∷◌, ◌++◌, ◌≤◌, drop, get_or, refl, sym, ap, ◌∙◌, append-nil, arith}
-use Rattle.std.specs.FinMap.{entries, same_entries_map}
+use Rattle.std.{proofs.Common.{◌≡◌, ℕ, List, [], ◌∷◌, ◌++◌, ◌≤◌, drop, get_or, refl, sym, ap, ◌∙◌, append-nil, arith}, specs.FinMap.{entries, same_entries_map}}
 use Rattle.stn_lift.specs.PlanSource.{PlanSource, bare, files}
 use Rattle.stn_records.specs.{Id.SiteCounter, Content.Content}
-use Rattle.stn_wire.specs.Spelling.{entry_bytes, IsEntry, entry_width, tomb_bytes, IsTomb, amendment_bytes, amendments_bytes, AreIds, counted, AreCounted, measured}
-use Rattle.stn_wire.specs.{Apart.two_apart, Apart.entry_apart, Apart.entry_sized, Apart.tomb_apart, Apart.amendment_apart, declared.layout.Layout.Layout}
-use Rattle.stn_wire.specs.Frame.{FrameContent, old_hello, old_records, hello, records, ask, text, refused, same, source_bytes, IsSaidSource, state_bytes, IsState, IsSaid, records_kind, kind_of, body_of}
-use Rattle.stn_wire.specs.declared.layout.Layout.TheVariants.{Old, New}
-use Rattle.stn_wire.proofs.Chunks.{counted_cut, measured_cut}
+use Rattle.stn_wire.{specs.{Spelling.{entry_bytes, IsEntry, entry_width, tomb_bytes, IsTomb, amendment_bytes, amendments_bytes, AreIds, counted, AreCounted, measured}, Apart.{two_apart, entry_apart, entry_sized, tomb_apart, amendment_apart}, declared.layout.Layout.{Layout, TheVariants.{Old, New}}, Frame.{FrameContent, old_hello, old_records, hello, records, ask, text, refused, same, source_bytes, IsSaidSource, state_bytes, IsState, HasSpelling, records_kind, kind_of, body_of}}, proofs.Chunks.{counted_cut, measured_cut}}
 
 pub source_apart : (a b : PlanSource) → IsSaidSource a → IsSaidSource b → source_bytes a ≡ source_bytes b → a ≡ b
 source_apart (bare m) (bare n) p q e = ap (λ n. bare n) (two_apart m n p q (ap (drop 1) e))
@@ -43,7 +38,7 @@ records_large (entry ∷ rest) = omega arith
 kinds_apart : (f g : FrameContent) → body_of f ≡ body_of g → kind_of f ≡ kind_of g
 kinds_apart f g e = ap (λ l. get_or l 0 0) e
 
-pub body_apart : (f g : FrameContent) → IsSaid f → IsSaid g → body_of f ≡ body_of g → f ≡ g
+pub body_apart : (f g : FrameContent) → HasSpelling f → HasSpelling g → body_of f ≡ body_of g → f ≡ g
 body_apart (old_hello a) (old_hello b) p q e = ap (λ s. old_hello s) (source_apart a b p q (ap (drop 1) e))
 body_apart (old_records a) (old_records b) p q e = ap (λ s. old_records s) (state_apart Old a b p.said q.said (ap (drop 1) e))
 body_apart (hello a) (hello b) p q e = ap (λ s. hello s) (source_apart a b p q (ap (drop 1) e))

@@ -1,17 +1,15 @@
 -- Texts of pieces of one length.
-use Rattle.std.proofs.Common.{◌≡◌, ℕ, ◌*◌, ◌<◌, ◌≤◌, ◌^◌, List, [], ◌∷◌, ◌++◌, length, take, drop, refl, sym, ap, ◌∙◌, append_assoc, arith, length-append}
-use Rattle.std.proofs.lemmas.List.{take_at}
-use Rattle.std.specs.List.{flat_map, AllByRecursion}
-use Rattle.stn_wire.specs.{Spelling.measured, Spelling.counted, Spelling.AreCounted, Apart.two_apart, Apart.four_apart, Apart.cut}
+use Rattle.std.{proofs.{Common.{◌≡◌, ℕ, ◌*◌, ◌<◌, ◌≤◌, ◌^◌, List, [], ◌∷◌, ◌++◌, length, take, drop, refl, sym, ap, ◌∙◌, append_assoc, arith, length-append}, lemmas.List.take_at}, specs.List.{flat_map, AllByRecursion}}
+use Rattle.stn_wire.specs.{Spelling.{measured, counted, AreCounted}, Apart.{two_apart, four_apart, cut_alike}}
 
 -- texts after their lengths with the same bytes are the same
 pub measured_cut : (s t x y : List ℕ) → length s < 2 ^ 32 → length t < 2 ^ 32 → measured s ++ x ≡ measured t ++ y → (s ≡ t) × (x ≡ y)
-measured_cut s t x y p q e = cut s t x y (four_apart (length s) (length t) p q (ap (take 4) e)) (ap (drop 4) e)
+measured_cut s t x y p q e = cut_alike s t x y (four_apart (length s) (length t) p q (ap (take 4) e)) (ap (drop 4) e)
 
 module _ {X : Type 0} (Valid : X → Type 0) (spell : X → List ℕ) (wide : ℕ) (sized : (x : X) → length (spell x) ≡ wide) where
   next_cut : (x v : X) (xs vs : List X) (rest behind : List ℕ) → flat_map spell (x ∷ xs) ++ rest ≡ flat_map spell (v ∷ vs) ++ behind → (spell x ≡ spell v) × (flat_map spell xs ++ rest ≡ flat_map spell vs ++ behind)
   next_cut x v xs vs rest behind e =
-      cut (spell x) (spell v) (flat_map spell xs ++ rest) (flat_map spell vs ++ behind) (sized x ∙ sym (sized v))
+      cut_alike (spell x) (spell v) (flat_map spell xs ++ rest) (flat_map spell vs ++ behind) (sized x ∙ sym (sized v))
       (sym (append_assoc (spell x) (flat_map spell xs) rest) ∙ e ∙ append_assoc (spell v) (flat_map spell vs) behind)
 
   pub length-flat_map : (xs : List X) → length (flat_map spell xs) ≡ length xs * wide

@@ -1,8 +1,6 @@
 -- Bytes are whole frames, and a rest that begins with none.
-use Rattle.std.proofs.Common.{◌≡◌, ℕ, zero, suc, ◌+◌, ◌<◌, ◌≤◌, ◌^◌, List, [], ◌∷◌, ◌++◌, length, take, drop, refl, sym, ap, ◌∙◌, arith, append_assoc, length-drop, take-append-drop}
-use Rattle.std.specs.{Prelude.flat_map, List.AllByRecursion}
-use Rattle.stn_wire.specs.{Frame.FrameContent, Frame.spelling, Frame.IsFrame, Front.BeginsFrame}
-use Rattle.stn_wire.proofs.Fronts.{ShowsNone, shown, some_front_lem}
+use Rattle.std.{proofs.Common.{◌≡◌, ℕ, zero, suc, ◌+◌, ◌<◌, ◌≤◌, ◌^◌, List, [], ◌∷◌, ◌++◌, length, take, drop, refl, sym, ap, ◌∙◌, arith, append_assoc, length-drop, take-append-drop}, specs.{Prelude.flat_map, List.AllByRecursion}}
+use Rattle.stn_wire.{specs.{Frame.{FrameContent, spelling, IsFrame}, Front.BeginsFrame}, proofs.Fronts.{ShowsNone, shown, some_front_lem}}
 
 pub record IsCut (bytes : List ℕ) (frames : List FrameContent) (rest : List ℕ) : Type 0 where
   pub each : AllByRecursion IsFrame frames

@@ -1,11 +1,6 @@
 -- Bytes of a piece after those that are held: up to five of them, and then as many as the front wants.
-use Rattle.std.proofs.Common.{◌≡◌, ℕ, ◌+◌, ◌-◌, ◌<◌, ◌≤◌, min, List, ◌++◌, length, take, drop, Err, IfSome, refl, sym, ap, subst, ◌∙◌, ⊎_elim, arith, append_assoc, length-append, length-take, length-drop, take-append-drop}
-use Rattle.std.proofs.lemmas.Bool.{cases_lt}
-use Rattle.std.proofs.lemmas.List.{take_at, take_rest, drop_all, append-nil}
-use Rattle.stn_wire.specs.{Frame.FrameContent, Reading.IsWanted, Reading.IsJudged, Reading.IsFrameTaken, declared.fault.WireFault.WireFault}
-use Rattle.stn_wire.specs.Front.{whole, faulty, unfinished, announced, IsFront, answered}
-use Rattle.stn_wire.specs.declared.fault.WireFault.TheVariants.{Length, Kind, OldFrame, Memory}
-use Rattle.stn_wire.proofs.Fronts.{shown, fault_more, whole_more, announced_more}
+use Rattle.std.proofs.{Common.{◌≡◌, ℕ, ◌+◌, ◌-◌, ◌<◌, ◌≤◌, min, List, ◌++◌, length, take, drop, Err, IfSome, refl, sym, ap, subst, ◌∙◌, ⊎_elim, arith, append_assoc, length-append, length-take, length-drop, take-append-drop}, lemmas.{Bool.cases_lt, List.{take_at, take_rest, drop_all, append-nil}}}
+use Rattle.stn_wire.{specs.{Frame.FrameContent, Reading.{IsWanted, IsJudged, IsFrameTaken}, declared.fault.WireFault.{WireFault, TheVariants.{Length, Kind, OldFrame, Memory}}, Front.{whole, faulty, unfinished, announced, IsFront, answered_front}}, proofs.Fronts.{shown, fault_more, whole_more, announced_more}}
 
 -- unfinished bytes are fewer than their frame has
 pub unfinished_less : (bytes : List ℕ) → IsFront bytes unfinished → 5 ≤ length bytes → length bytes < 4 + announced bytes
@@ -49,7 +44,7 @@ module _ (held piece : List ℕ) (before : IsFront held unfinished) (opening : �
         ap (take (length held)) (filled_is ∙ ap (λ l. l ++ take used (take (length piece - opening) (drop opening piece))) opened_is ∙ append_assoc held (take opening piece) (take used (take (length piece - opening) (drop opening piece))))
         ∙ take_at held (take opening piece ++ take used (take (length piece - opening) (drop opening piece))) (length held) refl
 
-    pub filled_err : (A : Type 0) (fault : WireFault) → IfSome (answered {A = A} (Err fault)) (IsFront filled) → IsFrameTaken {A = A} held piece (Err fault) filled
+    pub filled_err : (A : Type 0) (fault : WireFault) → IfSome (answered_front {A = A} (Err fault)) (IsFront filled) → IsFrameTaken {A = A} held piece (Err fault) filled
     filled_err A OldFrame h = absurd h
     filled_err A Memory h = filled_kept
     filled_err A fault h = filled_fault fault h

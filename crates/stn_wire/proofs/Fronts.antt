@@ -1,14 +1,7 @@
 -- Bytes have one front, and more bytes don't change a whole frame or a fault.
-use Rattle.std.proofs.Common.{◌≡◌, ℕ, zero, suc, ◌+◌, ◌-◌, ◌<◌, ◌≤◌, List, [], ◌∷◌, ◌++◌, length, take, drop, get_or, ◌^◌, ◌⊎◌, inl, inr, refl, sym, ap, subst, ◌∙◌, ⊎_elim, arith, length-append, length-take, length-drop, take-append-drop}
-use Rattle.std.proofs.lemmas.List.{take_at, drop_at, take-append-le, drop-append-le, get_or_append_left, get_or-take, get_or_past, take-take, drop-take}
-use Rattle.std.proofs.{lemmas.Nat.from_be_bytes-to_be_bytes_4, lemmas.Nat.be_bytes_4, lemmas.Bool.cases_lt, lemmas.Bool.cases_eq}
-use Rattle.std.specs.{FinMap.entries, List.AllByRecursion}
+use Rattle.std.{proofs.{Common.{◌≡◌, ℕ, zero, suc, ◌+◌, ◌-◌, ◌<◌, ◌≤◌, List, [], ◌∷◌, ◌++◌, length, take, drop, get_or, ◌^◌, ◌⊎◌, inl, inr, refl, sym, ap, subst, ◌∙◌, ⊎_elim, arith, length-append, length-take, length-drop, take-append-drop}, lemmas.{List.{take_at, drop_at, take-append-le, drop-append-le, get_or_append_left, get_or-take, get_or_past, take-take, drop-take}, Nat.{from_be_bytes-to_be_bytes_4, be_bytes_4}, Bool.{cases_lt, cases_eq}}}, specs.{FinMap.entries, List.AllByRecursion}}
 use Rattle.stn_records.specs.Id.{SiteCounter}
-use Rattle.stn_wire.specs.{Spelling.four, declared.fault.WireFault.WireFault, Reading.IsWanted}
-use Rattle.stn_wire.specs.Frame.{FrameContent, records, records_kind, kind_of, body_of, spelling, IsFrame, IsSaid, most_body}
-use Rattle.stn_wire.specs.Front.{Front, whole, faulty, unfinished, announced, IsLength, IsKind, IsFront, BeginsFrame}
-use Rattle.stn_wire.specs.declared.fault.WireFault.TheVariants.{Length, Kind, Body, OldFrame, Memory}
-use Rattle.stn_wire.proofs.Bodies.{body_apart}
+use Rattle.stn_wire.{specs.{Spelling.four, declared.fault.WireFault.{WireFault, TheVariants.{Length, Kind, Body, OldFrame, Memory}}, Reading.IsWanted, Frame.{FrameContent, records, records_kind, kind_of, body_of, spelling, IsFrame, HasSpelling, most_body}, Front.{Front, whole, faulty, unfinished, announced, IsLength, IsKind, IsFront, BeginsFrame}}, proofs.Bodies.body_apart}
 
 -- the first four bytes alone say what is announced
 pub announced_front : (xs ys : List ℕ) → take 4 xs ≡ take 4 ys → announced xs ≡ announced ys
@@ -113,7 +106,7 @@ one_spelling_lem f g x y p q e =
     (cc, sym (drop_at (spelling f) x (length (spelling f)) refl) ∙ (λ i. drop (long i) (e i)) ∙ drop_at (spelling g) y (length (spelling g)) refl)
 
 -- a whole body that is a frame's stands in front
-pub whole_read : (bytes : List ℕ) (frame : FrameContent) (n : ℕ) → ((i : ℕ) → get_or bytes i 0 < 256) → IsWanted bytes n → n ≤ length bytes → IsSaid frame → take (n - 4) (drop 4 bytes) ≡ body_of frame → IsFront bytes (whole frame n)
+pub whole_read : (bytes : List ℕ) (frame : FrameContent) (n : ℕ) → ((i : ℕ) → get_or bytes i 0 < 256) → IsWanted bytes n → n ≤ length bytes → HasSpelling frame → take (n - 4) (drop 4 bytes) ≡ body_of frame → IsFront bytes (whole frame n)
 whole_read bytes frame n small wanted enough said is =
     let least = wanted.least in
     let long : 5 ≤ length bytes = omega arith in

@@ -1,13 +1,8 @@
 -- The records of old frames, as they are written and as they are read.
-use Rattle.std.proofs.Common.{◌≡◌, ◌⊎◌, ℤ, ◌≤ℤ◌, ◌++◌, ◌∷◌, Bool, true, false, cond, refl, sym, ap, subst, inl, inr, ⊎_elim, arith}
-use Rattle.std.specs.Prelude.{neg_ℤ, int_le}
-use Rattle.std.proofs.lemmas.Int.{ints}
+use Rattle.std.{proofs.{Common.{◌≡◌, ◌⊎◌, ℤ, ◌≤ℤ◌, ◌++◌, ◌∷◌, Bool, true, false, cond, refl, sym, ap, subst, inl, inr, ⊎_elim, arith}, lemmas.Int.ints}, specs.Prelude.{neg_ℤ, int_le}}
 use Rattle.stn_time.specs.Time.{horizon}
-use Rattle.stn_records.specs.{declared.record.Mark.Mark, declared.record.Record.Record}
-use Rattle.stn_records.specs.declared.record.Mark.TheVariants.{Plain, Done}
-use Rattle.stn_wire.specs.{declared.layout.Layout.TheVariants.Old, Apart.gap_within}
-use Rattle.stn_wire.specs.Spelling.{two, four, old_horizon, side_bytes, IsLow, IsHigh, IsRecord, record_bytes, mark_byte}
-use Rattle.stn_wire.specs.OldSides.{IsWritten, written_side, written_bytes, low_read, high_read, as_read}
+use Rattle.stn_records.specs.declared.record.{Mark.{Mark, TheVariants.{Plain, Done}}, Record.Record}
+use Rattle.stn_wire.specs.{declared.layout.Layout.TheVariants.Old, Apart.gap_within, Spelling.{two, four, old_horizon, side_bytes, IsLow, IsHigh, IsRecord, record_bytes, mark_byte}, OldSides.{IsWritten, written_side, written_bytes, low_read, high_read, as_read}}
 
 -- the side lies within the old horizon
 pub record IsWithin (side : ℤ) : Type 0 where

@@ -1,11 +1,6 @@
 -- What a feeder gives for some bytes, however they are cut.
-use Rattle.std.proofs.Common.{◌≡◌, ℕ, List, [], ◌∷◌, ◌++◌, length, take, Option, Some, None, Result, Ok, Err, ◌⊎◌, inl, inr, refl, sym, ap, subst, ◌∙◌, ⊎_elim, arith, append_assoc, append-nil}
-use Rattle.std.specs.{Prelude.flat_map, List.AllByRecursion}
-use Rattle.std.proofs.{lemmas.List.take_all, Math.Seq.take-append-add}
-use Rattle.stn_wire.specs.{Frame.FrameContent, Frame.content, Frame.spelling, Frame.IsFrame, Front.whole, Front.faulty, Front.unfinished, Front.IsFront, Feeder.FeederState, Feeder.holding, Feeder.broken_by, Feeder.IsTaken, Feeder.IsFed, declared.fault.WireFault.WireFault, declared.feeder.Fed.Fed, declared.frame.Frame.Frame}
-use Rattle.stn_wire.specs.Feeding.{Call, Feeds, bytes_by, frame_by, frames_by, stream_of, frames_of}
-use Rattle.stn_wire.specs.declared.fault.WireFault.TheVariants.{Length, Kind, Body, OldFrame, Memory}
-use Rattle.stn_wire.proofs.Fronts.{one_front_lem, one_spelling_lem, whole_spelled, fault_more}
+use Rattle.std.{proofs.{Common.{◌≡◌, ℕ, List, [], ◌∷◌, ◌++◌, length, take, Option, Some, None, Result, Ok, Err, ◌⊎◌, inl, inr, refl, sym, ap, subst, ◌∙◌, ⊎_elim, arith, append_assoc, append-nil}, lemmas.List.take_all, Math.Seq.take-append-add}, specs.{Prelude.flat_map, List.AllByRecursion}}
+use Rattle.stn_wire.{specs.{Frame.{FrameContent, content, spelling, IsFrame}, Front.{whole, faulty, unfinished, IsFront}, Feeder.{FeederState, holding, broken_by, CompletesFrame, IsFed}, declared.{fault.WireFault.{WireFault, TheVariants.{Length, Kind, Body, OldFrame, Memory}}, feeder.Fed.Fed, frame.Frame.Frame}, Feeding.{Call, Feeds, bytes_by, frame_by, frames_by, stream_of, frames_of}}, proofs.Fronts.{one_front_lem, one_spelling_lem, whole_spelled, fault_more}}
 
 -- a feeder that was given these bytes after its last whole frame
 abbrev pub Ends : List ℕ → FeederState → Type 0
@@ -36,7 +31,7 @@ module _ (A : Type 0) (held piece : List ℕ) (next : FeederState) (stream : Lis
       subst (λ f. Gives (held ++ (piece ++ stream)) f last) (sym none.0)
       (record { rest = held ++ (piece ++ stream); each = tt; cut = refl; ends = inr (fault, none.1, subst (λ l. IsFront l (faulty fault)) (append_assoc held piece stream) (fault_more (held ++ piece) stream fault front)) })
 
-  takes : (used : ℕ) (frame : Option (Frame A)) → IsTaken held piece used frame next → Gives (held ++ (take used piece ++ stream)) (frame_by frame ++ frames) last
+  takes : (used : ℕ) (frame : Option (Frame A)) → CompletesFrame held piece used frame next → Gives (held ++ (take used piece ++ stream)) (frame_by frame ++ frames) last
   takes used None taken =
       let all : take used piece ≡ piece = take_all used piece (omega (arith, taken.1)) in
       subst (λ l. Gives l frames last) (append_assoc held piece stream ∙ ap (λ l. held ++ (l ++ stream)) (sym all)) (on (held ++ piece) taken.2 taken.0)

@@ -1,12 +1,8 @@
 -- Fields that are read and written one after the other.
-use Rattle.std.proofs.Common.{◌≡◌, ℕ, ℤ, ◌≤◌, List, ◌++◌, take, drop, Option, Some, None, Result, Ok, Err, OnOk, IfOk, IfErr, sym, ap, subst, ◌∙◌, ⊎_elim, append_assoc, arith, take-append-drop}
-use Rattle.std.proofs.{lemmas.Int.ints}
-use Rattle.std.specs.Result.{result_ok}
-use Rattle.stn_net.specs.{Event.most_events, Difference.Difference, Difference.IsBoundWithin, Difference.IsFaultOf, declared.bound.BoundFault.BoundFault}
-use Rattle.stn_net.specs.declared.bound.BoundFault.TheVariants.{NoEvent, SameEvent, Crossed}
+use Rattle.std.{proofs.{Common.{◌≡◌, ℕ, ℤ, ◌≤◌, List, ◌++◌, take, drop, Option, Some, None, Result, Ok, Err, OnOk, IfOk, IfErr, sym, ap, subst, ◌∙◌, ⊎_elim, append_assoc, arith, take-append-drop}, lemmas.Int.ints}, specs.Result.result_ok}
+use Rattle.stn_net.specs.{Event.most_events, Difference.{Difference, IsBoundWithin, IsFaultOf}, declared.bound.BoundFault.{BoundFault, TheVariants.{NoEvent, SameEvent, Crossed}}}
 use Rattle.stn_records.specs.declared.record.Mark.{Mark}
-use Rattle.stn_wire.specs.{declared.layout.Layout.Layout, Apart.IsSpelledBound, Apart.spelled_bound, Apart.fields_apart, Reading.IsReading}
-use Rattle.stn_wire.specs.Spelling.{two, side_bytes, IsLow, IsHigh, bound_bytes, IsBound}
+use Rattle.stn_wire.specs.{declared.layout.Layout.Layout, Apart.{IsSpelledBound, spelled_bound, fields_apart}, Reading.IsReadFrom, Spelling.{two, side_bytes, IsLow, IsHigh, bound_bytes, IsBound}}
 
 -- what is appended after a first part
 pub append_then : {T E : Type 0} (r : Result T E) (old mid new a b : List ℕ) → mid ≡ old ++ a → OnOk r (new ≡ mid ++ b) → OnOk r (new ≡ old ++ (a ++ b))
@@ -33,7 +29,7 @@ module _ (layout : Layout) (mark : Mark) (bytes first second third fourth : List
 
   -- a bound is read from its four fields
   pub bound_read : (r : Result Difference BoundFault) (o : Option Difference) → IfOk r (λ bound. bound ≡ made) → IfOk r (λ bound. IsBoundWithin most_events bound) → IfErr r (λ fault. IsFaultOf most_events made fault) → o ≡ result_ok r
-      → IsReading (IsBound layout mark) (bound_bytes layout) bytes o
+      → IsReadFrom (IsBound layout mark) (bound_bytes layout) bytes o
   bound_read (Ok bound) None is sound fault e = absurd cc
   bound_read (Ok bound) (Some read) is sound fault e =
       let same : read ≡ made = cc in

@@ -1,12 +1,11 @@
 -- Reading the two texts of a source.
 use Rattle.std.proofs.Common.{◌≡◌, ◌≢◌, ℕ, ◌<◌, ◌^◌, List, [], ◌∷◌, length, drop, get_or, Option, None, Some, sym, ap, ◌∙◌, arith, append-nil}
 use Rattle.stn_lift.specs.PlanSource.{PlanSource, bare, files}
-use Rattle.stn_wire.specs.{Spelling.measured, Frame.source_bytes, Frame.IsSaidSource, Reading.IsReading, Reading.measured_then}
-use Rattle.stn_wire.proofs.Chunks.{measured_cut}
+use Rattle.stn_wire.{specs.{Spelling.measured, Frame.{source_bytes, IsSaidSource}, Reading.{IsReadFrom, measured_then}}, proofs.Chunks.measured_cut}
 
 -- what is read as a text after its length
 abbrev pub IsTextReading : List ℕ → Option (List ℕ × List ℕ) → Type 0
-IsTextReading = IsReading (λ found. length found.0 < 2 ^ 32) measured_then
+IsTextReading = IsReadFrom (λ found. length found.0 < 2 ^ 32) measured_then
 
 -- the texts of a source stand after its form
 abbrev pub NoSource : List ℕ → Type 0

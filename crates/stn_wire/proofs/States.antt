@@ -1,13 +1,7 @@
 -- The bytes of a state.
-use Rattle.std.proofs.Common.{◌≡◌, ◌≢◌, ◌==◌, ℕ, ◌+◌, ◌*◌, ◌≤◌, Bool, true, false, List, [], ◌∷◌, ◌++◌, length, Option, Some, None, Result, Ok, Err, IfSome, IfOk, refl, sym, ap, subst, ◌∙◌, arith, append-nil, length-append}
-use Rattle.std.specs.{FinMap.entries, List.flat_map}
-use Rattle.stn_records.specs.{Id.SiteCounter, declared.record.Record.Record, Content.Content, Content.IsSound}
-use Rattle.stn_records.proofs.Limits.{additions_within, tombstones_within, replacements_within}
-use Rattle.stn_wire.specs.Spelling.{entry_bytes, IsEntry, entry_width, tomb_bytes, IsTomb, amendment_bytes, amendments_bytes, AreIds, counted, AreCounted}
-use Rattle.stn_wire.specs.{Apart.entry_apart, Apart.entry_sized, Apart.tomb_apart, Apart.amendment_apart, declared.layout.Layout.Layout, declared.layout.Layout.TheVariants.New}
-use Rattle.stn_wire.specs.Frame.{records, body_of, state_bytes, most_body}
-use Rattle.stn_wire.specs.Reading.{IsReading, AreEntries, IsStateWith, counted_then, entries_then}
-use Rattle.stn_wire.proofs.Chunks.{length-flat_map, counted_cut}
+use Rattle.std.{proofs.Common.{◌≡◌, ◌≢◌, ◌==◌, ℕ, ◌+◌, ◌*◌, ◌≤◌, Bool, true, false, List, [], ◌∷◌, ◌++◌, length, Option, Some, None, Result, Ok, Err, IfSome, IfOk, refl, sym, ap, subst, ◌∙◌, arith, append-nil, length-append}, specs.{FinMap.entries, List.flat_map}}
+use Rattle.stn_records.{specs.{Id.SiteCounter, declared.record.Record.Record, Content.{Content, IsSound}}, proofs.Limits.{additions_within, tombstones_within, replacements_within}}
+use Rattle.stn_wire.{specs.{Spelling.{entry_bytes, IsEntry, entry_width, tomb_bytes, IsTomb, amendment_bytes, amendments_bytes, AreIds, counted, AreCounted}, Apart.{entry_apart, entry_sized, tomb_apart, amendment_apart}, declared.layout.Layout.{Layout, TheVariants.New}, Frame.{records, body_of, state_bytes, most_body}, Reading.{IsReadFrom, AreEntries, IsStateWith, counted_then, entries_then}}, proofs.Chunks.{length-flat_map, counted_cut}}
 
 -- an entry of an amendment
 abbrev pub Entry : Type 0
@@ -74,26 +68,26 @@ abbrev pub Tombstone : Type 0
 Tombstone = SiteCounter × Unit {0}
 
 module _ (layout : Layout) (amended : Bool) (bytes : List ℕ) where
-  pub no_additions : IsReading {V = List Addition × List ℕ} (λ found. AreCounted (IsEntry layout) found.0) (counted_then (entry_bytes layout)) bytes None → (s : Content) → IsStateWith layout amended s → bytes ≢ state_bytes layout s
+  pub no_additions : IsReadFrom {V = List Addition × List ℕ} (λ found. AreCounted (IsEntry layout) found.0) (counted_then (entry_bytes layout)) bytes None → (s : Content) → IsStateWith layout amended s → bytes ≢ state_bytes layout s
   no_additions none s has is = none (entries s.additions, counted tomb_bytes (entries s.tombstones) ++ amendments_bytes (entries s.replacements)) has.said.additions is
 
-  module _ (xs : List Addition) (rest : List ℕ) (first : IsReading {V = List Addition × List ℕ} (λ found. AreCounted (IsEntry layout) found.0) (counted_then (entry_bytes layout)) bytes (Some (xs, rest))) where
+  module _ (xs : List Addition) (rest : List ℕ) (first : IsReadFrom {V = List Addition × List ℕ} (λ found. AreCounted (IsEntry layout) found.0) (counted_then (entry_bytes layout)) bytes (Some (xs, rest))) where
     behind_additions : (s : Content) → IsStateWith layout amended s → bytes ≡ state_bytes layout s → (xs ≡ entries s.additions) × (rest ≡ counted tomb_bytes (entries s.tombstones) ++ amendments_bytes (entries s.replacements))
     behind_additions s has is =
         counted_cut (IsEntry layout) (entry_bytes layout) (entry_width layout) (entry_sized layout) (entry_apart layout) xs (entries s.additions) rest (counted tomb_bytes (entries s.tombstones) ++ amendments_bytes (entries s.replacements)) first.0 has.said.additions (sym first.1 ∙ is)
 
-    pub no_tombstones : IsReading {V = List Tombstone × List ℕ} (λ found. AreCounted IsTomb found.0) (counted_then tomb_bytes) rest None → (s : Content) → IsStateWith layout amended s → bytes ≢ state_bytes layout s
+    pub no_tombstones : IsReadFrom {V = List Tombstone × List ℕ} (λ found. AreCounted IsTomb found.0) (counted_then tomb_bytes) rest None → (s : Content) → IsStateWith layout amended s → bytes ≢ state_bytes layout s
     no_tombstones none s has is = none (entries s.tombstones, amendments_bytes (entries s.replacements)) has.said.tombstones (behind_additions s has is).1
 
-    module _ (ts : List Tombstone) (left : List ℕ) (second : IsReading {V = List Tombstone × List ℕ} (λ found. AreCounted IsTomb found.0) (counted_then tomb_bytes) rest (Some (ts, left))) where
+    module _ (ts : List Tombstone) (left : List ℕ) (second : IsReadFrom {V = List Tombstone × List ℕ} (λ found. AreCounted IsTomb found.0) (counted_then tomb_bytes) rest (Some (ts, left))) where
       behind_tombstones : (s : Content) → IsStateWith layout amended s → bytes ≡ state_bytes layout s → (ts ≡ entries s.tombstones) × (left ≡ amendments_bytes (entries s.replacements))
       behind_tombstones s has is =
           counted_cut IsTomb tomb_bytes 4 (λ _. refl) tomb_apart ts (entries s.tombstones) left (amendments_bytes (entries s.replacements)) second.0 has.said.tombstones (sym second.1 ∙ (behind_additions s has is).1)
 
-      pub no_entries : IsReading {V = List Entry × List ℕ} (λ found. AreEntries amended found.0) entries_then left None → (s : Content) → IsStateWith layout amended s → bytes ≢ state_bytes layout s
+      pub no_entries : IsReadFrom {V = List Entry × List ℕ} (λ found. AreEntries amended found.0) entries_then left None → (s : Content) → IsStateWith layout amended s → bytes ≢ state_bytes layout s
       no_entries none s has is = none (entries s.replacements, []) has.entries ((behind_tombstones s has is).1 ∙ sym (append-nil _))
 
-      module _ (es : List Entry) (end : List ℕ) (third : IsReading {V = List Entry × List ℕ} (λ found. AreEntries amended found.0) entries_then left (Some (es, end))) where
+      module _ (es : List Entry) (end : List ℕ) (third : IsReadFrom {V = List Entry × List ℕ} (λ found. AreEntries amended found.0) entries_then left (Some (es, end))) where
         behind_entries : (s : Content) → IsStateWith layout amended s → bytes ≡ state_bytes layout s → (es ≡ entries s.replacements) × (end ≡ [])
         behind_entries s has is = entries_cut amended es (entries s.replacements) end [] third.0 has.entries (sym third.1 ∙ (behind_tombstones s has is).1 ∙ sym (append-nil _))
 
@@ -102,7 +96,7 @@ module _ (layout : Layout) (amended : Bool) (bytes : List ℕ) where
 
         pub lists_read : {E : Type 0} → end ≡ [] → (o : Result (Option Content) E) → IfOk o (λ made. IfSome made (λ s. entries s.additions ≡ xs)) → IfOk o (λ made. IfSome made (λ s. entries s.tombstones ≡ ts))
             → IfOk o (λ made. IfSome made (λ s. entries s.replacements ≡ es)) → IfOk o (λ made. IfSome made IsSound)
-            → ((s : Content) → IsSound s → entries s.additions ≡ xs → entries s.tombstones ≡ ts → entries s.replacements ≡ es → IfOk o (λ made. made ≡ Some s)) → IfOk o (IsReading (IsStateWith layout amended) (state_bytes layout) bytes)
+            → ((s : Content) → IsSound s → entries s.additions ≡ xs → entries s.tombstones ≡ ts → entries s.replacements ≡ es → IfOk o (λ made. made ≡ Some s)) → IfOk o (IsReadFrom (IsStateWith layout amended) (state_bytes layout) bytes)
         lists_read none (Ok (Some made)) additions tombstones replacements sound all = (
           record {
             said = record {

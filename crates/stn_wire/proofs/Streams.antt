@@ -1,11 +1,7 @@
 -- Frames that are cut off the bytes of a reader, piece by piece.
-use Rattle.std.proofs.Common.{◌≡◌, ℕ, ◌+◌, ◌-◌, ◌<◌, ◌≤◌, Bool, true, false, List, [], ◌∷◌, ◌++◌, length, drop, Option, Some, None, Ok, Err, refl, sym, ap, subst, ◌∙◌, arith, append_assoc, append-nil, length-append, take-append-drop, drop-drop}
-use Rattle.std.proofs.{Math.Seq.drop-append-add, KnownBytes.Consumes-trans, lemmas.List.drop_all, lemmas.List.flat_map_more}
-use Rattle.std.specs.{Io.KnownBytes.Consumes, List.flat_map}
-use Rattle.stn_device.specs.declared.whole.ReadFault.{ReadFault}
-use Rattle.stn_wire.specs.{Feeder.FeederState, Feeder.IsTaken, Frame.FrameContent, Frame.content, Frame.spelling, Front.IsFront, Front.whole, Front.unfinished, declared.frame.Frame.Frame, Stream.Held.Stream, Stream.pending, Stream.Gives, Stream.Pieces.IsFed, Stream.Pieces.IsFilled, Stream.wire_fault, declared.stream.fault.FrameFault.FrameFault}
-use Rattle.stn_wire.specs.declared.stream.fault.FrameFault.TheVariants.{Length, Kind, Body}
-use Rattle.stn_device.specs.declared.whole.ReadFault.TheVariants.{Read, Bound, Memory}
+use Rattle.std.{proofs.{Common.{◌≡◌, ℕ, ◌+◌, ◌-◌, ◌<◌, ◌≤◌, Bool, true, false, List, [], ◌∷◌, ◌++◌, length, drop, Option, Some, None, Ok, Err, refl, sym, ap, subst, ◌∙◌, arith, append_assoc, append-nil, length-append, take-append-drop, drop-drop}, Math.Seq.drop-append-add, KnownBytes.Consumes-trans, lemmas.List.{drop_all, flat_map_more}}, specs.{Io.KnownBytes.Consumes, List.flat_map}}
+use Rattle.stn_device.specs.declared.whole.ReadFault.{ReadFault, TheVariants.{Read, Bound, Memory}}
+use Rattle.stn_wire.specs.{Feeder.{FeederState, CompletesFrame}, Frame.{FrameContent, content, spelling}, Front.{IsFront, whole, unfinished}, declared.{frame.Frame.Frame, stream.fault.FrameFault.{FrameFault, TheVariants.{Length, Kind, Body}}}, Stream.{pending, GivesNext, wire_fault, Held.Stream, Pieces.{IsPieceFed, IsFilled}}}
 
 -- a frame was taken, and what stands after it is pending
 frame_taken : (held rest : List ℕ) (used : ℕ) (frame : FrameContent) → IsFront (held ++ rest) (whole frame (length held + used)) → held ++ rest ≡ spelling frame ++ drop used rest
@@ -14,7 +10,7 @@ frame_taken held rest used frame h =
     ∙ (ap (λ l. l ++ drop (length held + used) (held ++ rest)) h.2 ∙ ap (λ l. spelling frame ++ l) (drop-append-add held rest used))
 
 pub fed_is : {A : Type 0} (old new : Stream) (piece : List ℕ) (at used : ℕ) (frame : Option (Frame A)) (rest : List ℕ) (feeder : FeederState) → old.behind ≡ drop at piece → rest ≡ drop at piece
-    → IsTaken old.held rest used frame feeder → new.held ≡ feeder.held → new.behind ≡ drop (at + used) piece → IsFed old new (Ok frame)
+    → CompletesFrame old.held rest used frame feeder → new.held ≡ feeder.held → new.behind ≡ drop (at + used) piece → IsPieceFed old new (Ok frame)
 fed_is old new piece at used (Some frame) rest feeder behind is h held left = (
   h.0.0,
   ap (λ l. old.held ++ l) (behind ∙ sym is)
@@ -41,7 +37,7 @@ module _ (first mid new : Stream) (a b c : Option (List ℕ)) (bytes : List ℕ)
   filled_more false is h = absurd (cc)
 
   -- nothing more comes
-  pub fill_fails : {A : Type 0} (fault : ReadFault) → IsFront (pending mid) unfinished → mid.count ≤ 16777216 → IsFilled mid new b c (Err fault) → Gives {A = A} first new a c (Err fault)
+  pub fill_fails : {A : Type 0} (fault : ReadFault) → IsFront (pending mid) unfinished → mid.count ≤ 16777216 → IsFilled mid new b c (Err fault) → GivesNext {A = A} first new a c (Err fault)
   fill_fails Read front few h = record {
     bytes = bytes ++ [];
     consumed = Consumes-trans a b c bytes [] read h;

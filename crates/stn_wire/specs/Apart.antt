@@ -1,16 +1,10 @@
 -- For proofs alone: no public clause cites these words.
 -- Values with the same bytes are one.
-use Rattle.std.specs.Prelude.{◌≡◌, ◌≤◌, ℕ, ℤ, pos, neg_ℤ, ◌<ℤ◌, ◌≤ℤ◌, ◌<◌, ◌^◌, min, List, [], ◌∷◌, ◌++◌, length}
-use Rattle.std.proofs.Common.{negsuc, refl, ap, sym, subst, ◌∙◌, ⊎_elim, take, drop, get_or, arith}
-use Rattle.std.specs.Int.{w16, w32, w64, to_be_bytes, from_be_bytes}
-use Rattle.std.proofs.{lemmas.Int.ints, lemmas.Nat.from_be_bytes-to_be_bytes_2, lemmas.Nat.from_be_bytes-to_be_bytes_4, lemmas.Nat.from_be_bytes-to_be_bytes_8}
+use Rattle.std.{specs.{Prelude.{◌≡◌, ◌≤◌, ℕ, ℤ, pos, neg_ℤ, ◌<ℤ◌, ◌≤ℤ◌, ◌<◌, ◌^◌, min, List, [], ◌∷◌, ◌++◌, length}, Int.{w16, w32, w64, to_be_bytes, from_be_bytes}}, proofs.{Common.{negsuc, refl, ap, sym, subst, ◌∙◌, ⊎_elim, take, drop, get_or, arith}, lemmas.{Int.ints, Nat.{from_be_bytes-to_be_bytes_2, from_be_bytes-to_be_bytes_4, from_be_bytes-to_be_bytes_8}}}}
 use Rattle.stn_time.specs.Time.{horizon}
 use Rattle.stn_net.specs.Difference.{Difference}
-use Rattle.stn_records.specs.{Id.SiteCounter, Id.IsId, declared.record.Mark.Mark, declared.record.Record.Record}
-use Rattle.stn_records.specs.declared.record.Mark.TheVariants.{Plain, Done}
-use Rattle.stn_wire.specs.declared.layout.Layout.{Layout}
-use Rattle.stn_wire.specs.declared.layout.Layout.TheVariants.{Old, New}
-use Rattle.stn_wire.specs.Spelling.{two, four, id_bytes, furthest, width_of, side_width, gap_of, most_gap, side_bytes, IsLow, IsHigh, bound_bytes, IsBound, mark_byte, record_bytes, IsRecord, entry_bytes, IsEntry, entry_width, tomb_bytes, IsTomb, amendment_bytes, AreIds}
+use Rattle.stn_records.specs.{Id.{SiteCounter, IsId}, declared.record.{Mark.{Mark, TheVariants.{Plain, Done}}, Record.Record}}
+use Rattle.stn_wire.specs.{declared.layout.Layout.{Layout, TheVariants.{Old, New}}, Spelling.{two, four, id_bytes, layout_horizon, width_of, side_width, gap_in_layout, most_gap, side_bytes, IsLow, IsHigh, bound_bytes, IsBound, mark_byte, record_bytes, IsRecord, entry_bytes, IsEntry, entry_width, tomb_bytes, IsTomb, amendment_bytes, AreIds}}
 
 pub two_apart : (m n : ℕ) → m < 2 ^ 16 → n < 2 ^ 16 → two m ≡ two n → m ≡ n
 two_apart m n p q e = sym (from_be_bytes-to_be_bytes_2 m p) ∙ ap (from_be_bytes w16) e ∙ from_be_bytes-to_be_bytes_2 n q
@@ -30,15 +24,15 @@ eight_apart m n p q e = sym (from_be_bytes-to_be_bytes_8 m p) ∙ ap (from_be_by
 -- ---- the sides of bounds
 
 -- a number that a side's bytes hold
-abbrev pub IsNumber : Layout → ℕ → Type 0
-IsNumber Old n = n < 2 ^ 32
-IsNumber New n = n < 2 ^ 64
+abbrev pub IsSideNumber : Layout → ℕ → Type 0
+IsSideNumber Old n = n < 2 ^ 32
+IsSideNumber New n = n < 2 ^ 64
 
-pub number_apart : (layout : Layout) (m n : ℕ) → IsNumber layout m → IsNumber layout n → to_be_bytes (width_of layout) m ≡ to_be_bytes (width_of layout) n → m ≡ n
+pub number_apart : (layout : Layout) (m n : ℕ) → IsSideNumber layout m → IsSideNumber layout n → to_be_bytes (width_of layout) m ≡ to_be_bytes (width_of layout) n → m ≡ n
 number_apart Old m n p q e = four_apart m n p q e
 number_apart New m n p q e = eight_apart m n p q e
 
-pub gap_number : (layout : Layout) (n : ℕ) → n ≤ most_gap layout → IsNumber layout n
+pub gap_number : (layout : Layout) (n : ℕ) → n ≤ most_gap layout → IsSideNumber layout n
 gap_number Old n h = omega (arith, h)
 gap_number New n h = omega (arith, h)
 
@@ -48,18 +42,18 @@ side_wide New side = refl
 
 -- the number that is spelled
 abbrev pub spelled_gap : Layout → ℤ → ℕ
-spelled_gap layout side = min (gap_of layout side) (most_gap layout)
+spelled_gap layout side = min (gap_in_layout layout side) (most_gap layout)
 
 pub spelled_few : (layout : Layout) (side : ℤ) → spelled_gap layout side ≤ most_gap layout
 spelled_few layout side = omega arith
 
-pub gap_within : (layout : Layout) (side : ℤ) → side ≤ℤ furthest layout → spelled_gap layout side ≡ gap_of layout side
+pub gap_within : (layout : Layout) (side : ℤ) → side ≤ℤ layout_horizon layout → spelled_gap layout side ≡ gap_in_layout layout side
 gap_within Old (pos n) h = omega (arith, ints, h)
 gap_within Old (negsuc n) h = omega (arith, ints, h)
 gap_within New (pos n) h = omega (arith, ints, h)
 gap_within New (negsuc n) h = omega (arith, ints, h)
 
-pub gap_apart : (layout : Layout) (a b : ℤ) → neg_ℤ (furthest layout) ≤ℤ a → neg_ℤ (furthest layout) ≤ℤ b → gap_of layout a ≡ gap_of layout b → a ≡ b
+pub gap_apart : (layout : Layout) (a b : ℤ) → neg_ℤ (layout_horizon layout) ≤ℤ a → neg_ℤ (layout_horizon layout) ≤ℤ b → gap_in_layout layout a ≡ gap_in_layout layout b → a ≡ b
 gap_apart Old (pos a) (pos b) p q e = let same : a ≡ b = omega (arith, e) in ap pos same
 gap_apart Old (pos a) (negsuc b) p q e = absurd (omega (arith, ints, p, q, e))
 gap_apart Old (negsuc a) (pos b) p q e = absurd (omega (arith, ints, p, q, e))
@@ -78,13 +72,13 @@ pub gap_greatest : (layout : Layout) → spelled_gap layout horizon ≡ most_gap
 gap_greatest Old = refl
 gap_greatest New = refl
 
-pub gap_above : (layout : Layout) (side : ℤ) → neg_ℤ (furthest layout) <ℤ side → 0 < spelled_gap layout side
+pub gap_above : (layout : Layout) (side : ℤ) → neg_ℤ (layout_horizon layout) <ℤ side → 0 < spelled_gap layout side
 gap_above Old (pos n) h = omega (arith, ints, h)
 gap_above Old (negsuc n) h = omega (arith, ints, h)
 gap_above New (pos n) h = omega (arith, ints, h)
 gap_above New (negsuc n) h = omega (arith, ints, h)
 
-pub gap_below : (layout : Layout) (side : ℤ) → side <ℤ furthest layout → spelled_gap layout side < most_gap layout
+pub gap_below : (layout : Layout) (side : ℤ) → side <ℤ layout_horizon layout → spelled_gap layout side < most_gap layout
 gap_below Old (pos n) h = omega (arith, ints, h)
 gap_below Old (negsuc n) h = omega (arith, ints, h)
 gap_below New (pos n) h = omega (arith, ints, h)
@@ -96,7 +90,7 @@ weaker (pos a) (negsuc b) h = omega (arith, ints, h)
 weaker (negsuc a) (pos b) h = omega (arith, ints, h)
 weaker (negsuc a) (negsuc b) h = omega (arith, ints, h)
 
-within_apart : (layout : Layout) (a b : ℤ) → neg_ℤ (furthest layout) ≤ℤ a → a ≤ℤ furthest layout → neg_ℤ (furthest layout) ≤ℤ b → b ≤ℤ furthest layout
+within_apart : (layout : Layout) (a b : ℤ) → neg_ℤ (layout_horizon layout) ≤ℤ a → a ≤ℤ layout_horizon layout → neg_ℤ (layout_horizon layout) ≤ℤ b → b ≤ℤ layout_horizon layout
     → spelled_gap layout a ≡ spelled_gap layout b → a ≡ b
 within_apart layout a b above within over beneath e = gap_apart layout a b above over (sym (gap_within layout a within) ∙ (e ∙ gap_within layout b beneath))
 
@@ -120,15 +114,15 @@ high_apart layout Plain a b p q e =
     (λ also. within_apart layout a b inside.0 (weaker a _ inside.1) also.0 (weaker b _ also.1) e) q)
     p
 
--- equal texts are cut alike after fronts of one length
-pub cut : (a b x y : List ℕ) → length a ≡ length b → a ++ x ≡ b ++ y → (a ≡ b) × (x ≡ y)
-cut [] [] x y l e = (refl, e)
-cut [] (b ∷ bs) x y l e = absurd (omega arith)
-cut (a ∷ xs) [] x y l e = absurd (omega arith)
-cut (a ∷ xs) (b ∷ bs) x y l e =
+-- equal texts are cut_alike alike after fronts of one length
+pub cut_alike : (a b x y : List ℕ) → length a ≡ length b → a ++ x ≡ b ++ y → (a ≡ b) × (x ≡ y)
+cut_alike [] [] x y l e = (refl, e)
+cut_alike [] (b ∷ bs) x y l e = absurd (omega arith)
+cut_alike (a ∷ xs) [] x y l e = absurd (omega arith)
+cut_alike (a ∷ xs) (b ∷ bs) x y l e =
     let heads : a ≡ b = cc in
     let tails : xs ++ x ≡ bs ++ y = cc in
-    let rest = cut xs bs x y (omega arith) tails in
+    let rest = cut_alike xs bs x y (omega arith) tails in
     (λ i. heads i ∷ rest.0 i, rest.1)
 
 -- the four fields of bounds with the same bytes
@@ -147,7 +141,7 @@ pub record IsSpelledBound (layout : Layout) (mark : Mark) (bound : Difference) :
 
 pub fields_apart : (layout : Layout) (mark : Mark) (a b : Difference) → IsSpelledBound layout mark a → IsSpelledBound layout mark b → bound_bytes layout a ≡ bound_bytes layout b → SameFields a b
 fields_apart layout mark a b p q e =
-    let sides = cut (side_bytes layout a.lo) (side_bytes layout b.lo) (side_bytes layout a.hi) (side_bytes layout b.hi) (side_wide layout a.lo ∙ sym (side_wide layout b.lo)) (ap (drop 4) e) in
+    let sides = cut_alike (side_bytes layout a.lo) (side_bytes layout b.lo) (side_bytes layout a.hi) (side_bytes layout b.hi) (side_wide layout a.lo ∙ sym (side_wide layout b.lo)) (ap (drop 4) e) in
     record {
       from = two_apart a.from b.from p.from q.from (ap (take 2) e);
       to = two_apart a.to b.to p.to q.to (ap (λ l. take 2 (drop 2 l)) e);

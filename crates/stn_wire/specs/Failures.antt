@@ -1,6 +1,6 @@
 -- What is printed for a fault of a frame.
 use Rattle.stn_refusal.specs.declared.code.Code.TheVariants as code
-use Rattle.stn_refusal.specs.{declared.failure.Failure.Failure, Refusals.refused, Refusals.out_of_memory}
+use Rattle.stn_refusal.specs.{declared.failure.Failure.Failure, Refusals.{refused, out_of_memory}}
 use Rattle.stn_wire.specs.declared.fault.WireFault.{WireFault}
 use Rattle.stn_wire.specs.declared.fault.WireFault.TheVariants as wire
 

@@ -1,7 +1,6 @@
 -- A stream of frames that comes in pieces.
 use Rattle.std.specs.Prelude.{◌≡◌, ◌≢◌, ℕ, ◌+◌, ◌≤◌, List, [], ◌++◌, length, Option, Some, None, Result, Ok, Err}
-use Rattle.stn_wire.specs.{Frame.content, Front.whole, Front.faulty, Front.unfinished, Front.announced, Front.IsFront, declared.fault.WireFault.WireFault, declared.feeder.Fed.Fed, declared.frame.Frame.Frame}
-use Rattle.stn_wire.specs.declared.fault.WireFault.TheVariants.{Length, Kind, Body, OldFrame, Memory}
+use Rattle.stn_wire.specs.{Frame.content, Front.{whole, faulty, unfinished, announced, IsFront}, declared.{fault.WireFault.{WireFault, TheVariants.{Length, Kind, Body, OldFrame, Memory}}, feeder.Fed.Fed, frame.Frame.Frame}}
 
 -- the bytes of an unfinished frame, or the fault that was met
 pub record FeederState : Type 0 where
@@ -16,13 +15,13 @@ broken_by fault = record { held = []; broken = Some fault }
 
 -- with the bytes that were held, a piece and how many of its bytes were used: the first frame that they complete, and
 -- nothing is held; or none, and all is held
-abbrev pub IsTaken : {A : Type 0} → List ℕ → List ℕ → ℕ → Option (Frame A) → FeederState → Type 0
-IsTaken held piece used (Some frame) new = IsFront (held ++ piece) (whole (content frame) (length held + used)) × (new ≡ holding [])
-IsTaken held piece used None new = IsFront (held ++ piece) unfinished × (used ≡ length piece) × (new ≡ holding (held ++ piece))
+abbrev pub CompletesFrame : {A : Type 0} → List ℕ → List ℕ → ℕ → Option (Frame A) → FeederState → Type 0
+CompletesFrame held piece used (Some frame) new = IsFront (held ++ piece) (whole (content frame) (length held + used)) × (new ≡ holding [])
+CompletesFrame held piece used None new = IsFront (held ++ piece) unfinished × (used ≡ length piece) × (new ≡ holding (held ++ piece))
 
 -- what a feed answers, and leaves: lack of memory leaves all as it was, and a fault is kept
 abbrev pub IsFed : {A : Type 0} → List ℕ → List ℕ → Result (Fed A) WireFault → FeederState → Type 0
-IsFed held piece (Ok fed) new = IsTaken held piece fed.used fed.frame new
+IsFed held piece (Ok fed) new = CompletesFrame held piece fed.used fed.frame new
 IsFed held piece (Err Memory) new = new ≡ holding held
 IsFed held piece (Err Length) new = IsFront (held ++ piece) (faulty Length) × (new ≡ broken_by Length)
 IsFed held piece (Err Kind) new = IsFront (held ++ piece) (faulty Kind) × (new ≡ broken_by Kind)
@@ -35,5 +34,5 @@ IsFeeder held None = IsFront held unfinished
 IsFeeder held (Some fault) = (held ≡ []) × (fault ≢ Memory) × (fault ≢ OldFrame)
 
 -- once the length and the kind of an unfinished frame are held: how many bytes it lacks
-abbrev pub IsMissing : List ℕ → ℕ → Type 0
-IsMissing held missing = 5 ≤ length held → length held + missing ≡ 4 + announced held
+abbrev pub LacksBytes : List ℕ → ℕ → Type 0
+LacksBytes held missing = 5 ≤ length held → length held + missing ≡ 4 + announced held

@@ -1,12 +1,8 @@
 -- What a frame says, and its one spelling: a table by kinds.
-use Rattle.std.specs.Prelude.{◌≡◌, ℕ, ◌<◌, ◌≤◌, ◌^◌, List, [], ◌∷◌, ◌++◌, length, ⊤}
-use Rattle.std.specs.FinMap.{entries}
+use Rattle.std.specs.{Prelude.{◌≡◌, ℕ, ◌<◌, ◌≤◌, ◌^◌, List, [], ◌∷◌, ◌++◌, length, ⊤}, FinMap.entries}
 use Rattle.stn_lift.specs.PlanSource.{PlanSource, bare, files, plan_source}
-use Rattle.stn_records.specs.{Id.SiteCounter, Content.Content, Content.IsSound}
-use Rattle.stn_wire.specs.Spelling.{two, measured, counted, AreCounted, entry_bytes, IsEntry, tomb_bytes, IsTomb, amendments_bytes, AreIds}
-use Rattle.stn_wire.specs.{declared.layout.Layout.Layout, declared.frame.Frame.Frame, declared.frame.Said.Said}
-use Rattle.stn_wire.specs.declared.layout.Layout.TheVariants.{Old, New}
-use Rattle.stn_wire.specs.declared.frame.Frame.TheVariants.{OldHello, OldRecords, Hello, Records, Ask, Text, Refused, Same}
+use Rattle.stn_records.specs.{Id.SiteCounter, Content.{Content, IsSound}}
+use Rattle.stn_wire.specs.{Spelling.{two, measured, counted, AreCounted, entry_bytes, IsEntry, tomb_bytes, IsTomb, amendments_bytes, AreIds}, declared.{layout.Layout.{Layout, TheVariants.{Old, New}}, frame.{Frame.{Frame, TheVariants.{OldHello, OldRecords, Hello, Records, Ask, Text, Refused, Same}}, Said.Said}}}
 use Rattle.stn_wire.specs.declared.frame.Said.TheVariants as said
 
 -- the most bytes that a body has
@@ -96,15 +92,15 @@ rest_of (hello source) = source_bytes source
 rest_of (records state) = state_bytes New state
 
 -- what has a spelling
-abbrev pub IsSaid : FrameContent → Type 0
-IsSaid (old_hello source) = IsSaidSource source
-IsSaid (old_records state) = IsOldState state
-IsSaid ask = Unit {0}
-IsSaid (text bytes) = Unit {0}
-IsSaid (refused code) = code < 256
-IsSaid same = Unit {0}
-IsSaid (hello source) = IsSaidSource source
-IsSaid (records state) = IsState New state
+abbrev pub HasSpelling : FrameContent → Type 0
+HasSpelling (old_hello source) = IsSaidSource source
+HasSpelling (old_records state) = IsOldState state
+HasSpelling ask = Unit {0}
+HasSpelling (text bytes) = Unit {0}
+HasSpelling (refused code) = code < 256
+HasSpelling same = Unit {0}
+HasSpelling (hello source) = IsSaidSource source
+HasSpelling (records state) = IsState New state
 
 abbrev pub body_of : FrameContent → List ℕ
 body_of frame = kind_of frame ∷ rest_of frame
@@ -121,5 +117,5 @@ IsOld frame = ⊥
 
 -- a frame: it has a spelling, and its body is not too long
 pub record IsFrame (frame : FrameContent) : Type 0 where
-  pub said : IsSaid frame
+  pub said : HasSpelling frame
   pub fits : length (body_of frame) ≤ most_body

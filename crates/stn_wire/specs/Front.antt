@@ -1,9 +1,6 @@
 -- What stands at the front of some bytes: a whole frame, a fault, or less than a frame.
-use Rattle.std.specs.Prelude.{◌≡◌, ◌≢◌, ℕ, ◌+◌, ◌<◌, ◌≤◌, ◌⊎◌, List, length, take, drop, slice_index, Option, Some, None, Result, Ok, Err}
-use Rattle.std.specs.Int.{w32, from_be_bytes}
-use Rattle.stn_wire.specs.Frame.{FrameContent, content, body_of, spelling, IsFrame, most_body}
-use Rattle.stn_wire.specs.{declared.fault.WireFault.WireFault, declared.frame.Frame.Frame}
-use Rattle.stn_wire.specs.declared.fault.WireFault.TheVariants.{Length, Kind, Body, OldFrame, Memory}
+use Rattle.std.specs.{Prelude.{◌≡◌, ◌≢◌, ℕ, ◌+◌, ◌<◌, ◌≤◌, ◌⊎◌, List, length, take, drop, slice_index, Option, Some, None, Result, Ok, Err}, Int.{w32, from_be_bytes}}
+use Rattle.stn_wire.specs.{Frame.{FrameContent, content, body_of, spelling, IsFrame, most_body}, declared.{fault.WireFault.{WireFault, TheVariants.{Length, Kind, Body, OldFrame, Memory}}, frame.Frame.Frame}}
 
 -- the number that the first four bytes spell
 abbrev pub announced : List ℕ → ℕ
@@ -41,11 +38,11 @@ abbrev pub BeginsFrame : List ℕ → Type 0
 BeginsFrame bytes = (frame : FrameContent) × (n : ℕ) × IsFront bytes (whole frame n)
 
 -- the front that an answer names; none if memory runs out
-abbrev pub answered : {A : Type 0} → Result (Option (Frame A × ℕ)) WireFault → Option Front
-answered (Ok None) = Some unfinished
-answered (Ok (Some found)) = Some (whole (content found.0) found.1)
-answered (Err Length) = Some (faulty Length)
-answered (Err Kind) = Some (faulty Kind)
-answered (Err Body) = Some (faulty Body)
-answered (Err OldFrame) = Some (faulty OldFrame)
-answered (Err Memory) = None
+abbrev pub answered_front : {A : Type 0} → Result (Option (Frame A × ℕ)) WireFault → Option Front
+answered_front (Ok None) = Some unfinished
+answered_front (Ok (Some found)) = Some (whole (content found.0) found.1)
+answered_front (Err Length) = Some (faulty Length)
+answered_front (Err Kind) = Some (faulty Kind)
+answered_front (Err Body) = Some (faulty Body)
+answered_front (Err OldFrame) = Some (faulty OldFrame)
+answered_front (Err Memory) = None

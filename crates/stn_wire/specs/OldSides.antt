@@ -1,10 +1,8 @@
 -- What the sides of a record in an old frame mean: as they are written there, and as they are read.
-use Rattle.std.specs.Prelude.{ℤ, neg_ℤ, ◌≤ℤ◌, int_le, if◌then◌else◌, ℕ, List, ◌∷◌, ◌++◌}
-use Rattle.std.specs.Int.{int_gap}
+use Rattle.std.specs.{Prelude.{ℤ, neg_ℤ, ◌≤ℤ◌, int_le, if◌then◌else◌, ℕ, List, ◌∷◌, ◌++◌}, Int.int_gap}
 use Rattle.stn_time.specs.Time.{horizon}
 use Rattle.stn_net.specs.{Event.most_events, Difference.IsBoundWithin}
-use Rattle.stn_records.specs.{declared.record.Mark.Mark, declared.record.Record.Record}
-use Rattle.stn_records.specs.declared.record.Mark.TheVariants.{Plain, Done}
+use Rattle.stn_records.specs.declared.record.{Mark.{Mark, TheVariants.{Plain, Done}}, Record.Record}
 use Rattle.stn_wire.specs.Spelling.{two, four, mark_byte, old_horizon}
 
 -- a record as an old frame has it: of a bound of some plan, both sides within the old horizon

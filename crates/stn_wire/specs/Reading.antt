@@ -1,16 +1,13 @@
 -- For proofs alone: no public clause cites these words.
 -- What a reader answers: the value that the bytes spell, or that they spell none.
-use Rattle.std.specs.Prelude.{◌≡◌, ◌≢◌, ℕ, ◌+◌, ◌<◌, ◌≤◌, Bool, true, false, List, [], ◌++◌, take, length, slice_index, Option, Some, None, Result, Ok, Err}
-use Rattle.std.specs.{List.flat_map, List.AllByRecursion, FinMap.entries}
+use Rattle.std.specs.{Prelude.{◌≡◌, ◌≢◌, ℕ, ◌+◌, ◌<◌, ◌≤◌, Bool, true, false, List, [], ◌++◌, take, length, slice_index, Option, Some, None, Result, Ok, Err}, List.{flat_map, AllByRecursion}, FinMap.entries}
 use Rattle.stn_records.specs.{Id.SiteCounter, Content.Content}
-use Rattle.stn_wire.specs.{declared.layout.Layout.Layout, Frame.FrameContent, Frame.IsState, Frame.IsSaid, Frame.body_of, Front.announced, Front.IsLength, Front.IsKind, Front.IsFront, Front.faulty, Feeder.holding, Feeder.IsTaken, declared.fault.WireFault.WireFault, declared.feeder.Fed.Fed}
-use Rattle.stn_wire.specs.Spelling.{measured, counted, AreCounted, AreIds, amendments_bytes}
-use Rattle.stn_wire.specs.declared.fault.WireFault.TheVariants.{Length, Kind, Body, OldFrame, Memory}
+use Rattle.stn_wire.specs.{declared.{layout.Layout.Layout, fault.WireFault.{WireFault, TheVariants.{Length, Kind, Body, OldFrame, Memory}}, feeder.Fed.Fed}, Frame.{FrameContent, IsState, HasSpelling, body_of}, Front.{announced, IsLength, IsKind, IsFront, faulty}, Feeder.{holding, CompletesFrame}, Spelling.{measured, counted, AreCounted, AreIds, amendments_bytes}}
 
 -- the bytes spell the value that was read; where none was read, they spell none
-abbrev pub IsReading : {V : Type 0} → (V → Type 0) → (V → List ℕ) → List ℕ → Option V → Type 0
-IsReading Valid spell bytes (Some value) = Valid value × (bytes ≡ spell value)
-IsReading {V} Valid spell bytes None = (value : V) → Valid value → bytes ≢ spell value
+abbrev pub IsReadFrom : {V : Type 0} → (V → Type 0) → (V → List ℕ) → List ℕ → Option V → Type 0
+IsReadFrom Valid spell bytes (Some value) = Valid value × (bytes ≡ spell value)
+IsReadFrom {V} Valid spell bytes None = (value : V) → Valid value → bytes ≢ spell value
 
 -- so many values that each are valid, and what stands after them
 pub record AreItems {X : Type 0} (Valid : X → Type 0) (count : ℕ) (values : List X) : Type 0 where
@@ -41,7 +38,7 @@ measured_then found = measured found.0 ++ found.1
 
 -- a body is read as a frame
 abbrev pub IsBodyReading : List ℕ → Option FrameContent → Type 0
-IsBodyReading = IsReading IsSaid body_of
+IsBodyReading = IsReadFrom HasSpelling body_of
 
 -- what the first bytes say of how many the frame has: so many, as far as they show, five where its kind has not come
 pub record IsWanted (bytes : List ℕ) (wanted : ℕ) : Type 0 where
@@ -61,7 +58,7 @@ IsJudged bytes (Err Memory) = ⊥
 
 -- what taking bytes of a piece answers, and what is held then; if memory runs out, more may be held after the bytes of before
 abbrev pub IsFrameTaken : {A : Type 0} → List ℕ → List ℕ → Result (Fed A) WireFault → List ℕ → Type 0
-IsFrameTaken held piece (Ok fed) left = IsTaken held piece fed.used fed.frame (holding left)
+IsFrameTaken held piece (Ok fed) left = CompletesFrame held piece fed.used fed.frame (holding left)
 IsFrameTaken held piece (Err Memory) left = take (length held) left ≡ held
 IsFrameTaken held piece (Err Length) left = IsFront (held ++ piece) (faulty Length)
 IsFrameTaken held piece (Err Kind) left = IsFront (held ++ piece) (faulty Kind)

@@ -1,12 +1,9 @@
 -- How a value is spelled in bytes. All numbers are unsigned, and their highest byte comes first.
-use Rattle.std.specs.Prelude.{◌≡◌, ◌⊎◌, ℕ, ℤ, pos, neg_ℤ, ◌<ℤ◌, ◌≤ℤ◌, ◌+◌, ◌*◌, ◌<◌, ◌^◌, min, List, [], ◌∷◌, ◌++◌, length}
-use Rattle.std.specs.{Int.Width, Int.w16, Int.w32, Int.w64, Int.to_be_bytes, Int.int_gap, List.flat_map, List.AllByRecursion}
+use Rattle.std.specs.{Prelude.{◌≡◌, ◌⊎◌, ℕ, ℤ, pos, neg_ℤ, ◌<ℤ◌, ◌≤ℤ◌, ◌+◌, ◌*◌, ◌<◌, ◌^◌, min, List, [], ◌∷◌, ◌++◌, length}, Int.{Width, w16, w32, w64, to_be_bytes, int_gap}, List.{flat_map, AllByRecursion}}
 use Rattle.stn_time.specs.Time.{horizon}
-use Rattle.stn_net.specs.{Event.most_events, Difference.Difference, Difference.IsBoundWithin}
-use Rattle.stn_records.specs.{Id.SiteCounter, Id.IsId, declared.record.Mark.Mark, declared.record.Record.Record}
-use Rattle.stn_records.specs.declared.record.Mark.TheVariants.{Plain, Done}
-use Rattle.stn_wire.specs.declared.layout.Layout.{Layout}
-use Rattle.stn_wire.specs.declared.layout.Layout.TheVariants.{Old, New}
+use Rattle.stn_net.specs.{Event.most_events, Difference.{Difference, IsBoundWithin}}
+use Rattle.stn_records.specs.{Id.{SiteCounter, IsId}, declared.record.{Mark.{Mark, TheVariants.{Plain, Done}}, Record.Record}}
+use Rattle.stn_wire.specs.declared.layout.Layout.{Layout, TheVariants.{Old, New}}
 
 -- a number in two bytes, and in four
 abbrev pub two : ℕ → List ℕ
@@ -37,9 +34,9 @@ abbrev pub old_horizon : ℤ
 old_horizon = pos 1000000000
 
 -- the greatest difference of a layout, and how wide its sides are
-abbrev pub furthest : Layout → ℤ
-furthest Old = old_horizon
-furthest New = horizon
+abbrev pub layout_horizon : Layout → ℤ
+layout_horizon Old = old_horizon
+layout_horizon New = horizon
 
 abbrev pub width_of : Layout → Width
 width_of Old = w32
@@ -50,15 +47,15 @@ side_width Old = 4
 side_width New = 8
 
 -- how far a difference lies above the least of a layout, and how far the greatest does
-abbrev pub gap_of : Layout → ℤ → ℕ
-gap_of layout side = int_gap (neg_ℤ (furthest layout)) side
+abbrev pub gap_in_layout : Layout → ℤ → ℕ
+gap_in_layout layout side = int_gap (neg_ℤ (layout_horizon layout)) side
 
 abbrev pub most_gap : Layout → ℕ
-most_gap layout = gap_of layout (furthest layout)
+most_gap layout = gap_in_layout layout (layout_horizon layout)
 
 -- a side of a bound: how far it lies above the least difference; an open side that lies beyond the layout's ends, as the end
 abbrev pub side_bytes : Layout → ℤ → List ℕ
-side_bytes layout side = to_be_bytes (width_of layout) (min (gap_of layout side) (most_gap layout))
+side_bytes layout side = to_be_bytes (width_of layout) (min (gap_in_layout layout side) (most_gap layout))
 
 -- a bound: its events and its sides
 abbrev pub bound_bytes : Layout → Difference → List ℕ
@@ -67,12 +64,12 @@ bound_bytes layout bound = two bound.from ++ (two bound.to ++ (side_bytes layout
 -- the sides that a record has in a layout: those of an execution lie within its ends; else these stand for open sides, which are
 -- the ends of all times
 abbrev pub IsLow : Layout → Mark → ℤ → Type 0
-IsLow layout Plain side = (side ≡ neg_ℤ horizon) ⊎ ((neg_ℤ (furthest layout) <ℤ side) × (side ≤ℤ furthest layout))
-IsLow layout Done side = (neg_ℤ (furthest layout) ≤ℤ side) × (side ≤ℤ furthest layout)
+IsLow layout Plain side = (side ≡ neg_ℤ horizon) ⊎ ((neg_ℤ (layout_horizon layout) <ℤ side) × (side ≤ℤ layout_horizon layout))
+IsLow layout Done side = (neg_ℤ (layout_horizon layout) ≤ℤ side) × (side ≤ℤ layout_horizon layout)
 
 abbrev pub IsHigh : Layout → Mark → ℤ → Type 0
-IsHigh layout Plain side = (side ≡ horizon) ⊎ ((neg_ℤ (furthest layout) ≤ℤ side) × (side <ℤ furthest layout))
-IsHigh layout Done side = (neg_ℤ (furthest layout) ≤ℤ side) × (side ≤ℤ furthest layout)
+IsHigh layout Plain side = (side ≡ horizon) ⊎ ((neg_ℤ (layout_horizon layout) ≤ℤ side) × (side <ℤ layout_horizon layout))
+IsHigh layout Done side = (neg_ℤ (layout_horizon layout) ≤ℤ side) × (side ≤ℤ layout_horizon layout)
 
 -- a bound of some plan, with sides that the layout spells
 pub record IsBound (layout : Layout) (mark : Mark) (bound : Difference) : Type 0 where

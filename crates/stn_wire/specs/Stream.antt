@@ -2,17 +2,12 @@
 pub mod Held
 pub mod Pieces
 pub mod Failures
-use Rattle.std.specs.Prelude.{◌≡◌, ℕ, ◌+◌, ◌<◌, ◌≤◌, List, [], ◌∷◌, ◌++◌, length, Option, None, Result, Ok, Err, ⊤}
-use Rattle.std.specs.Io.KnownBytes.{Consumes}
+use Rattle.std.specs.{Prelude.{◌≡◌, ℕ, ◌+◌, ◌<◌, ◌≤◌, List, [], ◌∷◌, ◌++◌, length, Option, None, Result, Ok, Err, ⊤}, Io.KnownBytes.Consumes}
 use Rattle.stn_refusal.specs.Codes.{number_of}
 use Rattle.stn_refusal.specs.declared.code.Code.TheVariants as code
-use Rattle.stn_device.specs.Bytes.{most_bytes}
-use Rattle.stn_device.specs.declared.whole.ReadFault.{ReadFault}
-use Rattle.stn_wire.specs.{Frame.content, Frame.spelling, Frame.IsFrame, Front.IsFront, Front.faulty, Front.unfinished, declared.fault.WireFault.WireFault, declared.stream.fault.FrameFault.FrameFault, declared.stream.reader.Next.Next, Stream.Held.Stream}
+use Rattle.stn_device.specs.{Bytes.most_bytes, declared.whole.ReadFault.{ReadFault, TheVariants.{Read, Bound, Memory}}}
+use Rattle.stn_wire.specs.{Frame.{content, spelling, IsFrame}, Front.{IsFront, faulty, unfinished}, declared.{fault.WireFault.WireFault, stream.{fault.FrameFault.{FrameFault, TheVariants.{Length, Kind, Body}}, reader.Next.{Next, TheVariants.{Frame as frame, Faulty, Closed, Cut}}}}, Stream.Held.Stream}
 use Rattle.stn_wire.specs.declared.fault.WireFault.TheVariants as wire
-use Rattle.stn_wire.specs.declared.stream.fault.FrameFault.TheVariants.{Length, Kind, Body}
-use Rattle.stn_wire.specs.declared.stream.reader.Next.TheVariants.{Frame as frame, Faulty, Closed, Cut}
-use Rattle.stn_device.specs.declared.whole.ReadFault.TheVariants.{Read, Bound, Memory}
 
 -- the fault of a stream of frames, as that of bytes
 abbrev pub wire_fault : FrameFault → WireFault
@@ -56,7 +51,7 @@ IsCounted count new (Err Bound) = count ≡ most_bytes + 1
 IsCounted count new (Err other) = count ≤ most_bytes
 
 -- the bytes that were read for an answer, after those that were pending
-pub record Gives {A : Type 0} (old new : Stream) (before after : Option (List ℕ)) (answer : Result (Next A) ReadFault) : Type 0 where
+pub record GivesNext {A : Type 0} (old new : Stream) (before after : Option (List ℕ)) (answer : Result (Next A) ReadFault) : Type 0 where
   pub bytes : List ℕ
   pub consumed : Consumes before after bytes
   pub next : IsNext (pending old ++ bytes) new answer

@@ -1,7 +1,6 @@
 // Bodies of frames: a table by kinds.
 ghost use Rattle.std.specs.Prelude.{◌≡◌, ◌∷◌, ◌≤◌, ◌++◌, length, IfOk, OnOk, option_map, if◌then◌else◌};
-ghost use Rattle.stn_wire.specs.Frame.{most_body, content, said_content, kind_of, rest_of, body_of, IsSaid};
-ghost use Rattle.stn_wire.specs.Reading.{IsBodyReading};
+ghost use Rattle.stn_wire.specs.{Frame.{most_body, content, said_content, kind_of, rest_of, body_of, HasSpelling}, Reading.IsBodyReading};
 
 use crate::frame::{Frame, Said};
 use crate::layout::Layout;
@@ -113,7 +112,7 @@ pub(crate) fn append_body<A: Allocator + Copy, B: Allocator>(
 ) -> Result<(), Memory>
     requires { length (body_of (said_content said.now)) ≤ most_body }
     ensures appended { OnOk result (out.new.items ≡ out.old.items ++ body_of (said_content said.now)) }
-    ensures said { OnOk result (IsSaid (said_content said.now)) }
+    ensures said { OnOk result (HasSpelling (said_content said.now)) }
 {
     out.push(kind_of(said))?;
     append_rest(out, said)
@@ -139,7 +138,7 @@ fn append_rest<A: Allocator + Copy, B: Allocator>(
 ) -> Result<(), Memory>
     requires { length (rest_of (said_content said.now)) ≤ most_body }
     ensures appended { OnOk result (out.new.items ≡ out.old.items ++ rest_of (said_content said.now)) }
-    ensures said { OnOk result (IsSaid (said_content said.now)) }
+    ensures said { OnOk result (HasSpelling (said_content said.now)) }
 {
     match said {
         Said::Hello(source) => append_source(out, source),

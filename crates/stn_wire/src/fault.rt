@@ -1,6 +1,5 @@
 ghost use Rattle.std.specs.Prelude.{◌≡◌};
-ghost use Rattle.stn_wire.specs.declared.fault.WireFault.TheVariants.{Memory};
-ghost use Rattle.stn_wire.specs.Failures.{wire_failure};
+ghost use Rattle.stn_wire.specs.{declared.fault.WireFault.TheVariants.Memory, Failures.wire_failure};
 
 use std::alloc::AllocError;
 use stn_refusal::{Code, Failure, Fault};

@@ -1,8 +1,5 @@
 ghost use Rattle.std.specs.Prelude.{◌≡◌, ◌-◌, ◌<◌, ◌↔◌, [], ◌++◌, take, length, min, IsTrue, IfOk, OnErr};
-ghost use Rattle.stn_wire.specs.Feeder.{holding, IsMissing};
-ghost use Rattle.stn_wire.specs.Feeding.{Leaves};
-ghost use Rattle.stn_wire.specs.Reading.{IsFrameTaken};
-ghost use Rattle.stn_wire.specs.Front.{IsFront, unfinished};
+ghost use Rattle.stn_wire.specs.{Feeder.{holding, LacksBytes}, Feeding.LeavesFeeder, Reading.IsFrameTaken, Front.{IsFront, unfinished}};
 
 use crate::fault::WireFault;
 use crate::fields::four_of;
@@ -35,13 +32,13 @@ pub struct Feeder<A: Allocator> {
 }
 
 impl<A: Allocator> Model for Feeder<A> {
-    ghost use Rattle.stn_wire.specs.Feeder.{FeederState, IsFeeder, IsMissing};
+    ghost use Rattle.stn_wire.specs.Feeder.{FeederState, IsFeeder, LacksBytes};
 
     ghost Value = { FeederState };
 
     ghost view = { λ f. record { held = f.held.items; broken = f.broken } };
 
-    ghost invariant = { λ f. IsFeeder f.held.items f.broken × IsMissing f.held.items f.missing };
+    ghost invariant = { λ f. IsFeeder f.held.items f.broken × LacksBytes f.held.items f.missing };
 }
 
 impl<A: Allocator + Copy> Feeder<A> {
@@ -69,7 +66,7 @@ impl<A: Allocator + Copy> Feeder<A> {
     /// Faults: those of `decode`, over what is held and the piece. After `Length`, `Kind` and `Body`
     /// each later call answers the same; after `Memory` no byte was taken.
     pub fn feed(&mut self, piece: &[u8]) -> Result<Fed<A>, WireFault>
-        ensures { Leaves self.old (record { piece = piece.now; answer = result }) self.new }
+        ensures { LeavesFeeder self.old (record { piece = piece.now; answer = result }) self.new }
     {
         if let Some(fault) = self.broken {
             return Err(fault);
@@ -124,7 +121,7 @@ fn take_frame<A: Allocator + Copy>(held: &mut Vec<u8, A>, piece: &[u8]) -> Resul
 // How many bytes an unfinished frame lacks, once its length and its kind are held.
 fn missing(held: &[u8]) -> usize
     requires { IsFront held.now unfinished }
-    ensures { IsMissing held.now result }
+    ensures { LacksBytes held.now result }
 {
     if held.len() < OPENING {
         return 0;

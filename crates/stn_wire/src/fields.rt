@@ -1,13 +1,9 @@
 // The numbers in a frame, and what they stand for.
-ghost use Rattle.std.specs.Prelude.{◌≡◌, ◌+◌, ◌*◌, ◌≤◌, ◌++◌, length, IsSome, IfSome, OnOk};
-ghost use Rattle.std.specs.Int.{w64, to_be_bytes};
+ghost use Rattle.std.specs.{Prelude.{◌≡◌, ◌+◌, ◌*◌, ◌≤◌, ◌++◌, length, IsSome, IfSome, OnOk}, Int.{w64, to_be_bytes}};
 ghost use Rattle.stn_time.specs.Time.{IsWithinHorizon};
 ghost use Rattle.stn_net.specs.Event.{most_events};
-ghost use Rattle.stn_records.specs.Id.{IsSite, IsId};
-ghost use Rattle.stn_records.specs.declared.record.Mark.{Mark as MarkOf};
-ghost use Rattle.stn_wire.specs.Spelling.{two, four, id_bytes, width_of, side_width, most_gap, side_bytes, IsLow, IsHigh, bound_bytes, IsBound, mark_byte, record_bytes, IsRecord};
-ghost use Rattle.stn_wire.specs.Reading.{IsReading};
-ghost use Rattle.stn_wire.specs.declared.layout.Layout.TheVariants.{New};
+ghost use Rattle.stn_records.specs.{Id.{IsSite, IsId}, declared.record.Mark.Mark as MarkOf};
+ghost use Rattle.stn_wire.specs.{Spelling.{two, four, id_bytes, width_of, side_width, most_gap, side_bytes, IsLow, IsHigh, bound_bytes, IsBound, mark_byte, record_bytes, IsRecord}, Reading.IsReadFrom, declared.layout.Layout.TheVariants.New};
 
 use crate::layout::Layout;
 use std::alloc::Allocator;
@@ -58,7 +54,7 @@ fn append_eight<A: Allocator>(out: &mut Vec<u8, A>, number: u64) -> Result<(), M
 
 pub(crate) fn read_id(bytes: &[u8]) -> Option<Id>
     requires { length bytes.now ≡ 4 }
-    ensures { IsReading IsId id_bytes bytes.now result }
+    ensures { IsReadFrom IsId id_bytes bytes.now result }
 {
     let site = read_site(&bytes[..2])?;
     Id::new(site, two_of(&bytes[2..4]))
@@ -66,7 +62,7 @@ pub(crate) fn read_id(bytes: &[u8]) -> Option<Id>
 
 fn read_site(bytes: &[u8]) -> Option<Site>
     requires { length bytes.now ≡ 2 }
-    ensures { IsReading IsSite two bytes.now result }
+    ensures { IsReadFrom IsSite two bytes.now result }
 {
     let number = u8::try_from(two_of(bytes)).ok()?;
     Site::new(number)
@@ -83,7 +79,7 @@ pub(crate) fn append_id<A: Allocator>(out: &mut Vec<u8, A>, id: Id) -> Result<()
 // How far a side lies above the least that the layout has.
 fn read_gap(layout: Layout, bytes: &[u8]) -> Option<u64>
     requires { length bytes.now ≡ side_width layout }
-    ensures { IsReading (λ gap. gap ≤ most_gap layout) (to_be_bytes (width_of layout)) bytes.now result }
+    ensures { IsReadFrom (λ gap. gap ≤ most_gap layout) (to_be_bytes (width_of layout)) bytes.now result }
 {
     let gap = layout.number_of(bytes);
     if gap <= layout.most_gap() {
@@ -96,7 +92,7 @@ fn read_gap(layout: Layout, bytes: &[u8]) -> Option<u64>
 // The lower side of a bound. The least that the layout has is open, unless the bound is an execution's.
 fn read_low(layout: Layout, mark: Mark, bytes: &[u8]) -> Option<Ms>
     requires { length bytes.now ≡ side_width layout }
-    ensures { IsReading (IsLow layout mark) (side_bytes layout) bytes.now result }
+    ensures { IsReadFrom (IsLow layout mark) (side_bytes layout) bytes.now result }
 {
     let gap = read_gap(layout, bytes)?;
     match mark {
@@ -108,7 +104,7 @@ fn read_low(layout: Layout, mark: Mark, bytes: &[u8]) -> Option<Ms>
 // The upper side, in the same way.
 fn read_high(layout: Layout, mark: Mark, bytes: &[u8]) -> Option<Ms>
     requires { length bytes.now ≡ side_width layout }
-    ensures { IsReading (IsHigh layout mark) (side_bytes layout) bytes.now result }
+    ensures { IsReadFrom (IsHigh layout mark) (side_bytes layout) bytes.now result }
 {
     let gap = read_gap(layout, bytes)?;
     match mark {
@@ -126,14 +122,14 @@ fn append_side<A: Allocator>(out: &mut Vec<u8, A>, side: Ms) -> Result<(), Memor
 
 fn read_event(bytes: &[u8]) -> Option<Event>
     requires { length bytes.now ≡ 2 }
-    ensures { IsReading (λ event. event ≤ most_events) two bytes.now result }
+    ensures { IsReadFrom (λ event. event ≤ most_events) two bytes.now result }
 {
     Event::new(two_of(bytes))
 }
 
 fn read_bound(layout: Layout, mark: Mark, bytes: &[u8]) -> Option<Bound>
     requires { length bytes.now ≡ 4 + 2 * side_width layout }
-    ensures { IsReading (IsBound layout mark) (bound_bytes layout) bytes.now result }
+    ensures { IsReadFrom (IsBound layout mark) (bound_bytes layout) bytes.now result }
 {
     let (from, rest) = bytes.split_at(2);
     let (to, sides) = rest.split_at(2);
@@ -177,7 +173,7 @@ fn mark_byte(mark: Mark) -> u8
 
 pub(crate) fn read_record(layout: Layout, bytes: &[u8]) -> Option<Record>
     requires { length bytes.now ≡ 5 + 2 * side_width layout }
-    ensures { IsReading (IsRecord layout) (record_bytes layout) bytes.now result }
+    ensures { IsReadFrom (IsRecord layout) (record_bytes layout) bytes.now result }
 {
     let mark = read_mark(bytes[0])?;
     let bound = read_bound(layout, mark, &bytes[1..])?;

@@ -1,6 +1,5 @@
 ghost use Rattle.std.specs.Prelude.{length, IfSome};
-ghost use Rattle.stn_wire.specs.Front.{IsFront, answered};
-ghost use Rattle.stn_wire.specs.Reading.{IsJudged};
+ghost use Rattle.stn_wire.specs.{Front.{IsFront, answered_front}, Reading.IsJudged};
 
 use crate::MOST_BODY;
 use crate::body::read_body;
@@ -19,7 +18,7 @@ pub fn decode<A: Allocator + Copy>(
     alloc: A,
     bytes: &[u8],
 ) -> Result<Option<(Frame<A>, usize)>, WireFault>
-    ensures { IfSome (answered result) (IsFront bytes.now) }
+    ensures { IfSome (answered_front result) (IsFront bytes.now) }
 {
     let length = wanted(bytes)?;
     if bytes.len() < length {

@@ -1,7 +1,5 @@
 ghost use Rattle.std.specs.Prelude.{◌≡◌, ℕ, ◌<◌, List, ◌++◌, length, OnOk};
-ghost use Rattle.stn_wire.specs.Reading.{IsReading};
-ghost use Rattle.stn_wire.specs.declared.layout.Layout.{Layout as LayoutOf};
-ghost use Rattle.stn_wire.specs.declared.layout.Layout.TheVariants.{New};
+ghost use Rattle.stn_wire.specs.{Reading.IsReadFrom, declared.layout.Layout.{Layout as LayoutOf, TheVariants.New}};
 
 use crate::fields::{append_id, append_record, read_id, read_record};
 use crate::layout::Layout;
@@ -24,7 +22,7 @@ pub(crate) trait Item: Copy {
 
     fn read(layout: Layout, bytes: &[u8]) -> Option<Self>
         requires { length bytes.now ≡ wide layout }
-        ensures { IsReading (IsSpelled layout) (bytes_of layout) bytes.now result };
+        ensures { IsReadFrom (IsSpelled layout) (bytes_of layout) bytes.now result };
 
     fn append<A: Allocator>(&self, out: &mut Vec<u8, A>) -> Result<(), Memory>
         ensures appended { OnOk result (out.new.items ≡ out.old.items ++ bytes_of New self.now) }
@@ -40,8 +38,7 @@ pub(crate) trait Item: Copy {
 }
 
 impl Item for (Id, Record) {
-    ghost use Rattle.stn_wire.specs.Spelling.{IsEntry, entry_bytes, entry_width};
-    ghost use Rattle.stn_wire.specs.Apart.{entry_some, entry_sized, entry_apart};
+    ghost use Rattle.stn_wire.specs.{Spelling.{IsEntry, entry_bytes, entry_width}, Apart.{entry_some, entry_sized, entry_apart}};
 
     ghost wide = { entry_width };
 
@@ -74,10 +71,8 @@ impl Item for (Id, Record) {
 }
 
 impl Item for (Id, Id) {
-    ghost use Rattle.std.specs.Prelude.{refl};
-    ghost use Rattle.std.proofs.Common.{lit<};
-    ghost use Rattle.stn_wire.specs.Spelling.{AreIds, amendment_bytes};
-    ghost use Rattle.stn_wire.specs.Apart.{amendment_apart};
+    ghost use Rattle.std.{specs.Prelude.refl, proofs.Common.lit<};
+    ghost use Rattle.stn_wire.specs.{Spelling.{AreIds, amendment_bytes}, Apart.amendment_apart};
 
     ghost wide = { λ layout. 8 };
 
@@ -110,10 +105,8 @@ impl Item for (Id, Id) {
 }
 
 impl Item for (Id, ()) {
-    ghost use Rattle.std.specs.Prelude.{refl};
-    ghost use Rattle.std.proofs.Common.{lit<};
-    ghost use Rattle.stn_wire.specs.Spelling.{IsTomb, tomb_bytes};
-    ghost use Rattle.stn_wire.specs.Apart.{tomb_apart};
+    ghost use Rattle.std.{specs.Prelude.refl, proofs.Common.lit<};
+    ghost use Rattle.stn_wire.specs.{Spelling.{IsTomb, tomb_bytes}, Apart.tomb_apart};
 
     ghost wide = { λ layout. 4 };
 

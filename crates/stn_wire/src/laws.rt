@@ -1,14 +1,6 @@
-ghost use Rattle.std.specs.Prelude.{◌≡◌, ◌<◌, ◌^◌, ◌⊎◌, ℕ, List, ◌++◌, []};
-ghost use Rattle.std.specs.List.{AllByRecursion};
-ghost use Rattle.stn_wire.specs.Frame.{FrameContent, spelling, IsFrame};
+ghost use Rattle.std.specs.{Prelude.{◌≡◌, ◌<◌, ◌^◌, ◌⊎◌, ℕ, List, ◌++◌, []}, List.AllByRecursion};
+ghost use Rattle.stn_wire.specs.{Frame.{FrameContent, spelling, IsFrame}, Feeder.{FeederState, holding}, Feeding.{Call, Feeds, stream_of, frames_of}, Spelling.{IsRecord, record_bytes}, OldSides.{IsWritten, written_bytes, as_read}, declared.{layout.Layout.TheVariants.Old, fault.WireFault.WireFault}, Front.{Front, faulty, unfinished, IsFront, BeginsFrame}};
 ghost use Rattle.stn_records.specs.declared.record.Record.{Record};
-ghost use Rattle.stn_wire.specs.Feeder.{FeederState, holding};
-ghost use Rattle.stn_wire.specs.Feeding.{Call, Feeds, stream_of, frames_of};
-ghost use Rattle.stn_wire.specs.Spelling.{IsRecord, record_bytes};
-ghost use Rattle.stn_wire.specs.OldSides.{IsWritten, written_bytes, as_read};
-ghost use Rattle.stn_wire.specs.declared.layout.Layout.TheVariants.{Old};
-ghost use Rattle.stn_wire.specs.Front.{Front, faulty, unfinished, IsFront, BeginsFrame};
-ghost use Rattle.stn_wire.specs.declared.fault.WireFault.{WireFault};
 
 use std::alloc::Allocator;
 

@@ -1,8 +1,6 @@
 // The two layouts of records in frames.
-ghost use Rattle.std.specs.Prelude.{◌≡◌, ◌*◌, length};
-ghost use Rattle.std.specs.Int.{to_be_bytes};
-ghost use Rattle.stn_wire.specs.Spelling.{furthest, width_of, side_width, most_gap, entry_width};
-ghost use Rattle.stn_wire.specs.Apart.{IsNumber};
+ghost use Rattle.std.specs.{Prelude.{◌≡◌, ◌*◌, length}, Int.to_be_bytes};
+ghost use Rattle.stn_wire.specs.{Spelling.{layout_horizon, width_of, side_width, most_gap, entry_width}, Apart.IsSideNumber};
 
 use crate::fields::{eight_of, four_of};
 use stn_time::HORIZON;
@@ -39,7 +37,7 @@ impl Layout {
 
     /// The greatest difference.
     pub(crate) fn furthest(self) -> i64
-        ensures { result ≡ furthest self }
+        ensures { result ≡ layout_horizon self }
     {
         match self {
             Layout::Old => OLD_HORIZON,
@@ -61,7 +59,7 @@ impl Layout {
     pub(crate) fn number_of(self, bytes: &[u8]) -> u64
         requires { length bytes.now ≡ side_width self }
         ensures spelled { to_be_bytes (width_of self) result ≡ bytes.now }
-        ensures small { IsNumber self result }
+        ensures small { IsSideNumber self result }
     {
         match self {
             Layout::Old => u64::from(four_of(bytes)),

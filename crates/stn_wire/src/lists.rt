@@ -1,9 +1,6 @@
 // Lists of items, with their count in front.
-ghost use Rattle.std.specs.Prelude.{◌≡◌, ℕ, ◌<◌, ◌^◌, List, ◌++◌, length, IfOk, OnOk, option_map};
-ghost use Rattle.std.specs.List.{flat_map, AllByRecursion};
-ghost use Rattle.stn_wire.specs.Spelling.{counted, AreCounted};
-ghost use Rattle.stn_wire.specs.Reading.{IsReading, AreItems, items_then, counted_then};
-ghost use Rattle.stn_wire.specs.declared.layout.Layout.TheVariants.{New};
+ghost use Rattle.std.specs.{Prelude.{◌≡◌, ℕ, ◌<◌, ◌^◌, List, ◌++◌, length, IfOk, OnOk, option_map}, List.{flat_map, AllByRecursion}};
+ghost use Rattle.stn_wire.specs.{Spelling.{counted, AreCounted}, Reading.{IsReadFrom, AreItems, items_then, counted_then}, declared.layout.Layout.TheVariants.New};
 
 use crate::fields::{append_two, two_of};
 use crate::item::Item;
@@ -18,7 +15,7 @@ fn read_items<T: Item, A: Allocator>(
     bytes: &[u8],
     count: u16,
 ) -> Result<Option<(Vec<T, A>, &[u8])>, Memory>
-    ensures { IfOk result (λ r. IsReading (λ (found : List T × List ℕ). AreItems (T.IsSpelled layout) count found.0) (items_then (T.bytes_of layout)) bytes.now
+    ensures { IfOk result (λ r. IsReadFrom (λ (found : List T × List ℕ). AreItems (T.IsSpelled layout) count found.0) (items_then (T.bytes_of layout)) bytes.now
         (option_map (λ found. (found.0.items, found.1.now)) r)) }
 {
     let mut items = Vec::new(alloc);
@@ -43,7 +40,7 @@ pub(crate) fn read_counted<T: Item, A: Allocator>(
     layout: Layout,
     bytes: &[u8],
 ) -> Result<Option<(Vec<T, A>, &[u8])>, Memory>
-    ensures { IfOk result (λ r. IsReading (λ (found : List T × List ℕ). AreCounted (T.IsSpelled layout) found.0) (counted_then (T.bytes_of layout)) bytes.now
+    ensures { IfOk result (λ r. IsReadFrom (λ (found : List T × List ℕ). AreCounted (T.IsSpelled layout) found.0) (counted_then (T.bytes_of layout)) bytes.now
         (option_map (λ found. (found.0.items, found.1.now)) r)) }
 {
     if bytes.len() < 2 {

@@ -1,9 +1,7 @@
 // The body of a HELLO frame after its kind: the form of a source, and the source.
 ghost use Rattle.std.specs.Prelude.{◌≡◌, ◌-◌, ◌^◌, ◌<◌, ◌≤◌, List, ℕ, ◌∷◌, ◌++◌, length, min, IfOk, OnOk, option_map};
 ghost use Rattle.stn_lift.specs.PlanSource.{plan_source};
-ghost use Rattle.stn_wire.specs.Spelling.{measured};
-ghost use Rattle.stn_wire.specs.Frame.{most_body, source_bytes, IsSaidSource};
-ghost use Rattle.stn_wire.specs.Reading.{IsReading, measured_then};
+ghost use Rattle.stn_wire.specs.{Spelling.measured, Frame.{most_body, source_bytes, IsSaidSource}, Reading.{IsReadFrom, measured_then}};
 
 use crate::fields::{append_four, append_two, four_of, two_of};
 use std::alloc::Allocator;
@@ -14,7 +12,7 @@ pub(crate) fn read_source<A: Allocator + Copy>(
     alloc: A,
     bytes: &[u8],
 ) -> Result<Option<Source<A>>, Memory>
-    ensures { IfOk result (λ r. IsReading IsSaidSource source_bytes bytes.now (option_map plan_source r)) }
+    ensures { IfOk result (λ r. IsReadFrom IsSaidSource source_bytes bytes.now (option_map plan_source r)) }
 {
     match bytes.split_first() {
         Some((0, steps)) => Ok(read_bare(steps)),
@@ -24,7 +22,7 @@ pub(crate) fn read_source<A: Allocator + Copy>(
 }
 
 fn read_bare<A: Allocator>(steps: &[u8]) -> Option<Source<A>>
-    ensures { IsReading IsSaidSource source_bytes (0 ∷ steps.now) (option_map plan_source result) }
+    ensures { IsReadFrom IsSaidSource source_bytes (0 ∷ steps.now) (option_map plan_source result) }
 {
     if steps.len() == 2 {
         Some(Source::Bare(two_of(steps)))
@@ -34,7 +32,7 @@ fn read_bare<A: Allocator>(steps: &[u8]) -> Option<Source<A>>
 }
 
 fn read_files<A: Allocator + Copy>(alloc: A, texts: &[u8]) -> Result<Option<Source<A>>, Memory>
-    ensures { IfOk result (λ r. IsReading IsSaidSource source_bytes (1 ∷ texts.now) (option_map plan_source r)) }
+    ensures { IfOk result (λ r. IsReadFrom IsSaidSource source_bytes (1 ∷ texts.now) (option_map plan_source r)) }
 {
     let Some((domain, rest)) = read_measured(texts) else {
         return Ok(None);
@@ -52,7 +50,7 @@ fn read_files<A: Allocator + Copy>(alloc: A, texts: &[u8]) -> Result<Option<Sour
 
 // A text after its length, and what stands after it.
 fn read_measured(bytes: &[u8]) -> Option<(&[u8], &[u8])>
-    ensures { IsReading (λ (found : List ℕ × List ℕ). length found.0 < 2 ^ 32) measured_then bytes.now
+    ensures { IsReadFrom (λ (found : List ℕ × List ℕ). length found.0 < 2 ^ 32) measured_then bytes.now
         (option_map (λ found. (found.0.now, found.1.now)) result) }
 {
     if bytes.len() < 4 {

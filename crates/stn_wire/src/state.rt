@@ -2,10 +2,7 @@
 ghost use Rattle.std.specs.Prelude.{◌≡◌, ℕ, ◌<◌, ◌^◌, List, ◌++◌, length, IfOk, OnOk, option_map};
 ghost use Rattle.std.specs.FinMap as fin;
 ghost use Rattle.stn_records.specs.Id.{SiteCounter};
-ghost use Rattle.stn_wire.specs.Spelling.{amendments_bytes, AreCounted, AreIds};
-ghost use Rattle.stn_wire.specs.Frame.{state_bytes, records_kind, IsState};
-ghost use Rattle.stn_wire.specs.Reading.{IsReading, IsStateWith, AreEntries, entries_then};
-ghost use Rattle.stn_wire.specs.declared.layout.Layout.TheVariants.{New};
+ghost use Rattle.stn_wire.specs.{Spelling.{amendments_bytes, AreCounted, AreIds}, Frame.{state_bytes, records_kind, IsState}, Reading.{IsReadFrom, IsStateWith, AreEntries, entries_then}, declared.layout.Layout.TheVariants.New};
 
 use crate::item::Item;
 use crate::layout::Layout;
@@ -21,7 +18,7 @@ pub(crate) fn read_state<A: Allocator + Copy>(
     amended: bool,
     bytes: &[u8],
 ) -> Result<Option<Records<A>>, Memory>
-    ensures { IfOk result (IsReading (IsStateWith layout amended) (state_bytes layout) bytes.now) }
+    ensures { IfOk result (IsReadFrom (IsStateWith layout amended) (state_bytes layout) bytes.now) }
 {
     let Some((additions, rest)) = read_counted(alloc, layout, bytes)? else {
         return Ok(None);
@@ -46,7 +43,7 @@ fn read_entries<A: Allocator + Copy>(
     amended: bool,
     bytes: &[u8],
 ) -> Result<Option<(Vec<(Id, Id), A>, &[u8])>, Memory>
-    ensures { IfOk result (λ r. IsReading (λ (found : List (SiteCounter × SiteCounter) × List ℕ). AreEntries amended found.0) entries_then bytes.now
+    ensures { IfOk result (λ r. IsReadFrom (λ (found : List (SiteCounter × SiteCounter) × List ℕ). AreEntries amended found.0) entries_then bytes.now
         (option_map (λ found. (found.0.items, found.1.now)) r)) }
 {
     if !amended {

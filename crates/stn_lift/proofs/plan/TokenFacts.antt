@@ -1,17 +1,15 @@
 -- The tokens of what is left of a line.
-use Rattle.std.proofs.Common.{◌≡◌, ℕ, suc, ◌+◌, Bool, true, false, List, [], ◌∷◌, take, drop, refl, ap, arith}
-use Rattle.std.specs.List.{prefix_len}
-use Rattle.stn_lift.specs.{declared.plan.bytes.Kind.Kind, Plan.Bytes.kind_of}
+use Rattle.std.{proofs.Common.{◌≡◌, ℕ, suc, ◌+◌, Bool, true, false, List, [], ◌∷◌, take, drop, refl, ap, arith}, specs.List.prefix_len}
+use Rattle.stn_lift.specs.{declared.plan.bytes.Kind.Kind, Plan.{Bytes.kind_of, Tokens.{Word, is_word_letter, is_word_byte, begins_word, tokens_with_letter, tokens_with_byte, tokens_of}}}
 use Rattle.stn_lift.specs.declared.plan.bytes.Kind.TheVariants as kind
-use Rattle.stn_lift.specs.Plan.Tokens.{Word, is_letter, is_word_byte, begins_word, before_letter, before_byte, tokens_of}
 
 -- a byte of a kind before the tokens after it
 pub tokens_before : (rest : List ℕ) (b : ℕ) (bytes : List ℕ) (found : Kind) → rest ≡ b ∷ bytes → found ≡ kind_of b
-    → tokens_of rest ≡ before_byte found b (begins_word bytes) (tokens_of bytes)
+    → tokens_of rest ≡ tokens_with_byte found b (begins_word bytes) (tokens_of bytes)
 unfolding tokens_of
 tokens_before rest b bytes found e k = rw (e, k) refl
 
-is_letter-Letter : (found : Kind) → is_letter found ≡ true → found ≡ kind.Letter
+is_letter-Letter : (found : Kind) → is_word_letter found ≡ true → found ≡ kind.Letter
 is_letter-Letter kind.Space e = cc
 is_letter-Letter kind.Comment e = cc
 is_letter-Letter (kind.Mark mark) e = cc
@@ -19,9 +17,9 @@ is_letter-Letter kind.Letter e = refl
 is_letter-Letter kind.Stray e = cc
 
 -- a letter belongs to the word after it
-tokens_of-letter : (b : ℕ) (bytes : List ℕ) → is_word_byte b ≡ true → tokens_of (b ∷ bytes) ≡ before_letter b (begins_word bytes) (tokens_of bytes)
+tokens_of-letter : (b : ℕ) (bytes : List ℕ) → is_word_byte b ≡ true → tokens_of (b ∷ bytes) ≡ tokens_with_letter b (begins_word bytes) (tokens_of bytes)
 unfolding tokens_of
-tokens_of-letter b bytes e = ap (λ found. before_byte found b (begins_word bytes) (tokens_of bytes)) (is_letter-Letter (kind_of b) e)
+tokens_of-letter b bytes e = ap (λ found. tokens_with_byte found b (begins_word bytes) (tokens_of bytes)) (is_letter-Letter (kind_of b) e)
 
 -- the tokens are one word, which goes up to a place, and the tokens after it
 abbrev BeginsWith : List ℕ → List ℕ → List ℕ → Type 0

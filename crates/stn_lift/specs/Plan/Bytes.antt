@@ -1,8 +1,7 @@
 -- What the bytes of a plan text are.
 use Rattle.std.specs.Prelude.{ℕ, ◌==◌, if◌then◌else◌}
 use Rattle.stn_text.specs.Bytes.{is_space, is_visible, semicolon}
-use Rattle.stn_lift.specs.declared.plan.bytes.Mark.TheVariants.{Colon, Open, Close, OpenSquare, CloseSquare}
-use Rattle.stn_lift.specs.declared.plan.bytes.Kind.{Kind}
+use Rattle.stn_lift.specs.declared.plan.bytes.{Mark.TheVariants.{Colon, Open, Close, OpenSquare, CloseSquare}, Kind.Kind}
 use Rattle.stn_lift.specs.declared.plan.bytes.Kind.TheVariants as kind
 
 -- What a byte is outside comments: `:` `(` `)` `[` `]` are tokens of one byte, and the other printing bytes but `;` are letters of words.

@@ -1,6 +1,6 @@
 -- What is printed for a fault of a plan's text.
 use Rattle.stn_refusal.specs.declared.code.Code.TheVariants as code
-use Rattle.stn_refusal.specs.{declared.failure.Failure.Failure, Refusals.refused, Refusals.refused_at, Refusals.out_of_memory}
+use Rattle.stn_refusal.specs.{declared.failure.Failure.Failure, Refusals.{refused, refused_at, out_of_memory}}
 use Rattle.stn_lift.specs.declared.plan.fault.PlanFault.{PlanFault}
 use Rattle.stn_lift.specs.declared.plan.fault.PlanFault.TheVariants as plan
 

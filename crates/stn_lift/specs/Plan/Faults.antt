@@ -1,25 +1,24 @@
 -- Why a text is refused, in the words of its lines.
 use Rattle.std.specs.Prelude.{◌≡◌, ℕ, ◌<◌, ◌≤◌, List, ◌∷◌, ◌++◌, length, All, Ok, Err, IsOk}
-use Rattle.stn_lift.specs.{declared.plan.fault.PlanFault.PlanFault, Plan.Lines.lines_of, Plan.Steps.PlannedStep, Plan.Steps.most_text, Plan.Steps.most_steps, Plan.Steps.line_step, Plan.Steps.steps_of}
-use Rattle.stn_lift.specs.declared.plan.fault.PlanFault.TheVariants.{TooLong, Syntax, Number, Negative, TooManySteps, Memory}
+use Rattle.stn_lift.specs.{declared.plan.fault.PlanFault.{PlanFault, TheVariants.{TooLong, Syntax, Number, Negative, TooManySteps, Memory}}, Plan.{Lines.lines_of, Steps.{PlannedStep, most_text, most_steps, line_step, steps_of}}}
 
 -- a fault that names this line
-abbrev pub IsFaultOf : ℕ → PlanFault → Type 0
-IsFaultOf line TooLong = ⊥
-IsFaultOf line (Syntax number) = number ≡ line
-IsFaultOf line (Number number) = number ≡ line
-IsFaultOf line (Negative number) = number ≡ line
-IsFaultOf line TooManySteps = ⊥
-IsFaultOf line Memory = ⊥
+abbrev pub NamesLine : ℕ → PlanFault → Type 0
+NamesLine line TooLong = ⊥
+NamesLine line (Syntax number) = number ≡ line
+NamesLine line (Number number) = number ≡ line
+NamesLine line (Negative number) = number ≡ line
+NamesLine line TooManySteps = ⊥
+NamesLine line Memory = ⊥
 
 -- one of the lines has the fault by itself, which names that line, and no line before it has a fault
-pub record IsFirstFault (lines : List (ℕ × List ℕ)) (fault : PlanFault) : Type 0 where
+pub record IsFirstLineFault (lines : List (ℕ × List ℕ)) (fault : PlanFault) : Type 0 where
   pub earlier : List (ℕ × List ℕ)
   pub line : ℕ × List ℕ
   pub later : List (ℕ × List ℕ)
   pub whole : lines ≡ earlier ++ line ∷ later
   pub its_fault : line_step line ≡ Err fault
-  pub its_number : IsFaultOf line.0 fault
+  pub its_number : NamesLine line.0 fault
   pub none_before : All (λ other. IsOk (line_step other)) earlier
 
 -- no line has a fault, and there are more steps than a plan may have
@@ -29,8 +28,8 @@ pub record HasTooManySteps (lines : List (ℕ × List ℕ)) : Type 0 where
   pub many : most_steps < length steps
 
 -- the cause that a fault has: a text that is too long has no other
-abbrev pub IsCause : List ℕ → PlanFault → Type 0
-IsCause text TooLong = most_text < length text
-IsCause text TooManySteps = (length text ≤ most_text) × HasTooManySteps (lines_of text)
-IsCause text Memory = Unit {0}
-IsCause text fault = (length text ≤ most_text) × IsFirstFault (lines_of text) fault
+abbrev pub IsPlanCause : List ℕ → PlanFault → Type 0
+IsPlanCause text TooLong = most_text < length text
+IsPlanCause text TooManySteps = (length text ≤ most_text) × HasTooManySteps (lines_of text)
+IsPlanCause text Memory = Unit {0}
+IsPlanCause text fault = (length text ≤ most_text) × IsFirstLineFault (lines_of text) fault

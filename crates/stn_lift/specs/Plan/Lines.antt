@@ -1,5 +1,5 @@
 -- The lines of a text with their numbers.
-use Rattle.std.specs.{Prelude.ℕ, Prelude.List, List.enumerate_from}
+use Rattle.std.specs.{Prelude.{ℕ, List}, List.enumerate_from}
 use Rattle.stn_text.specs.Lines as text
 
 -- numbered from a number on

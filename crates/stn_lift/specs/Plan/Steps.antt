@@ -1,13 +1,10 @@
 -- The steps of a plan text, or its first fault.
-use Rattle.std.specs.Prelude.{◌≡◌, ℕ, ℤ, pos, ◌≤ℤ◌, ◌≤◌, Bool, true, false, ◌||◌, nat_lt, if◌then◌else◌, List, [], ◌∷◌, ◌++◌, length, All, Option, Some, None, IfSome, Result, Ok, Err}
-use Rattle.std.specs.{Int.is_negative, Option.option_map_or, Option.option_to_list}
+use Rattle.std.specs.{Prelude.{◌≡◌, ℕ, ℤ, pos, ◌≤ℤ◌, ◌≤◌, Bool, true, false, ◌||◌, nat_lt, if◌then◌else◌, List, [], ◌∷◌, ◌++◌, length, All, Option, Some, None, IfSome, Result, Ok, Err}, Int.is_negative, Option.{option_map_or, option_to_list}}
 use Rattle.stn_time.specs.{declared.reading.TimeFault.TimeFault, TimeOf.time_of}
 pub use Rattle.stn_text.specs.Bytes.{most_text}
 use Rattle.stn_text.specs.Faults.{◌>>=◌}
 pub use Rattle.stn_net.specs.Event.{most_steps}
-use Rattle.stn_lift.specs.declared.plan.bytes.Mark.TheVariants.{Colon, Open, Close, OpenSquare, CloseSquare}
-use Rattle.stn_lift.specs.{declared.plan.fault.PlanFault.PlanFault, Plan.Tokens.Lexeme, Plan.Tokens.Word, Plan.Tokens.Sign, Plan.Tokens.tokens_of, Plan.Lines.lines_of}
-use Rattle.stn_lift.specs.declared.plan.fault.PlanFault.TheVariants.{TooLong, Syntax, Number, Negative, TooManySteps, Memory}
+use Rattle.stn_lift.specs.{declared.plan.{bytes.Mark.TheVariants.{Colon, Open, Close, OpenSquare, CloseSquare}, fault.PlanFault.{PlanFault, TheVariants.{TooLong, Syntax, Number, Negative, TooManySteps, Memory}}}, Plan.{Tokens.{Lexeme, Word, Sign, tokens_of}, Lines.lines_of}}
 
 -- a step without where it lies in memory
 pub record PlannedStep : Type 0 where

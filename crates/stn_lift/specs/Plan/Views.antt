@@ -1,6 +1,6 @@
 -- Steps and their parts as contracts see them, without where they lie in memory.
-use Rattle.std.specs.{Prelude.ℕ, Prelude.List, Prelude.map, Prelude.Vec, Borrow.Bor, Option.option_map}
-use Rattle.stn_lift.specs.{Plan.Steps.Form, Plan.Steps.PlannedStep, declared.plan.step.Step.Step, declared.plan.step.Words.Words}
+use Rattle.std.specs.{Prelude.{ℕ, List, map, Vec}, Borrow.Bor, Option.option_map}
+use Rattle.stn_lift.specs.{Plan.Steps.{Form, PlannedStep}, declared.plan.step.{Step.Step, Words.Words}}
 
 abbrev pub word_of : Bor (List ℕ) → List ℕ
 word_of word = word.now

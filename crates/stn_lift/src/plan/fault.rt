@@ -1,8 +1,7 @@
 //! Why a text is no plan.
 
 ghost use Rattle.std.specs.Prelude.{◌≡◌};
-ghost use Rattle.stn_lift.specs.declared.plan.fault.PlanFault.TheVariants.{Memory};
-ghost use Rattle.stn_lift.specs.Plan.Failures.{plan_failure};
+ghost use Rattle.stn_lift.specs.{declared.plan.fault.PlanFault.TheVariants.Memory, Plan.Failures.plan_failure};
 
 use std::alloc::AllocError;
 use stn_refusal::{Code, Failure, Fault};

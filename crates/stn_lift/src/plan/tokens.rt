@@ -1,7 +1,6 @@
 //! The tokens of a line.
 
-ghost use Rattle.std.specs.Prelude.{◌≡◌, ◌∷◌, ◌≤◌, ◌↔◌, [], length, IsTrue, MatchOption, IfNone};
-ghost use Rattle.std.specs.List.{prefix_len};
+ghost use Rattle.std.specs.{Prelude.{◌≡◌, ◌∷◌, ◌≤◌, ◌↔◌, [], length, IsTrue, MatchOption, IfNone}, List.prefix_len};
 ghost use Rattle.stn_lift.specs.Plan.Tokens.{lexeme_of, tokens_of, is_word_byte};
 
 use crate::plan::bytes::{Kind, Mark, kind_of};

@@ -6,12 +6,12 @@ pub record Square : Type 0 where
   pub entries : List ℤ
 
 -- the entry at a place of a list of entries
-abbrev pub entry_at : List ℤ → ℕ → ℤ
-entry_at entries place = slice_index_or entries place (pos 0)
+abbrev pub entry_in : List ℤ → ℕ → ℤ
+entry_in entries place = slice_index_or entries place (pos 0)
 
 -- the entry in the row of x and the column of y
 abbrev pub entry : Square → ℕ → ℕ → ℤ
-entry square x y = entry_at square.entries (x * (square.events + 1) + y)
+entry square x y = entry_in square.entries (x * (square.events + 1) + y)
 
 -- such a square, and how often it was tightened by a bound, where a copy counts as one and as all that were copied
 pub record Table : Type 0 where

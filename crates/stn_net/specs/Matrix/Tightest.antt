@@ -1,6 +1,5 @@
 use Rattle.std.specs.Prelude.{◌≡◌, ℕ, ℤ, ◌≤◌, ◌-ℤ◌, ◌≤ℤ◌, List, All}
-use Rattle.stn_net.specs.{Difference.Difference, Difference.NamesEvents, Schedule.IsSchedule, Schedule.HasSchedule}
-use Rattle.stn_net.specs.Matrix.Table.{Table, far_of}
+use Rattle.stn_net.specs.{Difference.{Difference, NamesEvents}, Schedule.{IsSchedule, HasSchedule}, Matrix.Table.{Table, far_of}}
 
 -- the time of y lies at most `most` after that of x in every schedule, and just so in some schedule
 pub record IsTightest (bounds : List Difference) (x y : ℕ) (most : ℤ) : Type 0 where

@@ -1,12 +1,10 @@
 -- For proofs alone: no public clause cites these words.
-use Rattle.std.specs.Prelude.{◌≡◌, ◌≢◌, ◌⊎◌, ℕ, ℤ, ◌+◌, ◌*◌, ◌≤◌, ◌<◌, ◌+ℤ◌, ◌≤ℤ◌, neg_ℤ, List, length, slice_index_or, All, Contains}
-use Rattle.std.specs.Int.{int_min}
+use Rattle.std.specs.{Prelude.{◌≡◌, ◌≢◌, ◌⊎◌, ℕ, ℤ, ◌+◌, ◌*◌, ◌≤◌, ◌<◌, ◌+ℤ◌, ◌≤ℤ◌, neg_ℤ, List, length, slice_index_or, All, Contains}, Int.int_min}
 use Rattle.stn_time.specs.Time.{horizon}
-use Rattle.stn_net.specs.{Difference.Difference, Event.most_events}
-use Rattle.stn_net.specs.Matrix.Table.{Square}
+use Rattle.stn_net.specs.{Difference.Difference, Event.most_events, Matrix.Table.Square}
 
 -- there are no more than the most events, and an entry for each row and each column
-pub record IsWhole (square : Square) : Type 0 where
+pub record IsWholeSquare (square : Square) : Type 0 where
   pub few : square.events ≤ most_events
   pub entries : length square.entries ≡ (square.events + 1) * (square.events + 1)
 
@@ -29,8 +27,8 @@ pub record HasRoom (far : ℕ → ℕ → ℤ) (bound : Difference) : Type 0 whe
   pub lower : bound.lo ≤ℤ far bound.from bound.to
 
 -- the difference is no more than twice the horizon, on either side of zero
-abbrev pub IsInReach : ℤ → Type 0
-IsInReach millis = (neg_ℤ (horizon +ℤ horizon) ≤ℤ millis) × (millis ≤ℤ (horizon +ℤ horizon))
+abbrev pub IsWithinTwoHorizons : ℤ → Type 0
+IsWithinTwoHorizons millis = (neg_ℤ (horizon +ℤ horizon) ≤ℤ millis) × (millis ≤ℤ (horizon +ℤ horizon))
 
 -- these columns are about the events, and among them is each one before `column` whose event comes nearer to u by way
 -- of v, which lies at most w after u
@@ -62,7 +60,7 @@ pub record AreRunsOf (size : ℕ) (own onward : ℕ → ℤ) (through : ℤ) (co
       → own (slice_index_or columns j 0) ≤ℤ (through +ℤ onward (slice_index_or columns j 0))
 
 -- one entry is this value, and the others are as they were
-pub record IsWritten (events : ℕ) (old new : ℕ → ℕ → ℤ) (row column : ℕ) (value : ℤ) : Type 0 where
+pub record IsWrittenEntry (events : ℕ) (old new : ℕ → ℕ → ℤ) (row column : ℕ) (value : ℤ) : Type 0 where
   pub here : new row column ≡ value
   pub others : (x y : ℕ) → x ≤ events → y ≤ events → (x ≢ row) ⊎ (y ≢ column) → new x y ≡ old x y
 

@@ -1,7 +1,6 @@
 -- Which event of a plan may run next, and when. A list of tests says which events are done, the origin's first.
 use Rattle.std.specs.Prelude.{◌≡◌, ℕ, ℤ, ◌<◌, ◌≤◌, ◌≤ℤ◌, ◌↔◌, Bool, true, false, List, Option, Some, None, slice_index_or}
-use Rattle.stn_net.specs.{Difference.Difference, Schedule.IsSchedule, Windows.Window.IsInWindow, declared.windows.answers.Next.Next}
-use Rattle.stn_net.specs.declared.windows.answers.Next.TheVariants.{Run, AllDone, Overdue}
+use Rattle.stn_net.specs.{Difference.Difference, Schedule.IsSchedule, Windows.Window.IsInWindow, declared.windows.answers.Next.{Next, TheVariants.{Run, AllDone, Overdue}}}
 
 -- the event is left: it is one of the list beside the origin, and is not done
 abbrev pub IsLeft : List Bool → ℕ → Type 0

@@ -1,18 +1,16 @@
 -- For proofs alone: no public clause cites these words.
 -- What the differences of the events say about which of them may come first.
-use Rattle.std.specs.Prelude.{◌≡◌, ◌⊎◌, ℕ, ℤ, pos, neg_ℤ, ◌==◌, ◌<◌, ◌≤◌, ◌≤ℤ◌, ◌<ℤ◌, Bool, int_le, if◌then◌else◌, List, length, ◌+◌, All, count_by, Option, Some, None}
-use Rattle.std.specs.List.{Contains}
+use Rattle.std.specs.{Prelude.{◌≡◌, ◌⊎◌, ℕ, ℤ, pos, neg_ℤ, ◌==◌, ◌<◌, ◌≤◌, ◌≤ℤ◌, ◌<ℤ◌, Bool, int_le, if◌then◌else◌, List, length, ◌+◌, All, count_by, Option, Some, None}, List.Contains}
 use Rattle.stn_time.specs.Time.{horizon}
-use Rattle.stn_net.specs.Difference.{Difference, NamesEvents}
-use Rattle.stn_net.specs.Windows.{Dispatch.IsLeft, Dispatch.ComesFirst, Soonest.AreEarliest, Soonest.AreLatest, Soonest.AreSoonest}
+use Rattle.stn_net.specs.{Difference.{Difference, NamesEvents}, Windows.{Dispatch.{IsLeft, ComesFirst}, Soonest.{AreEarliest, AreLatest, AreSoonest}}}
 
 -- the earliest time of an event
 abbrev pub earliest : (ℕ → ℕ → ℤ) → ℕ → ℤ
 earliest far event = neg_ℤ (far event 0)
 
 -- no event that is left has to come before the event
-abbrev pub Leads : (ℕ → ℕ → ℤ) → List Bool → ℕ → Type 0
-Leads far done event = (other : ℕ) → IsLeft done other → pos 0 ≤ℤ far event other
+abbrev pub MayLead : (ℕ → ℕ → ℤ) → List Bool → ℕ → Type 0
+MayLead far done event = (other : ℕ) → IsLeft done other → pos 0 ≤ℤ far event other
 
 -- the latest time of each event that is left is at least the time
 abbrev pub NonePast : (ℕ → ℤ) → List Bool → ℤ → Type 0
@@ -22,7 +20,7 @@ NonePast latest done time = (event : ℕ) → IsLeft done event → time ≤ℤ 
 pub record CanLead (far : ℕ → ℕ → ℤ) (done : List Bool) (now : ℤ) (event : ℕ) : Type 0 where
   pub left : IsLeft done event
   pub come : earliest far event ≤ℤ now
-  pub leads : Leads far done event
+  pub leads : MayLead far done event
 
 -- the time is the least of the latest times of the events that are left
 pub record IsLeastLatest (latest : ℕ → ℤ) (done : List Bool) (time : ℤ) : Type 0 where

@@ -1,8 +1,6 @@
 -- The whole rest of a plan, run event by event. A run is the time and the number of an event.
 use Rattle.std.specs.Prelude.{◌≡◌, ℕ, ℤ, true, ◌==◌, ◌≤ℤ◌, Bool, List, [], ◌∷◌, ◌++◌, All, count_by, slice_set}
-use Rattle.stn_net.specs.{Difference.Difference, Schedule.IsSchedule, Windows.Dispatch.IsLeft, Windows.Dispatch.IsNext, Windows.Dispatch.IsOverdue, Windows.Dispatch.CanWaitUntil, declared.windows.answers.RehearseFault.RehearseFault}
-use Rattle.stn_net.specs.declared.windows.answers.Next.TheVariants.{Run, AllDone}
-use Rattle.stn_net.specs.declared.windows.answers.RehearseFault.TheVariants.{Overdue, Memory}
+use Rattle.stn_net.specs.{Difference.Difference, Schedule.IsSchedule, Windows.Dispatch.{IsLeft, IsNext, IsOverdue, CanWaitUntil}, declared.windows.answers.{RehearseFault.{RehearseFault, TheVariants.{Overdue, Memory}}, Next.TheVariants.{Run, AllDone}}}
 
 -- the bound that says that the event takes the time
 abbrev pub fixed_at : ℤ → ℕ → Difference

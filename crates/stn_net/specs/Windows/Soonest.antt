@@ -1,6 +1,6 @@
 -- The earliest and the latest times of a plan's events, and the soonest of those that are left.
 use Rattle.std.specs.Prelude.{ℕ, ℤ, ◌≤◌, ◌≤ℤ◌, Bool, List}
-use Rattle.stn_net.specs.{Difference.Difference, Schedule.IsSchedule, Windows.Window.IsInWindow, Windows.Dispatch.IsLeft, Windows.Dispatch.LeavesNoneBefore}
+use Rattle.stn_net.specs.{Difference.Difference, Schedule.IsSchedule, Windows.{Window.IsInWindow, Dispatch.{IsLeft, LeavesNoneBefore}}}
 
 -- each of so many events takes its time in some schedule, and comes no earlier in any
 pub record AreEarliest (bounds : List Difference) (events : ℕ) (times : ℕ → ℤ) : Type 0 where

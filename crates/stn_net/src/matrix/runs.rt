@@ -1,9 +1,5 @@
-ghost use Rattle.std.specs.Prelude.{◌≡◌, ◌+◌, ◌<◌, ◌≤◌, ℕ, length, slice_index_or, All};
-ghost use Rattle.std.specs.List.Sorted.{IsPermutation};
-ghost use Rattle.stn_net.specs.Event.{most_events};
-ghost use Rattle.stn_net.specs.Matrix.Closed.{IsClosed};
-ghost use Rattle.stn_net.specs.Matrix.Table.{entry};
-ghost use Rattle.stn_net.specs.Matrix.Way.{AreNearer, AreRuns, IsOnWay};
+ghost use Rattle.std.specs.{Prelude.{◌≡◌, ◌+◌, ◌<◌, ◌≤◌, ℕ, length, slice_index_or, All}, List.Sorted.IsPermutation};
+ghost use Rattle.stn_net.specs.{Event.most_events, Matrix.{Closed.IsClosed, Table.entry, Way.{AreNearer, AreRuns, IsOnWay}}};
 
 use crate::matrix::square::{Arc, Square};
 use std::alloc::Allocator;

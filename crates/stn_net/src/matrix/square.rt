@@ -1,11 +1,6 @@
-ghost use Rattle.std.specs.Prelude.{◌≡◌, ◌≢◌, ◌⊎◌, ℕ, ◌+◌, ◌*◌, ◌<◌, ◌≤◌, ◌↔◌, pos, neg_ℤ, ◌+ℤ◌, ◌≤ℤ◌, IsTrue, IfOk, length, take, All, Contains};
-ghost use Rattle.std.specs.Int.{int_min};
-ghost use Rattle.stn_net.specs.Difference.{NamesEvents};
-ghost use Rattle.stn_net.specs.Event.{most_events};
+ghost use Rattle.std.specs.{Prelude.{◌≡◌, ◌≢◌, ◌⊎◌, ℕ, ◌+◌, ◌*◌, ◌<◌, ◌≤◌, ◌↔◌, pos, neg_ℤ, ◌+ℤ◌, ◌≤ℤ◌, IsTrue, IfOk, length, take, All, Contains}, Int.int_min};
+ghost use Rattle.stn_net.specs.{Difference.NamesEvents, Event.most_events, Matrix.{Closed.{IsClosed, IsWidest}, Table.{entry, entry_in}, Way.{shorter, narrower, IsImplied, HasRoom, IsWithinTwoHorizons, AreNearer, AreRunsOf, IsRowShortened, IsWrittenEntry}}};
 ghost use Rattle.stn_time.specs.Time.{horizon};
-ghost use Rattle.stn_net.specs.Matrix.Closed.{IsClosed, IsWidest};
-ghost use Rattle.stn_net.specs.Matrix.Table.{entry, entry_at};
-ghost use Rattle.stn_net.specs.Matrix.Way.{shorter, narrower, IsImplied, HasRoom, IsInReach, AreNearer, AreRunsOf, IsRowShortened, IsWritten};
 
 use crate::matrix::runs::{Runs, arrange};
 use crate::{Bound, Event, MOST_EVENTS};
@@ -32,14 +27,13 @@ pub(crate) struct Square<A: Allocator> {
 }
 
 impl<A: Allocator> Model for Square<A> {
-    ghost use Rattle.stn_net.specs.Matrix.Table.{Square};
-    ghost use Rattle.stn_net.specs.Matrix.Way.{IsWhole};
+    ghost use Rattle.stn_net.specs.Matrix.{Table.Square, Way.IsWholeSquare};
 
     ghost Value = { Square };
 
     ghost view = { λ s. record { events = s.events; entries = s.entries.items } };
 
-    ghost invariant = { λ s. IsWhole (record { events = s.events; entries = s.entries.items }) };
+    ghost invariant = { λ s. IsWholeSquare (record { events = s.events; entries = s.entries.items }) };
 }
 
 impl<A: Allocator> Square<A> {
@@ -202,7 +196,7 @@ impl<A: Allocator> Square<A> {
         requires row { row ≤ self.old.events }
         requires by { by ≤ self.old.events }
         requires apart { row ≢ by }
-        requires ways { (y : ℕ) → y ≤ self.old.events → IsInReach (through +ℤ entry self.old by y) }
+        requires ways { (y : ℕ) → y ≤ self.old.events → IsWithinTwoHorizons (through +ℤ entry self.old by y) }
         requires runs { AreRunsOf (self.old.events + 1) (entry self.old row) (entry self.old by) through runs.columns.now runs.ends.now }
         requires left_out { (y : ℕ) → y ≤ self.old.events → Contains runs.columns.now y
             ⊎ (entry self.old row y ≤ℤ (through +ℤ entry self.old by y)) }
@@ -240,7 +234,7 @@ impl<A: Allocator> Square<A> {
     pub fn row(&self, row: usize) -> &[i64]
         requires { row ≤ self.now.events }
         ensures long { length result.now ≡ self.now.events + 1 }
-        ensures entries { (y : ℕ) → y ≤ self.now.events → entry_at result.now y ≡ entry self.now row y }
+        ensures entries { (y : ℕ) → y ≤ self.now.events → entry_in result.now y ≡ entry self.now row y }
     {
         let begin = row * self.size();
         &self.entries[begin..begin + self.size()]
@@ -252,7 +246,7 @@ impl<A: Allocator> Square<A> {
         requires row { row ≤ self.old.events }
         requires column { column ≤ self.old.events }
         ensures events { self.new.events ≡ self.old.events }
-        ensures written { IsWritten self.old.events (entry self.old) (entry self.new) row column value }
+        ensures written { IsWrittenEntry self.old.events (entry self.old) (entry self.new) row column value }
     {
         let place = row * self.size() + column;
         self.entries[place] = value;

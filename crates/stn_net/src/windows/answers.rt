@@ -1,6 +1,5 @@
 ghost use Rattle.std.specs.Prelude.{◌≡◌};
-ghost use Rattle.stn_net.specs.declared.windows.answers.RehearseFault.TheVariants.{Memory as want_of_memory};
-ghost use Rattle.stn_net.specs.Windows.Failures.{rehearse_failure};
+ghost use Rattle.stn_net.specs.{declared.windows.answers.RehearseFault.TheVariants.Memory as want_of_memory, Windows.Failures.rehearse_failure};
 
 use crate::Event;
 use std::alloc::AllocError;

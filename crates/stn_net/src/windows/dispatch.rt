@@ -1,9 +1,5 @@
 ghost use Rattle.std.specs.Prelude.{◌≡◌, ◌≢◌, ◌+◌, ◌<◌, ◌≤◌, ◌≤ℤ◌, ◌↔◌, List, length, IsTrue, IfSome, IfNone, Some};
-ghost use Rattle.stn_net.specs.Difference.{Difference};
-ghost use Rattle.stn_net.specs.Matrix.Table.{far_of};
-ghost use Rattle.stn_net.specs.Matrix.Tightest.{IsExact};
-ghost use Rattle.stn_net.specs.Windows.Dispatch.{IsLeft, IsReady, AreReadyTimes, IsNext, NamesLeft};
-ghost use Rattle.stn_net.specs.Windows.Leading.{earliest, Leads, NonePast, CanLead, IsFirstPast, IsFirstRun, IsLeastLatest, earlier_of};
+ghost use Rattle.stn_net.specs.{Difference.Difference, Matrix.{Table.far_of, Tightest.IsExact}, Windows.{Dispatch.{IsLeft, IsReady, AreReadyTimes, IsNext, NamesLeft}, Leading.{earliest, MayLead, NonePast, CanLead, IsFirstPast, IsFirstRun, IsLeastLatest, earlier_of}}};
 
 use crate::windows::answers::Next;
 use crate::{Event, Matrix};
@@ -141,7 +137,7 @@ fn has_come<A: Allocator>(matrix: &Matrix<A>, event: Event, now: Ms) -> bool
 fn leads<A: Allocator>(matrix: &Matrix<A>, done: &[bool], event: Event) -> bool
     requires one_each { length done.now ≡ matrix.now.events + 1 }
     requires within { event ≤ matrix.now.events }
-    ensures { IsTrue result ↔ Leads (far_of matrix.now) done.now event }
+    ensures { IsTrue result ↔ MayLead (far_of matrix.now) done.now event }
 {
     for number in 1..matrix.events() + 1 {
         let other = Event::new(number).unwrap();

@@ -1,7 +1,5 @@
 ghost use Rattle.std.specs.Prelude.{◌≤◌, List};
-ghost use Rattle.stn_net.specs.Difference.{Difference};
-ghost use Rattle.stn_net.specs.Matrix.Tightest.{IsExact};
-ghost use Rattle.stn_net.specs.Windows.Window.{IsWindow};
+ghost use Rattle.stn_net.specs.{Difference.Difference, Matrix.Tightest.IsExact, Windows.Window.IsWindow};
 
 use crate::{Event, Matrix};
 use std::alloc::Allocator;

@@ -1,11 +1,5 @@
 ghost use Rattle.std.specs.Prelude.{◌≡◌, ◌⊎◌, ◌+◌, ℕ, ℤ, Bool, List, length};
-ghost use Rattle.stn_net.specs.Difference.{Difference};
-ghost use Rattle.stn_net.specs.Matrix.Table.{Table};
-ghost use Rattle.stn_net.specs.Matrix.Tightest.{IsExact};
-ghost use Rattle.stn_net.specs.declared.windows.answers.Next.{Next};
-ghost use Rattle.stn_net.specs.Windows.Dispatch.{IsNext, IsOverdue};
-ghost use Rattle.stn_net.specs.Windows.Rehearsal.{IsRehearsal, IsRehearseFault};
-ghost use Rattle.stn_net.specs.declared.windows.answers.RehearseFault.TheVariants.{Overdue};
+ghost use Rattle.stn_net.specs.{Difference.Difference, Matrix.{Table.Table, Tightest.IsExact}, declared.windows.answers.{Next.Next, RehearseFault.TheVariants.Overdue}, Windows.{Dispatch.{IsNext, IsOverdue}, Rehearsal.{IsRehearsal, IsRehearseFault}}};
 
 /// The law that one answer says what comes next.
 pub fn next_unique()

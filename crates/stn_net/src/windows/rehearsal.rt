@@ -1,10 +1,5 @@
 ghost use Rattle.std.specs.Prelude.{◌≡◌, ◌≢◌, ◌+◌, ◌∷◌, [], ◌++◌, true, ℕ, List, length, slice_set, IfOk, OnOk, IfErr};
-ghost use Rattle.stn_net.specs.Difference.{Difference};
-ghost use Rattle.stn_net.specs.Schedule.{HasSchedule};
-ghost use Rattle.stn_net.specs.Matrix.Tightest.{IsExact};
-ghost use Rattle.stn_net.specs.Windows.Dispatch.{IsLeft, IsNext, NamesLeft, CanWaitUntil};
-ghost use Rattle.stn_net.specs.declared.windows.answers.Next.TheVariants.{Overdue};
-ghost use Rattle.stn_net.specs.Windows.Rehearsal.{fixed_at, IsRehearsal, NeverFalls, RunsEachOnce, HasScheduleThrough, IsRehearseFault};
+ghost use Rattle.stn_net.specs.{Difference.Difference, Schedule.HasSchedule, Matrix.Tightest.IsExact, Windows.{Dispatch.{IsLeft, IsNext, NamesLeft, CanWaitUntil}, Rehearsal.{fixed_at, IsRehearsal, NeverFalls, RunsEachOnce, HasScheduleThrough, IsRehearseFault}}, declared.windows.answers.Next.TheVariants.Overdue};
 
 use crate::windows::answers::{Next, RehearseFault};
 use crate::windows::dispatch::next;

@@ -1,13 +1,7 @@
 //! Answers by times of all events that were found by a search.
 
 ghost use Rattle.std.specs.Prelude.{◌≡◌, ◌+◌, ◌≤◌, ℕ, ℤ, List, length, All, IfOk, MatchOption};
-ghost use Rattle.stn_net.specs.Difference.{Difference, NamesEvents};
-ghost use Rattle.stn_net.specs.Event.{most_events};
-ghost use Rattle.stn_net.specs.Schedule.{times_of};
-ghost use Rattle.stn_net.specs.Windows.Dispatch.{IsLeft, IsNext, IsOverdue, CanWaitUntil};
-ghost use Rattle.stn_net.specs.Windows.Leading.{IsEarliestBelow};
-ghost use Rattle.stn_net.specs.Windows.Rehearsal.{IsRehearsal};
-ghost use Rattle.stn_net.specs.Windows.Soonest.{AreLatest, AreSoonest};
+ghost use Rattle.stn_net.specs.{Difference.{Difference, NamesEvents}, Event.most_events, Schedule.times_of, Windows.{Dispatch.{IsLeft, IsNext, IsOverdue, CanWaitUntil}, Leading.IsEarliestBelow, Rehearsal.IsRehearsal, Soonest.{AreLatest, AreSoonest}}};
 
 use crate::Event;
 use crate::windows::answers::Next;

@@ -1,11 +1,7 @@
 -- A text in small letters has the tree of the text, with its words in small letters.
-use Rattle.std.proofs.Common.{◌≡◌, ℕ, ◌+◌, ◌<◌, ◌≤◌, Bool, true, false, cond, eqb, leb, nat_lt, List, [], ◌∷◌, length, map, Result, Ok, Err, refl, sym, ap, ◌∙◌, arith}
-use Rattle.std.specs.Char.{to_ascii_lowercase}
-use Rattle.std.proofs.{lemmas.Bool.cond_both, lemmas.Bool.ltb-true, lemmas.Bool.ltb-false, lemmas.Bool.Decides.nat_tests, lemmas.List.length-map}
+use Rattle.std.{proofs.{Common.{◌≡◌, ℕ, ◌+◌, ◌<◌, ◌≤◌, Bool, true, false, cond, eqb, leb, nat_lt, List, [], ◌∷◌, length, map, Result, Ok, Err, refl, sym, ap, ◌∙◌, arith}, lemmas.{Bool.{cond_both, ltb-true, ltb-false, Decides.nat_tests}, List.length-map}}, specs.Char.to_ascii_lowercase}
 use Rattle.stn_text.specs.Faults.{◌>>=◌}
-use Rattle.stn_pddl.specs.{declared.tree.bytes.Kind.Kind, declared.tree.scan.TreeFault.TreeFault, declared.tree.scan.TreeFault.TheVariants.TooLong, declared.tree.scan.Place.Place, declared.tree.scan.Place.TheVariants.Before, Tree.Bytes.kind_of, Tree.Bytes.kind_in, Tree.Bytes.comment_after, Tree.Bytes.line_after, Tree.Names.folded, Tree.Scan.most_text, Tree.Scan.place_after, Tree.Scan.scanned, Tree.Scan.tree_of, Tree.Case.in_small, Tree.Case.tree_in_small}
-use Rattle.stn_pddl.specs.declared.tree.bytes.Kind.TheVariants.{Blank, Open, Close, Letter, Stray}
-use Rattle.stn_pddl.specs.Tree.Trees.{Trees, End, Word, Group, Rows, before_byte, is_letter, begins_word, rows_from}
+use Rattle.stn_pddl.specs.{declared.tree.{bytes.Kind.{Kind, TheVariants.{Blank, Open, Close, Letter, Stray}}, scan.{TreeFault.{TreeFault, TheVariants.TooLong}, Place.{Place, TheVariants.Before}}}, Tree.{Bytes.{kind_of, kind_in, comment_after, line_after}, Names.folded, Scan.{most_text, place_after, scanned, tree_of}, Case.{in_small, tree_in_small}, Trees.{Trees, End, Word, Group, Rows, before_byte, is_letter, begins_word, rows_from}}}
 
 -- the small letter for a byte, and what a byte is: no capital letter, or one
 pub small_by : (P : ℕ → Type 0) (b : ℕ) → P b → (65 ≤ b → b ≤ 90 → P (b + 32)) → P (to_ascii_lowercase b)

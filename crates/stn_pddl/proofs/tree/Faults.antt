@@ -1,12 +1,7 @@
 -- The faults of a text, and what a text without one is.
-use Rattle.std.proofs.Common.{◌≡◌, ℕ, ◌+◌, ◌-◌, ◌<◌, ◌≤◌, Bool, true, false, cond, nat_lt, List, [], ◌∷◌, length, Result, Ok, Err, refl, ap, subst, arith}
-use Rattle.std.proofs.{lemmas.Bool.ltb-true, lemmas.Bool.Decides.nat_tests}
-use Rattle.stn_pddl.specs.{declared.tree.bytes.Kind.Kind, declared.tree.scan.TreeFault.TreeFault, declared.tree.scan.Place.Place, Tree.Bytes.kind_in, Tree.Bytes.comment_after, Tree.Bytes.line_after, Tree.Trees.Trees, Tree.Trees.rows_from, Tree.Scan.most_text, Tree.Scan.place_after, Tree.Scan.scanned, Tree.Scan.tree_of, Tree.Scan.IsOneList}
-use Rattle.stn_pddl.specs.declared.tree.bytes.Kind.TheVariants.{Blank, Open, Close, Letter, Stray}
-use Rattle.stn_pddl.specs.declared.tree.scan.TreeFault.TheVariants.{TooLong, Syntax, TooDeep}
-use Rattle.stn_pddl.specs.declared.tree.scan.Place.TheVariants.{Before, Inside, After}
+use Rattle.std.proofs.{Common.{◌≡◌, ℕ, ◌+◌, ◌-◌, ◌<◌, ◌≤◌, Bool, true, false, cond, nat_lt, List, [], ◌∷◌, length, Result, Ok, Err, refl, ap, subst, arith}, lemmas.Bool.{ltb-true, Decides.nat_tests}}
+use Rattle.stn_pddl.{specs.{declared.tree.{bytes.Kind.{Kind, TheVariants.{Blank, Open, Close, Letter, Stray}}, scan.{TreeFault.{TreeFault, TheVariants.{TooLong, Syntax, TooDeep}}, Place.{Place, TheVariants.{Before, Inside, After}}}}, Tree.{Bytes.{kind_in, comment_after, line_after}, Trees.{Trees, rows_from}, Scan.{most_text, place_after, scanned, tree_of, IsOneList}}}, proofs.tree.Scanned.one-list}
 use Rattle.stn_text.specs.Faults.{◌>>=◌}
-use Rattle.stn_pddl.proofs.tree.Scanned.{one-list}
 
 -- a fault of a byte, or of an end that comes too early
 abbrev IsByteFault : TreeFault → Type 0

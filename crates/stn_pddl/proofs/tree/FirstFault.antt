@@ -1,13 +1,7 @@
 -- The first fault of a text lies at the first byte after which no text can go on, or at its end.
-use Rattle.std.proofs.Common.{◌≡◌, ℕ, zero, suc, ◌+◌, ◌-◌, ◌≤◌, Bool, true, false, cond, nat_lt, List, [], ◌∷◌, ◌++◌, length, fold, Result, Ok, Err, IsOk, refl, sym, ap, subst, ◌∙◌, arith}
-use Rattle.std.proofs.lemmas.Bool.Decides.{nat_tests}
-use Rattle.stn_pddl.specs.{declared.tree.bytes.Kind.Kind, declared.tree.scan.TreeFault.TreeFault, declared.tree.scan.Place.Place, Tree.Bytes.kind_of, Tree.Bytes.kind_in, Tree.Bytes.comment_after, Tree.Bytes.line_after, Tree.Scan.most_text, Tree.Scan.place_after, Tree.Scan.ends_at, Tree.Scan.scanned, Tree.Scan.tree_of}
-use Rattle.stn_pddl.specs.declared.tree.bytes.Kind.TheVariants.{Blank, Open, Close, Letter, Stray}
-use Rattle.stn_pddl.specs.declared.tree.scan.TreeFault.TheVariants.{Syntax, TooDeep}
-use Rattle.stn_pddl.specs.declared.tree.scan.Place.TheVariants.{Before, Inside, After}
+use Rattle.std.proofs.{Common.{◌≡◌, ℕ, zero, suc, ◌+◌, ◌-◌, ◌≤◌, Bool, true, false, cond, nat_lt, List, [], ◌∷◌, ◌++◌, length, fold, Result, Ok, Err, IsOk, refl, sym, ap, subst, ◌∙◌, arith}, lemmas.Bool.Decides.nat_tests}
+use Rattle.stn_pddl.{specs.{declared.tree.{bytes.Kind.{Kind, TheVariants.{Blank, Open, Close, Letter, Stray}}, scan.{TreeFault.{TreeFault, TheVariants.{Syntax, TooDeep}}, Place.{Place, TheVariants.{Before, Inside, After}}}}, Tree.{Bytes.{kind_of, kind_in, comment_after, line_after}, Scan.{most_text, place_after, ends_at, scanned, tree_of}, FirstFault.{IsOnLine, IsFirstFault, at_byte, at_end}}}, proofs.tree.{Scanned.{scanned-next, scanned-fault}, Faults.{tree_of-refused, tree_of-scanned}}}
 use Rattle.stn_text.specs.Faults.{◌>>=◌}
-use Rattle.stn_pddl.specs.Tree.FirstFault.{IsOnLine, IsFirstFault, at_byte, at_end}
-use Rattle.stn_pddl.proofs.{tree.Scanned.scanned-next, tree.Scanned.scanned-fault, tree.Faults.tree_of-refused, tree.Faults.tree_of-scanned}
 
 -- the brackets that close so many lists
 closing : ℕ → List ℕ

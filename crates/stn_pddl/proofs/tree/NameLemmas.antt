@@ -1,7 +1,5 @@
 -- What a name feeds a hasher, byte by byte.
-use Rattle.std.proofs.Common.{◌≡◌, ℕ, ◌+◌, ◌<◌, ◌≤◌, List, [], ◌∷◌, length, get_or, drop, fold, refl, add-one, drop-cons}
-use Rattle.std.proofs.lemmas.List.{drop_all}
-use Rattle.std.specs.Char.{to_ascii_lowercase}
+use Rattle.std.{proofs.{Common.{◌≡◌, ℕ, ◌+◌, ◌<◌, ◌≤◌, List, [], ◌∷◌, length, get_or, drop, fold, refl, add-one, drop-cons}, lemmas.List.drop_all}, specs.Char.to_ascii_lowercase}
 use Rattle.stn_pddl.specs.Tree.Names.{hash_writes}
 
 module _ {S : Type 0} (write : S → List ℕ → S) where

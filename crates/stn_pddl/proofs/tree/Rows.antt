@@ -1,9 +1,6 @@
 -- The rows before a byte of each kind.
-use Rattle.std.proofs.Common.{◌≡◌, ◌≢◌, ℕ, suc, ◌+◌, ◌<◌, ◌≤◌, Bool, true, false, cond, eqb, List, [], ◌∷◌, length, get_or, take, drop, refl, sym, ◌∙◌, ap, arith, add-one, drop-cons, ◌⊎◌, inl, inr}
-use Rattle.std.proofs.{lemmas.List.drop_all, lemmas.List.drop_more, lemmas.Bool.Decides.nat_tests}
-use Rattle.stn_pddl.specs.{declared.tree.bytes.Kind.Kind, Tree.Bytes.kind_of, Tree.Bytes.kind_in, Tree.Bytes.comment_after, Tree.Bytes.line_after}
-use Rattle.stn_pddl.specs.declared.tree.bytes.Kind.TheVariants.{Blank, Open, Close, Letter, Stray}
-use Rattle.stn_pddl.specs.Tree.Trees.{Word, Group, End, Rows, behind, before_open, before_close, before_letter, is_letter, begins_word, word_len, rows_from}
+use Rattle.std.proofs.{lemmas.{Grind.common_steps, List.{drop_all, drop_more}, Bool.Decides.nat_tests}, Common.{◌≡◌, ◌≢◌, ℕ, suc, ◌+◌, ◌<◌, ◌≤◌, Bool, true, false, cond, eqb, List, [], ◌∷◌, length, get_or, take, drop, refl, sym, ◌∙◌, ap, arith, add-one, drop-cons, ◌⊎◌, inl, inr}}
+use Rattle.stn_pddl.specs.{declared.tree.bytes.Kind.{Kind, TheVariants.{Blank, Open, Close, Letter, Stray}}, Tree.{Bytes.{kind_of, kind_in, comment_after, line_after}, Trees.{Word, Group, End, Rows, behind_row, before_open, before_close, before_letter, is_letter, begins_word, word_len, rows_from}}}
 
 -- no line feed and no semicolon is a token
 pub lf-blank : (b : ℕ) → kind_of b ≢ Blank → eqb b 10 ≡ false
@@ -27,22 +24,16 @@ module _ (line b : ℕ) (bytes : List ℕ) where
   pub rows-open : (comment : Bool) → kind_in comment b ≡ Open → rows_from comment line (b ∷ bytes) ≡ before_open line (rows_from false line bytes)
   unfolding rows_from
   rows-open true is = cc
-  rows-open false is =
-      let token : kind_of b ≢ Blank = λ e. cc in
-      rw (is, comment_after-token b token, line_after-token line b token) refl
+  rows-open false is = grind (arith, common_steps, comment_after-token, line_after-token)
 
   pub rows-close : (comment : Bool) → kind_in comment b ≡ Close → rows_from comment line (b ∷ bytes) ≡ before_close (rows_from false line bytes)
   unfolding rows_from
   rows-close true is = cc
-  rows-close false is =
-      let token : kind_of b ≢ Blank = λ e. cc in
-      rw (is, comment_after-token b token, line_after-token line b token) refl
+  rows-close false is = grind (arith, common_steps, comment_after-token, line_after-token)
 
   pub rows-letter : kind_of b ≡ Letter → rows_from false line (b ∷ bytes) ≡ before_letter line b (begins_word bytes) (rows_from false line bytes)
   unfolding rows_from
-  rows-letter is =
-      let token : kind_of b ≢ Blank = λ e. cc in
-      rw (is, comment_after-token b token, line_after-token line b token) refl
+  rows-letter is = grind (arith, common_steps, comment_after-token, line_after-token)
 
   pub rows-blank : (comment : Bool) → kind_in comment b ≡ Blank → rows_from comment line (b ∷ bytes) ≡ rows_from (comment_after comment b) (line_after line b) bytes
   unfolding rows_from
@@ -93,9 +84,7 @@ word-on line b bytes false is goes_on = rw (word_len-none bytes is) refl
 
 pub rows-word : (line : ℕ) (bytes : List ℕ) → begins_word bytes ≡ true → rows_from false line bytes ≡ before_word line (take (word_len bytes) bytes) (rows_from false line (drop (word_len bytes) bytes))
 rows-word line [] begins = absurd (begins-none begins)
-rows-word line (b ∷ bytes) begins =
-    let is : kind_of b ≡ Letter = begins-letter b bytes begins in
-    rw (word_len-letter b bytes is) (rows-letter line b bytes is ∙ word-on line b bytes (begins_word bytes) refl (rows-word line bytes))
+rows-word line (b ∷ bytes) begins = grind (arith, common_steps, begins-letter, word_len-letter, rows-letter, word-on, (rows-word line bytes))
 
 pub word_len-positive : (bytes : List ℕ) → begins_word bytes ≡ true → 0 < word_len bytes
 word_len-positive [] begins = absurd (begins-none begins)
@@ -103,7 +92,7 @@ word_len-positive (b ∷ bytes) begins = rw (word_len-letter b bytes (begins-let
 
 -- a word in its two parts, as the code splits it
 pub split-word : (line n : ℕ) (bytes word rest : List ℕ) → begins_word bytes ≡ true → n ≡ word_len bytes → word ≡ take n bytes → rest ≡ drop n bytes
-    → ((rows_from false line bytes).row ≡ Word line word (rows_from false line rest).row) × (behind (rows_from false line rest) ≡ behind (rows_from false line bytes))
+    → ((rows_from false line bytes).row ≡ Word line word (rows_from false line rest).row) × (behind_row (rows_from false line rest) ≡ behind_row (rows_from false line bytes))
 split-word line n bytes word rest begins len front back = rw (rows-word line bytes begins, front, back, len) (refl, refl)
 
 module _ (line i : ℕ) (bytes rest : List ℕ) (rows : Rows) (comment : Bool) (within : i < length bytes) (left : rest ≡ drop (i + 1) bytes) (same : rows_from comment line (drop i bytes) ≡ rows) where
@@ -112,10 +101,10 @@ module _ (line i : ℕ) (bytes rest : List ℕ) (rows : Rows) (comment : Bool) (
   here = sym same ∙ ap (rows_from comment line) (drop_more bytes i 0 within ∙ ap (λ bs. get_or bytes i 0 ∷ bs) (sym left))
 
   pub opened : kind_in comment (get_or bytes i 0) ≡ Open
-      → (rows.row ≡ Group line (rows_from false line rest).row (behind (rows_from false line rest)).row) × (behind (behind (rows_from false line rest)) ≡ behind rows)
+      → (rows.row ≡ Group line (rows_from false line rest).row (behind_row (rows_from false line rest)).row) × (behind_row (behind_row (rows_from false line rest)) ≡ behind_row rows)
   opened is = rw (here ∙ rows-open line (get_or bytes i 0) rest comment is) (refl, refl)
 
-  pub closed : kind_in comment (get_or bytes i 0) ≡ Close → (rows.row ≡ End) × (rows_from false line rest ≡ behind rows)
+  pub closed : kind_in comment (get_or bytes i 0) ≡ Close → (rows.row ≡ End) × (rows_from false line rest ≡ behind_row rows)
   closed is = rw (here ∙ rows-close line (get_or bytes i 0) rest comment is) (refl, refl)
 
   pub passed : (k : Kind) → k ≡ kind_in comment (get_or bytes i 0) → (k ≡ Blank) ⊎ (k ≡ Stray)
@@ -138,6 +127,6 @@ line_after-most line b = elim (eqb b 10) as (λ t. cond t (line + 1) line ≤ li
 
 -- the end of the text ends every row
 pub at-end : (line i : ℕ) (bytes : List ℕ) (rows : Rows) (comment : Bool) → length bytes ≤ i → rows_from comment line (drop i bytes) ≡ rows
-    → (rows.row ≡ End) × (rows_from false line [] ≡ behind rows)
+    → (rows.row ≡ End) × (rows_from false line [] ≡ behind_row rows)
 unfolding rows_from
 at-end line i bytes rows comment over same = rw (sym same, drop_all i bytes over) (refl, refl)

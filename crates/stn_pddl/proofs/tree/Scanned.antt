@@ -1,11 +1,6 @@
 -- The scan of a text, byte by byte, and that a text without a fault is one list.
-use Rattle.std.proofs.Common.{◌≡◌, ℕ, ◌+◌, ◌-◌, ◌<◌, ◌≤◌, Bool, true, false, cond, nat_lt, List, [], ◌∷◌, ◌++◌, length, get_or, drop, Result, Ok, Err, refl, ◌∙◌, ap, arith, add-one, drop-cons}
-use Rattle.std.proofs.lemmas.Bool.{ltb-true, ltb-false}
-use Rattle.stn_pddl.specs.{declared.tree.bytes.Kind.Kind, declared.tree.scan.TreeFault.TreeFault, declared.tree.scan.Place.Place, Tree.Bytes.kind_in, Tree.Bytes.comment_after, Tree.Bytes.line_after, Tree.Scan.place_after, Tree.Scan.ends_at, Tree.Scan.scanned, Tree.Scan.IsOneList}
-use Rattle.stn_pddl.specs.declared.tree.bytes.Kind.TheVariants.{Blank, Open, Close, Letter, Stray}
-use Rattle.stn_pddl.specs.declared.tree.scan.TreeFault.TheVariants.{Syntax, TooDeep}
-use Rattle.stn_pddl.specs.declared.tree.scan.Place.TheVariants.{Before, Inside, After}
-use Rattle.stn_pddl.specs.Tree.Trees.{Trees, Group, End, Rows, outer, before_byte, begins_word, rows_from}
+use Rattle.std.proofs.{Common.{◌≡◌, ℕ, ◌+◌, ◌-◌, ◌<◌, ◌≤◌, Bool, true, false, cond, nat_lt, List, [], ◌∷◌, ◌++◌, length, get_or, drop, Result, Ok, Err, refl, ◌∙◌, ap, arith, add-one, drop-cons}, lemmas.Bool.{ltb-true, ltb-false}}
+use Rattle.stn_pddl.specs.{declared.tree.{bytes.Kind.{Kind, TheVariants.{Blank, Open, Close, Letter, Stray}}, scan.{TreeFault.{TreeFault, TheVariants.{Syntax, TooDeep}}, Place.{Place, TheVariants.{Before, Inside, After}}}}, Tree.{Bytes.{kind_in, comment_after, line_after}, Scan.{place_after, ends_at, scanned, IsOneList}, Trees.{Trees, Group, End, Rows, outer, before_byte, begins_word, rows_from}}}
 use Rattle.stn_text.specs.Faults.{◌>>=◌}
 
 -- one byte more

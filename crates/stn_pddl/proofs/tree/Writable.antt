@@ -1,13 +1,7 @@
 -- Each tree of a text can be written.
-use Rattle.std.proofs.Common.{◌≡◌, ℕ, suc, ◌+◌, ◌-◌, ◌<◌, ◌≤◌, Bool, true, false, cond, ◌==◌, nat_lt, List, [], ◌∷◌, Result, Ok, Err, refl, ap, subst, ◌∙◌, arith}
-use Rattle.std.proofs.lemmas.Bool.{ltb-true, ltb-false}
+use Rattle.std.proofs.{Common.{◌≡◌, ℕ, suc, ◌+◌, ◌-◌, ◌<◌, ◌≤◌, Bool, true, false, cond, ◌==◌, nat_lt, List, [], ◌∷◌, Result, Ok, Err, refl, ap, subst, ◌∙◌, arith}, lemmas.Bool.{ltb-true, ltb-false}}
 use Rattle.stn_text.specs.Faults.{◌>>=◌}
-use Rattle.stn_pddl.specs.{declared.tree.bytes.Kind.Kind, declared.tree.scan.TreeFault.TreeFault, declared.tree.scan.Place.Place, Tree.Bytes.kind_of, Tree.Bytes.kind_in, Tree.Bytes.comment_after, Tree.Bytes.line_after, Tree.Scan.place_after, Tree.Scan.scanned, Tree.Scan.tree_of, Tree.Written.end_line, Tree.Written.IsWord, Tree.Written.IsWritable}
-use Rattle.stn_pddl.specs.declared.tree.bytes.Kind.TheVariants.{Blank, Open, Close, Letter, Stray}
-use Rattle.stn_pddl.specs.declared.tree.scan.TreeFault.TheVariants.{Syntax, TooDeep}
-use Rattle.stn_pddl.specs.declared.tree.scan.Place.TheVariants.{Before, Inside, After}
-use Rattle.stn_pddl.specs.Tree.Trees.{Trees, End, Word, Group, Rows, before_byte, begins_word, word_len, rows_from}
-use Rattle.stn_pddl.proofs.{tree.Rows.letter-outside, tree.Rows.letter-begins, tree.Rows.word_len-letter, tree.Faults.tree_of-rows}
+use Rattle.stn_pddl.{specs.{declared.tree.{bytes.Kind.{Kind, TheVariants.{Blank, Open, Close, Letter, Stray}}, scan.{TreeFault.{TreeFault, TheVariants.{Syntax, TooDeep}}, Place.{Place, TheVariants.{Before, Inside, After}}}}, Tree.{Bytes.{kind_of, kind_in, comment_after, line_after}, Scan.{place_after, scanned, tree_of}, Written.{end_line, IsWord, IsWritable}, Trees.{Trees, End, Word, Group, Rows, before_byte, begins_word, word_len, rows_from}}}, proofs.tree.{Rows.{letter-outside, letter-begins, word_len-letter}, Faults.tree_of-rows}}
 
 -- rows that lie in one another can be written, the innermost from a line on and each other one from where that ends
 unfoldable AreWritable : ℕ → ℕ → List Trees → Type 0

@@ -1,12 +1,7 @@
 -- A row of trees that is written reads as that row.
-use Rattle.std.proofs.Common.{◌≡◌, ◌≢◌, ℕ, zero, suc, ◌+◌, ◌-◌, ◌<◌, ◌≤◌, Bool, true, false, cond, nat_lt, List, [], ◌∷◌, ◌++◌, length, take, drop, replicate, Result, Ok, Err, refl, ap, ◌∙◌, append_assoc, arith}
-use Rattle.std.proofs.{Math.Seq.take-append_seam, Math.Seq.drop-append_seam, lemmas.Bool.Decides.nat_tests}
+use Rattle.std.proofs.{lemmas.{Grind.common_steps, Bool.Decides.nat_tests}, Common.{◌≡◌, ◌≢◌, ℕ, zero, suc, ◌+◌, ◌-◌, ◌<◌, ◌≤◌, Bool, true, false, cond, nat_lt, List, [], ◌∷◌, ◌++◌, length, replicate, Result, Ok, Err, refl, ap, ◌∙◌, append_assoc, arith}}
 use Rattle.stn_text.specs.Bytes.{line_feed}
-use Rattle.stn_pddl.specs.{declared.tree.bytes.Kind.Kind, declared.tree.scan.TreeFault.TreeFault, declared.tree.scan.TreeFault.TheVariants.TooDeep, declared.tree.scan.Place.Place, Tree.Bytes.kind_of, Tree.Bytes.comment_after, Tree.Bytes.line_after, Tree.Scan.most_text, Tree.Scan.place_after, Tree.Scan.scanned, Tree.Scan.tree_of, Tree.Written.end_line, Tree.Written.written, Tree.Written.IsWord, Tree.Written.IsWritable}
-use Rattle.stn_pddl.specs.declared.tree.bytes.Kind.TheVariants.{Blank, Open, Close, Letter, Stray}
-use Rattle.stn_pddl.specs.declared.tree.scan.Place.TheVariants.{Before, Inside, After}
-use Rattle.stn_pddl.specs.Tree.Trees.{Trees, End, Word, Group, Rows, before_open, is_letter, begins_word, word_len, rows_from}
-use Rattle.stn_pddl.proofs.{tree.Rows.comment_after-token, tree.Rows.line_after-token, tree.Rows.rows-open, tree.Rows.rows-close, tree.Rows.rows-blank, tree.Rows.before_word, tree.Rows.rows-word, tree.Scanned.scanned-next, tree.Faults.tree_of-Ok}
+use Rattle.stn_pddl.{specs.{declared.tree.{bytes.Kind.{Kind, TheVariants.{Blank, Open, Close, Letter, Stray}}, scan.{TreeFault.{TreeFault, TheVariants.TooDeep}, Place.{Place, TheVariants.{Before, Inside, After}}}}, Tree.{Bytes.{kind_of, comment_after, line_after}, Scan.{most_text, place_after, scanned, tree_of}, Written.{end_line, written, IsWord, IsWritable}, Trees.{Trees, End, Word, Group, Rows, before_open, is_letter, begins_word, word_len, rows_from}}}, proofs.tree.{Rows.{comment_after-token, line_after-token, rows-open, rows-close, rows-blank, before_word, rows-word}, Scanned.scanned-next, Faults.tree_of-Ok}}
 
 -- a row, and one around
 abbrev with_row : Trees → Rows → Rows
@@ -65,13 +60,7 @@ begins-space [] bytes is = cc
 begins-space (b ∷ word) bytes is = is
 
 rows-written_word : (line : ℕ) (word bytes : List ℕ) → IsWord word → rows_from false line (word ++ 32 ∷ bytes) ≡ before_word line word (rows_from false line bytes)
-rows-written_word line word bytes is =
-    let len = word_len-space word bytes is.1 in
-    let whole = rows-word line (word ++ 32 ∷ bytes) (begins-space word (32 ∷ bytes) is.0) in
-    let front : take (word_len (word ++ 32 ∷ bytes)) (word ++ 32 ∷ bytes) ≡ word = ap (λ n. take n (word ++ 32 ∷ bytes)) len ∙ take-append_seam word (32 ∷ bytes) in
-    let back : drop (word_len (word ++ 32 ∷ bytes)) (word ++ 32 ∷ bytes) ≡ 32 ∷ bytes = ap (λ n. drop n (word ++ 32 ∷ bytes)) len ∙ drop-append_seam word (32 ∷ bytes) in
-    whole ∙ ap (λ w. before_word line w (rows_from false line (drop (word_len (word ++ 32 ∷ bytes)) (word ++ 32 ∷ bytes)))) front
-    ∙ ap (λ l. before_word line word (rows_from false line l)) back ∙ ap (before_word line word) (rows-space line bytes)
+rows-written_word line word bytes is = grind (arith, common_steps, word_len-space, rows-word, begins-space, before_word, rows-space)
 
 letter-inside : (line b depth : ℕ) → kind_of b ≡ Letter → place_after (kind_of b) line (Inside depth) ≡ Ok (Inside depth)
 unfolding place_after
@@ -108,12 +97,7 @@ pub rows-written : (depth at : ℕ) (row : Trees) (tail : List ℕ) → IsWritab
     → rows_from false at (written at row ++ 41 ∷ tail) ≡ with_row row (rows_from false (end_line at row) tail)
 unfolding written end_line IsWritable kind_of feeds
 rows-written depth at End tail is = rows-close at 41 tail false refl
-rows-written depth at (Word line word next) tail is =
-    ap (rows_from false at) (word-then (feeds (line - at)) word (written line next) (41 ∷ tail))
-    ∙ rows-feeds (line - at) at (word ++ 32 ∷ (written line next ++ 41 ∷ tail))
-    ∙ ap (λ n. rows_from false n (word ++ 32 ∷ (written line next ++ 41 ∷ tail))) (reached at line is.0)
-    ∙ rows-written_word line word (written line next ++ 41 ∷ tail) is.1
-    ∙ ap (before_word line word) (rows-written depth line next tail is.2)
+rows-written depth at (Word line word next) tail is = grind (arith, common_steps, word-then, feeds, rows-feeds, reached, rows-written_word, before_word, (rows-written depth line next tail is.2))
 rows-written depth at (Group line children next) tail is =
     let last = end_line line children in
     let behind : List ℕ = written last next ++ 41 ∷ tail in

@@ -1,8 +1,7 @@
 -- What the bytes of a text are.
 use Rattle.std.specs.Prelude.{ℕ, ◌+◌, Bool, false, ◌||◌, ◌==◌, if◌then◌else◌}
 use Rattle.stn_text.specs.Bytes.{is_space, is_visible, line_feed, semicolon}
-use Rattle.stn_pddl.specs.declared.tree.bytes.Kind.{Kind}
-use Rattle.stn_pddl.specs.declared.tree.bytes.Kind.TheVariants.{Blank, Open, Close, Letter, Stray}
+use Rattle.stn_pddl.specs.declared.tree.bytes.Kind.{Kind, TheVariants.{Blank, Open, Close, Letter, Stray}}
 
 -- outside a comment; `;` begins one, and is blank like what stands in it
 unfoldable pub kind_of : ℕ → Kind

@@ -1,6 +1,6 @@
 -- A row of trees in small letters.
 use Rattle.std.specs.Prelude.{Result, Ok, Err}
-use Rattle.stn_pddl.specs.{declared.tree.scan.TreeFault.TreeFault, Tree.Names.folded, Tree.Trees.Trees, Tree.Trees.End, Tree.Trees.Word, Tree.Trees.Group}
+use Rattle.stn_pddl.specs.{declared.tree.scan.TreeFault.TreeFault, Tree.{Names.folded, Trees.{Trees, End, Word, Group}}}
 
 -- the same row, with small letters for the capital ones of ASCII in each word
 unfoldable pub in_small : Trees → Trees

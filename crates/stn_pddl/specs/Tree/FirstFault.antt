@@ -1,7 +1,6 @@
 -- Where the first fault of a text lies.
 use Rattle.std.specs.Prelude.{◌≡◌, ℕ, ◌≤◌, false, List, ◌∷◌, ◌++◌, length, fold, Err, IsOk}
-use Rattle.stn_pddl.specs.{declared.tree.scan.TreeFault.TreeFault, declared.tree.scan.Place.TheVariants.Before, Tree.Bytes.line_after, Tree.Scan.most_text, Tree.Scan.scanned, Tree.Scan.tree_of}
-use Rattle.stn_pddl.specs.declared.tree.scan.TreeFault.TheVariants.{TooLong, Syntax, TooDeep}
+use Rattle.stn_pddl.specs.{declared.tree.scan.{TreeFault.{TreeFault, TheVariants.{TooLong, Syntax, TooDeep}}, Place.TheVariants.Before}, Tree.{Bytes.line_after, Scan.{most_text, scanned, tree_of}}}
 
 -- some text that begins with these bytes has no fault, however long it is
 abbrev pub CanGoOn : List ℕ → Type 0

@@ -1,9 +1,6 @@
 -- Words that name the same, without regard to ASCII case.
-use Rattle.std.specs.Prelude.{◌≡◌, ℕ, Bool, true, List, map}
-use Rattle.std.specs.{List.flat_map, Char.to_ascii_lowercase, Str.bytes_eq, Cmp.IsEquivalence}
+use Rattle.std.{specs.{Prelude.{◌≡◌, ℕ, Bool, true, List, map}, List.flat_map, Char.to_ascii_lowercase, Str.bytes_eq, Cmp.IsEquivalence}, proofs.{lemmas.{Cmp.nat_list_eq_equiv, Slice.Eq.bytes_eq-Decides}, Common.ap}}
 use Rattle.std.specs.Hash as fed
-use Rattle.std.proofs.{lemmas.Cmp.nat_list_eq_equiv, lemmas.Slice.Eq.bytes_eq-Decides}
-use Rattle.std.proofs.Common.{ap}
 
 -- with small letters for the capital ones of ASCII
 abbrev pub folded : List ℕ → List ℕ

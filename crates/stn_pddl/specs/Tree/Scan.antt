@@ -2,10 +2,7 @@
 use Rattle.std.specs.Prelude.{◌≡◌, ℕ, ◌+◌, ◌-◌, Bool, false, List, [], ◌∷◌, length, Result, Ok, Err, nat_lt, if◌then◌else◌}
 pub use Rattle.stn_text.specs.Bytes.{most_text}
 use Rattle.stn_text.specs.Faults.{◌>>=◌}
-use Rattle.stn_pddl.specs.{declared.tree.bytes.Kind.Kind, declared.tree.scan.TreeFault.TreeFault, declared.tree.scan.Place.Place, Tree.Bytes.kind_in, Tree.Bytes.comment_after, Tree.Bytes.line_after, Tree.Trees.Trees, Tree.Trees.End, Tree.Trees.Group, Tree.Trees.rows_from}
-use Rattle.stn_pddl.specs.declared.tree.bytes.Kind.TheVariants.{Blank, Open, Close, Letter, Stray}
-use Rattle.stn_pddl.specs.declared.tree.scan.TreeFault.TheVariants.{TooLong, Syntax, TooDeep}
-use Rattle.stn_pddl.specs.declared.tree.scan.Place.TheVariants.{Before, Inside, After}
+use Rattle.stn_pddl.specs.{declared.tree.{bytes.Kind.{Kind, TheVariants.{Blank, Open, Close, Letter, Stray}}, scan.{TreeFault.{TreeFault, TheVariants.{TooLong, Syntax, TooDeep}}, Place.{Place, TheVariants.{Before, Inside, After}}}}, Tree.{Bytes.{kind_in, comment_after, line_after}, Trees.{Trees, End, Group, rows_from}}}
 
 -- a text has at most so many open brackets
 abbrev pub most_depth : ℕ

@@ -1,7 +1,6 @@
 -- The trees of a text.
 use Rattle.std.specs.Prelude.{ℕ, ◌+◌, Bool, true, false, List, [], ◌∷◌, if◌then◌else◌}
-use Rattle.stn_pddl.specs.{declared.tree.bytes.Kind.Kind, Tree.Bytes.kind_of, Tree.Bytes.kind_in, Tree.Bytes.comment_after, Tree.Bytes.line_after}
-use Rattle.stn_pddl.specs.declared.tree.bytes.Kind.TheVariants.{Blank, Open, Close, Letter, Stray}
+use Rattle.stn_pddl.specs.{declared.tree.bytes.Kind.{Kind, TheVariants.{Blank, Open, Close, Letter, Stray}}, Tree.Bytes.{kind_of, kind_in, comment_after, line_after}}
 
 -- A row of trees: the first one and the row after it. A tree is a word or a list of trees, and stands on a line.
 pub data Trees : Type 0 where
@@ -29,8 +28,8 @@ outer [] = []
 outer (row ∷ rows) = rows
 
 -- after the end of the row that goes on
-abbrev pub behind : Rows → Rows
-behind rows = record { row = innermost rows.around; around = outer rows.around }
+abbrev pub behind_row : Rows → Rows
+behind_row rows = record { row = innermost rows.around; around = outer rows.around }
 
 abbrev pub before_open : ℕ → Rows → Rows
 before_open line rows = record { row = Group line rows.row (innermost rows.around); around = outer rows.around }

@@ -26,8 +26,7 @@ pub enum Child<'a> {
 
 impl<'a> Cursor<'a> {
     ghost use Rattle.std.specs.Prelude.{◌≡◌, ◌≤◌, ◌+◌, ◌-◌, ◌^◌, ◌<◌, false, length};
-    ghost use Rattle.stn_pddl.specs.Tree.Trees.{rows_from, how_many};
-    ghost use Rattle.stn_pddl.specs.Tree.Cursors.{IsFirst, IsShorter, rows_at, row_at, behind_at, left_at};
+    ghost use Rattle.stn_pddl.specs.Tree.{Trees.{rows_from, how_many}, Cursors.{IsFirst, IsShorter, rows_at, row_at, behind_at, left_at}};
 
     /// The start of a text.
     #[tactic(auto, unfolding(crate::specs::Tree::Cursors::rows_at))]
@@ -125,8 +124,7 @@ impl<'a> Cursor<'a> {
 
 impl<'a> Child<'a> {
     ghost use Rattle.std.specs.Prelude.{◌≡◌, ◌+◌, ◌^◌, ◌<◌, true, false, length};
-    ghost use Rattle.stn_pddl.specs.Tree.Trees.{rows_from, begins_word};
-    ghost use Rattle.stn_pddl.specs.Tree.Cursors.{IsFirst, IsShorter};
+    ghost use Rattle.stn_pddl.specs.Tree.{Trees.{rows_from, begins_word}, Cursors.{IsFirst, IsShorter}};
 
     // The word at the front of these bytes.
     fn word_at(bytes: &'a [u8], line: u32) -> Child<'a>

@@ -1,13 +1,7 @@
 //! Laws of trees, each the contract of a function that does nothing.
 
 ghost use Rattle.std.specs.Prelude.{◌≡◌, ℕ, ◌≤◌, List, length, Ok, Err};
-ghost use Rattle.stn_pddl.specs.declared.tree.scan.TreeFault.{TreeFault};
-ghost use Rattle.stn_pddl.specs.Tree.Trees.{Trees, End, Group};
-ghost use Rattle.stn_pddl.specs.Tree.Scan.{most_text, tree_of};
-ghost use Rattle.stn_pddl.specs.Tree.Names.{folded};
-ghost use Rattle.stn_pddl.specs.Tree.Case.{tree_in_small};
-ghost use Rattle.stn_pddl.specs.Tree.FirstFault.{IsFirstFault};
-ghost use Rattle.stn_pddl.specs.Tree.Written.{written, IsWritable};
+ghost use Rattle.stn_pddl.specs.{declared.tree.scan.TreeFault.TreeFault, Tree.{Trees.{Trees, End, Group}, Scan.{most_text, tree_of}, Names.folded, Case.tree_in_small, FirstFault.IsFirstFault, Written.{written, IsWritable}}};
 
 /// The law that a text which is not too long has its first fault at the first byte after which no text can go on, whatever
 /// follows there, or at an end that comes too early.

@@ -1,7 +1,6 @@
 //! Names, compared without regard to ASCII case.
 
-ghost use Rattle.std.specs.Prelude.{◌≡◌, fold};
-ghost use Rattle.std.specs.Cmp.{partial_equiv_from_equiv};
+ghost use Rattle.std.specs.{Prelude.{◌≡◌, fold}, Cmp.partial_equiv_from_equiv};
 ghost use Rattle.stn_pddl.specs.Tree.Names as spec;
 
 use std::hash::{Hash, Hasher};

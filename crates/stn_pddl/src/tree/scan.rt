@@ -2,8 +2,7 @@
 
 ghost use Rattle.std.specs.Prelude.{◌≡◌, ◌^◌, ◌-◌, ◌<◌, length, false, Ok, Err, MatchResult, IfOk};
 ghost use Rattle.stn_pddl.specs.Tree.Scan as spec;
-ghost use Rattle.stn_pddl.specs.Tree.Scan.{tree_of, IsOneList};
-ghost use Rattle.stn_pddl.specs.Tree.Cursors.{row_at};
+ghost use Rattle.stn_pddl.specs.Tree.{Scan.{tree_of, IsOneList}, Cursors.row_at};
 
 use crate::tree::bytes::{Kind, comment_after, kind_in, line_after};
 use crate::tree::cursor::Cursor;

@@ -1,21 +1,16 @@
 -- For proofs alone: no public clause cites these words.
 -- What a reader of frames makes of one piece.
-use Rattle.std.specs.Prelude.{◌≡◌, ℕ, ◌+◌, ◌<◌, ◌≤◌, List, [], ◌∷◌, ◌++◌, length, Bool, true, false, Option, Some, None, Result, Ok, Err, ⊤}
-use Rattle.std.specs.Io.KnownBytes.{Consumes, IsAtEnd}
-use Rattle.stn_device.specs.Bytes.{most_bytes}
-use Rattle.stn_device.specs.declared.whole.ReadFault.{ReadFault}
-use Rattle.stn_wire.specs.{Frame.content, Frame.spelling, Frame.IsFrame, Front.IsFront, Front.faulty, Front.unfinished, declared.fault.WireFault.WireFault, declared.frame.Frame.Frame, Stream.Held.Stream, Stream.pending, declared.stream.reader.Next.Next}
+use Rattle.std.specs.{Prelude.{◌≡◌, ℕ, ◌+◌, ◌<◌, ◌≤◌, List, [], ◌∷◌, ◌++◌, length, Bool, true, false, Option, Some, None, Result, Ok, Err, ⊤}, Io.KnownBytes.{Consumes, IsAtEnd}}
+use Rattle.stn_device.specs.{Bytes.most_bytes, declared.whole.ReadFault.{ReadFault, TheVariants.{Read, Bound, Memory}}}
+use Rattle.stn_wire.specs.{Frame.{content, spelling, IsFrame}, Front.{IsFront, faulty, unfinished}, declared.{fault.WireFault.WireFault, frame.Frame.Frame, stream.{reader.Next.{Next, TheVariants.Faulty}, fault.FrameFault.TheVariants.{Length, Kind, Body}}}, Stream.{pending, Held.Stream}}
 use Rattle.stn_wire.specs.declared.fault.WireFault.TheVariants as wire
-use Rattle.stn_wire.specs.declared.stream.fault.FrameFault.TheVariants.{Length, Kind, Body}
-use Rattle.stn_wire.specs.declared.stream.reader.Next.TheVariants.{Faulty}
-use Rattle.stn_device.specs.declared.whole.ReadFault.TheVariants.{Read, Bound, Memory}
 
 -- what taking what was read answers: the first frame that it completes, and the bytes after it are pending; or none, and all of it is held
-abbrev pub IsFed : {A : Type 0} → Stream → Stream → Result (Option (Frame A)) WireFault → Type 0
-IsFed old new (Ok (Some given)) = IsFrame (content given) × (pending old ≡ spelling (content given) ++ pending new)
-IsFed old new (Ok None) = IsFront (pending old) unfinished × (pending new ≡ pending old) × (new.behind ≡ [])
-IsFed old new (Err wire.Memory) = ⊤
-IsFed old new (Err fault) = IsFront (pending old) (faulty fault)
+abbrev pub IsPieceFed : {A : Type 0} → Stream → Stream → Result (Option (Frame A)) WireFault → Type 0
+IsPieceFed old new (Ok (Some given)) = IsFrame (content given) × (pending old ≡ spelling (content given) ++ pending new)
+IsPieceFed old new (Ok None) = IsFront (pending old) unfinished × (pending new ≡ pending old) × (new.behind ≡ [])
+IsPieceFed old new (Err wire.Memory) = ⊤
+IsPieceFed old new (Err fault) = IsFront (pending old) (faulty fault)
 
 -- what comes next where that is a fault
 abbrev pub next_of_fault : {A : Type 0} → WireFault → Result (Next A) ReadFault

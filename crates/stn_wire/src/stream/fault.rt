@@ -1,6 +1,5 @@
 ghost use Rattle.std.specs.Prelude.{◌≡◌};
-ghost use Rattle.stn_wire.specs.Stream.{frame_code, wire_fault};
-ghost use Rattle.stn_wire.specs.Stream.Failures.{frame_failure};
+ghost use Rattle.stn_wire.specs.Stream.{frame_code, wire_fault, Failures.frame_failure};
 
 use crate::WireFault;
 use stn_refusal::{Code, Failure};

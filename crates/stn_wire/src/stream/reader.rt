@@ -1,12 +1,7 @@
 // Frames read piece by piece: no more than one piece and one unfinished frame is kept.
-ghost use Rattle.std.specs.Prelude.{◌≡◌, ◌≢◌, ◌⊎◌, ◌<◌, ◌≤◌, length, [], false, Ok, Err, IfOk, IfErr, OnOk, IsErrOf};
-ghost use Rattle.std.specs.Io.KnownBytes.{Consumes, IsAtEnd};
-ghost use Rattle.stn_device.specs.Bytes.{most_bytes};
-ghost use Rattle.stn_device.specs.Counted.{counted_device, CountsFailure, KeepsCount};
-ghost use Rattle.stn_wire.specs.Stream.{unread, pending, IsReading, Gives};
-ghost use Rattle.stn_wire.specs.Stream.Pieces.{next_of_fault, IsFed, IsFilled, IsBeyond};
-ghost use Rattle.stn_wire.specs.declared.stream.reader.Next.TheVariants.{Closed, Cut};
-ghost use Rattle.stn_device.specs.declared.whole.ReadFault.TheVariants.{Read};
+ghost use Rattle.std.specs.{Prelude.{◌≡◌, ◌≢◌, ◌⊎◌, ◌<◌, ◌≤◌, length, [], false, Ok, Err, IfOk, IfErr, OnOk, IsErrOf}, Io.KnownBytes.{Consumes, IsAtEnd}};
+ghost use Rattle.stn_device.specs.{Bytes.most_bytes, Counted.{counted_device, CountsFailure, KeepsCount}, declared.whole.ReadFault.TheVariants.Read};
+ghost use Rattle.stn_wire.specs.{Stream.{unread, pending, IsReading, GivesNext, Pieces.{next_of_fault, IsPieceFed, IsFilled, IsBeyond}}, declared.stream.reader.Next.TheVariants.{Closed, Cut}};
 
 use crate::stream::fault::FrameFault;
 use crate::{Feeder, Frame, WireFault};
@@ -70,7 +65,7 @@ impl<A: Allocator + Copy> FrameReader<A> {
     /// What comes next. It asks the reader for more only where no whole frame is left of what was read.
     pub fn next<R: Read>(&mut self, reader: &mut Counted<R>) -> Result<Next<A>, ReadFault>
         requires { IsReading self.old }
-        ensures gives { Gives self.old self.new (R.remaining (counted_device reader.old)) (R.remaining (counted_device reader.new)) result }
+        ensures gives { GivesNext self.old self.new (R.remaining (counted_device reader.old)) (R.remaining (counted_device reader.new)) result }
         ensures closed { result ≡ Ok Closed → IsAtEnd (R.remaining (counted_device reader.new)) }
         ensures cut { result ≡ Ok Cut → IsAtEnd (R.remaining (counted_device reader.new)) }
         ensures read { IsErrOf result Read → CountsFailure reader.old reader.new }
@@ -92,7 +87,7 @@ impl<A: Allocator + Copy> FrameReader<A> {
     // Takes what was read, up to the end of the first frame.
     fn feed(&mut self) -> Result<Option<Frame<A>>, WireFault>
         requires { IsReading self.old }
-        ensures fed { IsFed self.old self.new result }
+        ensures fed { IsPieceFed self.old self.new result }
         ensures reading { OnOk result (IsReading self.new) }
         ensures count { self.new.count ≡ self.old.count }
         ensures few { self.new.count ≤ most_bytes }

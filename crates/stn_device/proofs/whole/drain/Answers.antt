@@ -1,5 +1,4 @@
-use Rattle.std.proofs.Common.{◌++◌, take, arith, ◌∙◌}
-use Rattle.std.proofs.{lemmas.Grind.common_steps, KnownBytes.Consumes-trans}
+use Rattle.std.proofs.{Common.{◌++◌, take, arith, ◌∙◌}, lemmas.Grind.common_steps, KnownBytes.Consumes-trans}
 use Rattle.stn_device.proofs.whole.drain.Goals as goal
 
 pub loop-left-preserved : goal.loop-left-preserved

@@ -1,5 +1,4 @@
-use Rattle.std.proofs.Common.{◌≡◌, ◌+◌, List, ℕ, length}
-use Rattle.std.specs.Io.KnownBytes.{Consumes}
+use Rattle.std.{proofs.Common.{◌≡◌, ◌+◌, List, ℕ, length}, specs.Io.KnownBytes.Consumes}
 use Rattle.stn_device.specs.Counted.{counted_device, KeepsCount}
 use Rattle.stn_device.proofs.whole.drain.Given as goal
 

@@ -1,5 +1,4 @@
-use Rattle.std.proofs.Common.{arith}
-use Rattle.std.proofs.lemmas.Grind.{common_steps}
+use Rattle.std.proofs.{Common.arith, lemmas.Grind.common_steps}
 use Rattle.stn_device.proofs.Known.{ConsumesAtMost-trans}
 use Rattle.stn_device.proofs.whole.read_whole.Goals as goal
 

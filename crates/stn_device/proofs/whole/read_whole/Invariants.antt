@@ -1,5 +1,4 @@
-use Rattle.std.proofs.Common.{◌≡◌, ◌≤◌, ◌-◌, length, vec_len}
-use Rattle.std.specs.Io.KnownBytes.{Consumes}
+use Rattle.std.{proofs.Common.{◌≡◌, ◌≤◌, ◌-◌, length, vec_len}, specs.Io.KnownBytes.Consumes}
 use Rattle.stn_device.specs.Counted.{counted_device, KeepsCount}
 use Rattle.stn_device.proofs.whole.read_whole.Given as goal
 

@@ -1,5 +1,4 @@
-use Rattle.std.proofs.lemmas.Grind.{common_steps}
-use Rattle.std.proofs.Common.{arith, rules}
+use Rattle.std.proofs.{lemmas.Grind.common_steps, Common.{arith, rules}}
 use Rattle.stn_device.proofs.Known.{AppendsPart-more}
 use Rattle.stn_device.proofs.whole.write_whole.Goals as goal
 

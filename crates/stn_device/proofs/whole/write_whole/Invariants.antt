@@ -1,5 +1,4 @@
-use Rattle.std.proofs.Common.{◌≡◌, ◌++◌, length, List, ℕ}
-use Rattle.std.specs.Io.KnownBytes.{Appends}
+use Rattle.std.{proofs.Common.{◌≡◌, ◌++◌, length, List, ℕ}, specs.Io.KnownBytes.Appends}
 use Rattle.stn_device.specs.Counted.{counted_device, KeepsCount}
 use Rattle.stn_device.proofs.whole.write_whole.Given as goal
 

@@ -1,7 +1,5 @@
-use Rattle.std.proofs.Common.{◌≡◌, ◌∙◌, ap, sym, Ok}
-use Rattle.std.proofs.lemmas.Result.{err_from_is_err_and}
-use Rattle.stn_lift.specs.PlanSource.{files}
-use Rattle.stn_lift.proofs.Texts.{plan_not_many, lifting_not_many, plan_refused, steps_refused, base_given}
+use Rattle.std.proofs.{Common.{◌≡◌, ◌∙◌, ap, sym, Ok}, lemmas.Result.err_from_is_err_and}
+use Rattle.stn_lift.{specs.PlanSource.files, proofs.Texts.{plan_not_many, lifting_not_many, plan_refused, steps_refused, base_given}}
 use Rattle.stn_lift.proofs.base.base_of_plan.Goals as goal
 
 pub returns-in_err-plan : goal.returns-in_err-plan

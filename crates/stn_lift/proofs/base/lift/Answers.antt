@@ -1,19 +1,14 @@
-use Rattle.std.proofs.Common.{◌≡◌, ◌≤◌, ◌∙◌, length, map, Ok, sym, ap, arith, rules}
-use Rattle.std.proofs.{lemmas.List.length-map, lemmas.Result.err_from_is_err_and}
+use Rattle.std.proofs.{Common.{◌≡◌, ◌≤◌, ◌∙◌, length, map, Ok, sym, ap, arith, rules}, lemmas.{List.length-map, Result.err_from_is_err_and}}
 use Rattle.stn_text.specs.Faults.{Fails}
 use Rattle.stn_net.specs.Event.{most_steps}
-use Rattle.stn_pddl.specs.Tree.Scan.{most_text}
-use Rattle.stn_pddl.specs.Domains.{domain_of}
-use Rattle.stn_lift.specs.Plan.Steps.{plan_of}
-use Rattle.stn_lift.specs.{Activities.activities, Activities.is_memory, PlanSource.files, PlanSource.IsBase, Timelines.IsWhole, Timelines.numbered_bounds, Views.numbers_of}
-use Rattle.stn_lift.proofs.{LiftedBase.few_found, LiftedBase.is_whole, LiftedBase.base_lifted, Steps.cause_of, Texts.texts_lifted, base.lift.Given.Over}
+use Rattle.stn_pddl.specs.{Tree.Scan.most_text, Domains.domain_of}
+use Rattle.stn_lift.{specs.{Plan.Steps.plan_of, Activities.{activities, is_lift_memory}, PlanSource.{files, IsBase}, Timelines.{IsWholeTimeline, numbered_bounds}, Views.numbers_of}, proofs.{LiftedBase.{few_found, is_whole, base_lifted}, Steps.cause_of, Texts.texts_lifted, base.lift.{Given.Over, Goals.{In_ok-timeline, In_ok-from_slice-2}}}}
 use Rattle.stn_lift.proofs.base.lift.Goals as goal
-use Rattle.stn_lift.proofs.base.lift.Goals.{In_ok-timeline, In_ok-from_slice-2}
 
 pub returns-in_err-timeline-clause-cause : goal.returns-in_err-timeline-clause-cause
 returns-in_err-timeline-clause-cause g c =
     let returned = err_from_is_err_and c.from_residual.result c.from_residual.ensures.1 in
-    let fails : Fails is_memory c.in_err-timeline.field-0.0 (activities c.args.domain.now.actions 0 c.args.plan.now.steps) = rw (← c.steps.ensures.steps) c.in_err-timeline.ensures.fault in
+    let fails : Fails is_lift_memory c.in_err-timeline.field-0.0 (activities c.args.domain.now.actions 0 c.args.plan.now.steps) = rw (← c.steps.ensures.steps) c.in_err-timeline.ensures.fault in
     rw (returned.1, returned.2) (cause_of c.args.domain.now.actions c.args.plan.now.steps c.in_err-timeline.field-0.0 fails)
 
 -- the steps that were found, and how few they are
@@ -27,7 +22,7 @@ found g c =
     (is, few_found actions planned made.0 is (rw (← c.steps.ensures.steps, length-map) c.steps.ensures.few))
 
 whole : (g : Over) (c : In_ok-timeline g)
-    → IsWhole c.in_ok-timeline.timeline.durations.items c.in_ok-timeline.timeline.times.items (map numbers_of c.in_ok-timeline.timeline.footprints.items)
+    → IsWholeTimeline c.in_ok-timeline.timeline.durations.items c.in_ok-timeline.timeline.times.items (map numbers_of c.in_ok-timeline.timeline.footprints.items)
 whole g c =
     let made = c.in_ok-timeline.ensures.made in
     is_whole made.0 c.in_ok-timeline.timeline.durations.items c.in_ok-timeline.timeline.times.items (map numbers_of c.in_ok-timeline.timeline.footprints.items) made.2 (found g c).1

@@ -1,5 +1,4 @@
-use Rattle.std.proofs.Common.{◌≡◌, ℕ, suc, ◌+◌, ◌∷◌, ◌++◌, ◌∙◌, refl, ap, subst, arith, []}
-use Rattle.std.proofs.lemmas.Option.{MatchOption-at_some}
+use Rattle.std.proofs.{Common.{◌≡◌, ℕ, suc, ◌+◌, ◌∷◌, ◌++◌, ◌∙◌, refl, ap, subst, arith, []}, lemmas.Option.MatchOption-at_some}
 use Rattle.stn_net.specs.Horizon.{horizon_bound, horizon_bounds}
 use Rattle.stn_lift.proofs.bounds.horizon_bounds.Goals as goal
 

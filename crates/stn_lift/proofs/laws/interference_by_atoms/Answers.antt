@@ -1,7 +1,5 @@
-use Rattle.std.proofs.Common.{Decides}
-use Rattle.std.proofs.lemmas.Bool.Decides.{Decides-or}
-use Rattle.stn_lift.specs.Footprints.{Footprint, GroundAtom, is_same_atom, share, touches, DoesTouch}
-use Rattle.stn_lift.proofs.Sharing.{share-Decides, is_same_atom-Decides}
+use Rattle.std.proofs.{Common.Decides, lemmas.Bool.Decides.Decides-or}
+use Rattle.stn_lift.{specs.Footprints.{Footprint, GroundAtom, is_same_atom, share, touches, DoesTouch}, proofs.Sharing.{share-Decides, is_same_atom-Decides}}
 use Rattle.stn_lift.proofs.laws.interference_by_atoms.Goals as goal
 
 touches-Decides : (one other : Footprint GroundAtom) → Decides (touches is_same_atom one other) (DoesTouch one other)

@@ -1,7 +1,5 @@
-use Rattle.std.proofs.Common.{◌≡◌, ◌∙◌, sym, ap, nat_eq, drop, [], arith}
-use Rattle.std.proofs.{lemmas.Bool.Decides.nat_tests, lemmas.List.drop_all}
-use Rattle.stn_lift.specs.Footprints.{share}
-use Rattle.stn_lift.proofs.Shared.{share_after_less, share_after_greater, share_nothing}
+use Rattle.std.proofs.{Common.{◌≡◌, ◌∙◌, sym, ap, nat_eq, drop, [], arith}, lemmas.{Bool.Decides.nat_tests, List.drop_all}}
+use Rattle.stn_lift.{specs.Footprints.share, proofs.Shared.{share_after_less, share_after_greater, share_nothing}}
 use Rattle.stn_lift.proofs.numbers.shares.Goals as goal
 
 pub loop-i-preserved-in-Less : goal.loop-i-preserved-in-Less

@@ -1,8 +1,5 @@
-use Rattle.std.proofs.Common.{◌≡◌, ◌∙◌, ◌++◌, ◌∷◌, [], ap, sym, map, Some, None, Ok, rules}
-use Rattle.std.specs.Option.{option_map}
-use Rattle.std.proofs.{lemmas.List.append-nil, lemmas.List.map-append, lemmas.Result.err_from_is_err_and}
-use Rattle.stn_lift.specs.Plan.Views.{planned_step}
-use Rattle.stn_lift.proofs.StepFacts.{steps_more, steps_fail, steps_end}
+use Rattle.std.{proofs.{Common.{◌≡◌, ◌∙◌, ◌++◌, ◌∷◌, [], ap, sym, map, Some, None, Ok, rules}, lemmas.{List.{append-nil, map-append}, Result.err_from_is_err_and}}, specs.Option.option_map}
+use Rattle.stn_lift.{specs.Plan.Views.planned_step, proofs.StepFacts.{steps_more, steps_fail, steps_end}}
 use Rattle.stn_lift.proofs.plan.read_steps.Goals as goal
 
 pub returns-in_err-step : goal.returns-in_err-step

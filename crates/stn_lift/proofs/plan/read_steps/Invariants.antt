@@ -1,7 +1,6 @@
 -- The steps so far, and then those of the lines that are left, are the steps of all lines.
 use Rattle.std.proofs.Common.{◌≡◌, length, map}
-use Rattle.stn_lift.specs.{Plan.Steps.steps_of, Plan.Views.planned_step}
-use Rattle.stn_lift.proofs.StepFacts.{behind_steps}
+use Rattle.stn_lift.{specs.Plan.{Steps.steps_of, Views.planned_step}, proofs.StepFacts.behind_steps}
 use Rattle.stn_lift.proofs.plan.read_steps.Given as goal
 
 abbrev pub invariant-loop-number : goal.invariant-loop-number

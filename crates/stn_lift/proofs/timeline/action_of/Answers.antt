@@ -1,11 +1,7 @@
-use Rattle.std.proofs.Common.{◌≡◌, ◌∙◌, ℕ, ◌≤ℤ◌, ◌+ℤ◌, true, false, List, length, Some, None, Ok, Err, refl, ap, arith}
-use Rattle.std.specs.Prelude.{◌<ℤ◌, int_lt}
-use Rattle.std.proofs.{lemmas.Bool.eq-eqb, lemmas.Bool.ne_eqb, lemmas.Int.ints}
+use Rattle.std.{proofs.{Common.{◌≡◌, ◌∙◌, ℕ, ◌≤ℤ◌, ◌+ℤ◌, true, false, List, length, Some, None, Ok, Err, refl, ap, arith}, lemmas.{Bool.{eq-eqb, ne_eqb}, Int.ints}}, specs.Prelude.{◌<ℤ◌, int_lt}}
 use Rattle.stn_time.specs.Time.{horizon}
 use Rattle.stn_pddl.specs.{Schemas.ActionSchema, Domains.action_named}
-use Rattle.stn_lift.specs.Plan.Steps.{PlannedStep}
-use Rattle.stn_lift.specs.declared.fault.LiftFault.TheVariants.{UnknownAction, Arity, DurationDiffers, PastHorizon}
-use Rattle.stn_lift.specs.Activities.{differs, activity, with_found, with_action, activity_of}
+use Rattle.stn_lift.specs.{Plan.Steps.PlannedStep, declared.fault.LiftFault.TheVariants.{UnknownAction, Arity, DurationDiffers, PastHorizon}, Activities.{differs, activity, with_found, with_action, activity_of}}
 
 module _ (actions : List ActionSchema) (number : ℕ) (step : PlannedStep) where
   unknown : action_named step.action actions ≡ None → activity_of actions number step ≡ Err (UnknownAction number)

@@ -1,9 +1,6 @@
-use Rattle.std.proofs.Common.{map, subst}
-use Rattle.std.proofs.lemmas.List.{append-nil}
+use Rattle.std.proofs.{Common.{map, subst}, lemmas.List.append-nil}
 use Rattle.stn_pddl.specs.Views.{atoms_schema}
-use Rattle.stn_lift.specs.Plan.Views.{word_of}
-use Rattle.stn_lift.specs.{Footprints.ground, Numbering.AreNumbersOf}
-use Rattle.stn_lift.proofs.NumberLists.{kept_along, numbers_kept}
+use Rattle.stn_lift.{specs.{Plan.Views.word_of, Footprints.ground, Numbering.AreNumbersOf}, proofs.NumberLists.{kept_along, numbers_kept}}
 use Rattle.stn_lift.proofs.timeline.footprint.Goals as goal
 
 pub returns : goal.returns

@@ -1,5 +1,4 @@
-use Rattle.std.proofs.Common.{◌≤◌, length, refl}
-use Rattle.std.proofs.{lemmas.List.take_all, lemmas.List.Elements.All-more}
+use Rattle.std.proofs.{Common.{◌≤◌, length, refl}, lemmas.List.{take_all, Elements.All-more}}
 use Rattle.stn_net.specs.Schedule.{times_of, Meets}
 use Rattle.stn_net.proofs.schedule.first_broken.Goals as goal
 

@@ -1,6 +1,4 @@
-use Rattle.std.proofs.Common.{◌≡◌, ◌∙◌, arith, refl}
-use Rattle.std.specs.Prelude.{pos}
-use Rattle.std.proofs.{lemmas.Int.ints, lemmas.List.get_or_read}
+use Rattle.std.{proofs.{Common.{◌≡◌, ◌∙◌, arith, refl}, lemmas.{Int.ints, List.get_or_read}}, specs.Prelude.pos}
 use Rattle.stn_net.specs.Schedule.{times_of}
 use Rattle.stn_net.proofs.schedule.is_met.Goals as goal
 

@@ -1,6 +1,5 @@
 use Rattle.std.proofs.Common.{◌≡◌, ◌≤◌, []}
-use Rattle.stn_pddl.specs.Tree.Cursors.{row_at, behind_at, left_at}
-use Rattle.stn_pddl.specs.{Atoms.terms, Views.words_of, Views.terms_schema}
+use Rattle.stn_pddl.specs.{Tree.Cursors.{row_at, behind_at, left_at}, Atoms.terms, Views.{words_of, terms_schema}}
 use Rattle.stn_pddl.proofs.atom.read_terms.Given as goal
 
 abbrev pub invariant-terms : goal.invariant-terms

@@ -1,13 +1,11 @@
 use Rattle.std.proofs.Common.{ap}
-use Rattle.stn_text.specs.Faults.{Gives}
-use Rattle.stn_pddl.specs.Tree.Cursors.{row_at}
-use Rattle.stn_pddl.specs.{Faults.is_memory, Schemas.ActionSchema, Actions.named_action, Views.action_schema, Views.word_of}
-use Rattle.stn_pddl.proofs.{SoundActions.new-name, Steps.filled}
+use Rattle.stn_text.specs.Faults.{Returns}
+use Rattle.stn_pddl.{specs.{Tree.Cursors.row_at, Faults.is_memory, Schemas.ActionSchema, Actions.named_action, Views.{action_schema, bytes_of_name}}, proofs.{SoundActions.new-name, Steps.filled}}
 use Rattle.stn_pddl.proofs.domain.read_action.Goals as goal
 
 pub returns : goal.returns
 returns g c =
-    let given : Gives is_memory action_schema c.and.result (named_action c.args.line (word_of c.in_ok-name.name) (row_at c.in_ok-name.rest)) =
+    let given : Returns is_memory action_schema c.and.result (named_action c.args.line (bytes_of_name c.in_ok-name.name) (row_at c.in_ok-name.rest)) =
     filled _ action_schema c.read_fields.result c.read_fields.new.action c.and.result _ c.and.ensures
     (rw (ap (λ (schema : ActionSchema). schema.name) c.bare-action.ensures) at c.read_fields.ensures) in
     record {

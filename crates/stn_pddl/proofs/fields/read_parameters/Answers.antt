@@ -1,7 +1,5 @@
-use Rattle.std.proofs.Common.{◌≡◌, ◌∙◌, sym, refl, Bool, false, cond, List}
-use Rattle.std.proofs.lemmas.Bool.{not-true, not-false}
-use Rattle.stn_pddl.specs.declared.tree.name.Name.{Name}
-use Rattle.stn_pddl.proofs.Terms.{parameter-twice, parameter-new}
+use Rattle.std.proofs.{Common.{◌≡◌, ◌∙◌, sym, refl, Bool, false, cond, List}, lemmas.Bool.{not-true, not-false}}
+use Rattle.stn_pddl.{specs.declared.tree.name.Name.Name, proofs.Terms.{parameter-twice, parameter-new}}
 use Rattle.stn_pddl.proofs.fields.read_parameters.Goals as goal
 
 kept : (was : Bool) (old now more : List Name) → was ≡ false → now ≡ cond was old more → now ≡ more

@@ -1,6 +1,5 @@
 use Rattle.std.proofs.Common.{◌≡◌}
-use Rattle.stn_pddl.specs.Tree.Cursors.{row_at, left_at}
-use Rattle.stn_pddl.specs.{Fields.parameters, Views.words_of}
+use Rattle.stn_pddl.specs.{Tree.Cursors.{row_at, left_at}, Fields.parameters, Views.words_of}
 use Rattle.stn_pddl.proofs.fields.read_parameters.Given as goal
 
 abbrev pub invariant-parameters : goal.invariant-parameters

@@ -1,8 +1,7 @@
 use Rattle.std.proofs.Common.{◌≡◌, ℕ, true, false, List, codes, refl}
-use Rattle.stn_pddl.specs.Tree.Names.{is_same_word}
+use Rattle.stn_pddl.specs.{Tree.Names.is_same_word, Words.{is_key, key_of}}
 use Rattle.stn_pddl.specs.declared.word.Field.TheVariants as field
 use Rattle.stn_pddl.specs.declared.word.Key.TheVariants as key
-use Rattle.stn_pddl.specs.Words.{is_key, key_of}
 
 module _ (word : List ℕ) where
   parameters : is_same_word word (codes ":parameters") ≡ true → key.Known field.Parameters ≡ key_of word

@@ -1,7 +1,5 @@
-use Rattle.std.proofs.Common.{is_some, refl, sym, ap, ◌∙◌}
-use Rattle.std.proofs.lemmas.Bool.{false≢true}
-use Rattle.stn_records.specs.Content.{plain, with_record}
-use Rattle.stn_records.proofs.Replaced.{replaced_amended, replaced_withdrawn}
+use Rattle.std.proofs.{Common.{is_some, refl, sym, ap, ◌∙◌}, lemmas.Bool.false≢true}
+use Rattle.stn_records.{specs.Content.{plain, with_record}, proofs.Replaced.{replaced_amended, replaced_withdrawn}}
 use Rattle.stn_records.proofs.laws.counts_same.Goals as goal
 
 pub returns-clause-amended : goal.returns-clause-amended

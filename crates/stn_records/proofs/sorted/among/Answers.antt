@@ -1,6 +1,4 @@
-use Rattle.std.proofs.Common.{arith}
-use Rattle.std.proofs.{lemmas.Grind.common_steps, lemmas.List.Elements.filter_more}
-use Rattle.std.specs.Set.{is_member}
+use Rattle.std.{proofs.{Common.arith, lemmas.{Grind.common_steps, List.Elements.filter_more}}, specs.Set.is_member}
 use Rattle.stn_records.specs.Content.{same_ids}
 use Rattle.stn_records.proofs.sorted.among.Goals as goal
 

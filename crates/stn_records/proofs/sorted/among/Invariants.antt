@@ -1,5 +1,4 @@
-use Rattle.std.proofs.Common.{◌≡◌, filter, take}
-use Rattle.std.specs.Set.{is_member}
+use Rattle.std.{proofs.Common.{◌≡◌, filter, take}, specs.Set.is_member}
 use Rattle.stn_records.specs.Content.{same_ids}
 use Rattle.stn_records.proofs.sorted.among.Given as goal
 

@@ -1,8 +1,5 @@
-use Rattle.std.proofs.Common.{◌≡◌, length, ap, sym, ◌∙◌, arith}
-use Rattle.std.proofs.lemmas.Map.Made.{distinct_count-le}
-use Rattle.std.specs.{Set.distinct_count, FinMap.is_sorted}
-use Rattle.stn_records.specs.{Id.id_cmp, Sorted.past_id, Content.same_ids}
-use Rattle.stn_records.proofs.Counts.{all_keys, one_counted, fewer_left, none_left, keys_length, past_sorted}
+use Rattle.std.{proofs.{Common.{◌≡◌, length, ap, sym, ◌∙◌, arith}, lemmas.Map.Made.distinct_count-le}, specs.{Set.distinct_count, FinMap.is_sorted}}
+use Rattle.stn_records.{specs.{Id.id_cmp, Sorted.past_id, Content.same_ids}, proofs.Counts.{all_keys, one_counted, fewer_left, none_left, keys_length, past_sorted}}
 use Rattle.stn_records.proofs.sorted.count_ids.Goals as goal
 
 pub overflow_add-count : goal.overflow_add-count

@@ -1,7 +1,5 @@
-use Rattle.std.proofs.Common.{◌≡◌, true, ◌+◌, length}
-use Rattle.std.specs.{Set.distinct_count, FinMap.is_sorted}
-use Rattle.stn_records.specs.{Id.id_cmp, Content.same_ids}
-use Rattle.stn_records.proofs.Counts.{all_keys}
+use Rattle.std.{proofs.Common.{◌≡◌, true, ◌+◌, length}, specs.{Set.distinct_count, FinMap.is_sorted}}
+use Rattle.stn_records.{specs.{Id.id_cmp, Content.same_ids}, proofs.Counts.all_keys}
 use Rattle.stn_records.proofs.sorted.count_ids.Given as goal
 
 abbrev pub invariant-loop-id : goal.invariant-loop-id

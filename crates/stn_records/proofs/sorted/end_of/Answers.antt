@@ -1,5 +1,4 @@
-use Rattle.std.proofs.Common.{rules, nat_le}
-use Rattle.std.proofs.lemmas.List.Sorted.{IsPartitionPoint-from_clause, IsPartitionedBy-leb}
+use Rattle.std.proofs.{Common.{rules, nat_le}, lemmas.List.Sorted.{IsPartitionPoint-from_clause, IsPartitionedBy-leb}}
 use Rattle.stn_records.proofs.Counters.{sites_rise, ends}
 use Rattle.stn_records.proofs.sorted.end_of.Goals as goal
 

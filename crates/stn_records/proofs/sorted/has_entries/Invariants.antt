@@ -1,5 +1,4 @@
-use Rattle.std.proofs.Common.{◌≡◌, true, ◌+◌, length}
-use Rattle.std.specs.FinMap.{is_sorted}
+use Rattle.std.{proofs.Common.{◌≡◌, true, ◌+◌, length}, specs.FinMap.is_sorted}
 use Rattle.stn_records.specs.{Id.id_cmp, Sorted.has_entries}
 use Rattle.stn_records.proofs.sorted.has_entries.Given as goal
 

@@ -1,7 +1,5 @@
-use Rattle.std.proofs.Common.{rules, is_lt}
-use Rattle.std.proofs.lemmas.Fn.{always_returns_same}
-use Rattle.stn_records.specs.{Id.id_cmp, ContentLaws.ids_total}
-use Rattle.stn_records.proofs.Entries.{rising_test}
+use Rattle.std.proofs.{Common.{rules, is_lt}, lemmas.Fn.always_returns_same}
+use Rattle.stn_records.{specs.{Id.id_cmp, ContentLaws.ids_total}, proofs.Entries.rising_test}
 use Rattle.stn_records.proofs.sorted.is_rising.Goals as goal
 
 -- the closure tells whether the id rises

@@ -1,5 +1,4 @@
-use Rattle.std.proofs.Common.{◌∙◌}
-use Rattle.std.proofs.lemmas.Result.{IfOk-weaker}
+use Rattle.std.proofs.{Common.◌∙◌, lemmas.Result.IfOk-weaker}
 use Rattle.stn_records.proofs.Places.{same_wanted}
 use Rattle.stn_records.proofs.sorted.kept.Goals as goal
 

@@ -1,6 +1,5 @@
 use Rattle.std.proofs.Common.{inl, inr}
-use Rattle.stn_records.specs.{Id.id_cmp, Sorted.merge}
-use Rattle.stn_records.proofs.{Entries.merge_ends, sorted.merged.Goals.in_default, sorted.merged.Goals.in_default-2}
+use Rattle.stn_records.{specs.{Id.id_cmp, Sorted.merge}, proofs.{Entries.merge_ends, sorted.merged.Goals.{in_default, in_default-2}}}
 use Rattle.stn_records.proofs.sorted.merged.Goals as goal
 
 -- one of the lists is at its end

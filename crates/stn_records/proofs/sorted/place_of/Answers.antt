@@ -1,5 +1,4 @@
-use Rattle.std.proofs.Common.{rules}
-use Rattle.std.proofs.lemmas.List.Sorted.{answers_always}
+use Rattle.std.proofs.{Common.rules, lemmas.List.Sorted.answers_always}
 use Rattle.stn_records.proofs.Places.{searched}
 use Rattle.stn_records.proofs.sorted.place_of.Goals as goal
 

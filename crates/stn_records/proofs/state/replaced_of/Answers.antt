@@ -1,7 +1,6 @@
 use Rattle.std.proofs.Common.{ap, ◌∙◌}
 use Rattle.std.specs.FinMap as fin
-use Rattle.stn_records.specs.Id.{SiteCounter}
-use Rattle.stn_records.proofs.Replaced.{put_next}
+use Rattle.stn_records.{specs.Id.SiteCounter, proofs.Replaced.put_next}
 use Rattle.stn_records.proofs.state.replaced_of.Goals as goal
 
 pub loop-entry-preserved : goal.loop-entry-preserved

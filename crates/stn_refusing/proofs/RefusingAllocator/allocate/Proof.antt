@@ -1,41 +1,14 @@
 -- It answers what the inner allocator answers, but for the request to be refused. Assumes `Logic`.
-use Rattle.std.proofs.Common.{◌≡◌, ℕ, zero, suc, ◌+◌, ◌^◌, ◌<◌, true, false, List, [], ◌∷◌, Ok, Err, refl, w64, Bor}
+use Rattle.std.proofs.{Common.{◌≡◌, ℕ, zero, suc, ◌+◌, ◌^◌, ◌<◌, true, false, List, [], ◌∷◌, Ok, Err, refl, w64, Bor}, alloc.Calls.{Al, α, seen, Answer, answer_val, Answer-typed, Answer-Ok, Answer-err, takes_key, Takes, at_takes, Answered, Takes-goes, Takes-gives, answers}}
 use seplogic.Ra.Ura.{Ura}
-use mir.Syntax.{Ty, Args, Fn, Body, seq, skip, a_type, dnil, dcons}
+use mir.{Syntax.{Ty, Args, Fn, Body, seq, skip, a_type, dnil, dcons}, Val.{Val, vbool, vint, vptr}, MapTy.inst_fn}
 use mathlib.Core.Bool.{Bool}
-use mir.Val.{Val, vbool, vint, vptr}
-use mir.MapTy.{inst_fn}
-use base.Logic.{SProp, ent, id⊢}
-use base.Fml.{Lft, Share, ftrue, flft}
-use prog.Memory.{Memory, size, align, capped, up}
-use prog.Routine.{Routine}
-use prog.Wp.{WpFn, Tables}
-use types.Logic.{Logic}
-use contract.BorrowLft.{◌⊑◌, ⊑_trans}
-use contract.Monad.{Fun, fact}
-use contract.Running.{tables, tables_of}
+use base.{Logic.{SProp, ent, id⊢}, Fml.{Lft, Share, ftrue, flft}}
+use prog.{Memory.{Memory, size, align, capped, up}, Routine.Routine, Wp.{WpFn, Tables}}
+use types.{Logic.Logic, Run.{stop, fld, addr, lit, no_more, and_then, first, branches, skips, exec, returns, returns_within, enter}, Kit.{at_ret, ‵, raw, ◌⊛◌, later, given, some, learn, pick, ◌$◌, ◌∵◌, !, qed, move, keep, drop, use0, use1, use2, split, join, fsplit, fjoin, suffices, await, done}, ByLocal.{alloc_all, pass_all, free_all, look_at, get, through, sets, lands_as, env}, Part.agg}
+use contract.{BorrowLft.{◌⊑◌, ⊑_trans}, Monad.{Fun, fact}, Running.{tables, tables_of}}
 use sound.WpLaws.{fm_of, WpFn-mono}
-use types.Run.{stop, fld, addr, lit, no_more, and_then, first, branches, skips, exec, returns, returns_within, enter}
-use denote.Exit.{yes}
-use denote.RattleType.{owns}
-use denote.Ref.{shr_vals}
-use denote.Opens.{unhide}
-use denote.Param.{bounded, param}
-use denote.Plain.{uint_vals, uint_Tells}
-use denote.Signature.{Slot, plain, types_at}
-use denote.Steps.{heard, nothing}
-use denote.Triple.Clauses.{Ended, Clauses}
-use denote.Triple.Spec.{triple_of}
-use denote.Triple.Statement.{Triple}
-use denote.Triple.Table.{entered, cited}
-use denote.Triple.Walked.{Stays, stay_dropped, walk_of, ends_at, walked, Goes-dropped, walk_Meets}
-use types.Kit.{at_ret, ‵, raw, ◌⊛◌, later, given, some, learn, pick, ◌$◌, ◌∵◌, !, qed, move, keep, drop, use0, use1, use2, split, join, fsplit, fjoin, suffices, await, done}
-use types.ByLocal.{alloc_all, pass_all, free_all, look_at, get, through, sets, lands_as, env}
-use types.Part.{agg}
-use denote.RawPtr.{block_ptr}
-use denote.Builtin.{usize, RefOf}
-use denote.Triple.Call.{calls_at}
-use Rattle.std.proofs.alloc.Calls.{Al, α, seen, Answer, answer_val, Answer-typed, Answer-Ok, Answer-err, takes_key, Takes, at_takes, Answered, Takes-goes, Takes-gives, answers}
+use denote.{Exit.yes, RattleType.owns, Ref.shr_vals, Opens.unhide, Param.{bounded, param}, Plain.{uint_vals, uint_Tells}, Signature.{Slot, plain, types_at}, Steps.{heard, nothing}, Triple.{Clauses.{Ended, Clauses}, Spec.triple_of, Statement.Triple, Table.{entered, cited}, Walked.{Stays, stay_dropped, walk_of, ends_at, walked, Goes-dropped, walk_Meets}, Call.calls_at}, RawPtr.block_ptr, Builtin.{usize, RefOf}}
 use Rattle.stn_refusing.proofs.Refusals.{Refuses, at_refuses, Refuses-goes, Refuses-gives}
 use Rattle.stn_refusing.proofs.refuses.Symbol as c_sym
 use Rattle.stn_refusing.proofs.refuses.Met as c_met

@@ -1,5 +1,4 @@
-use Rattle.std.proofs.Common.{◌≡◌, ◌+◌, ◌-◌, arith, sym, inl, inr, refl, take, drop, length}
-use Rattle.std.proofs.{lemmas.List.take_all, lemmas.List.length-drop, lemmas.Grind.common_steps}
+use Rattle.std.proofs.{Common.{◌≡◌, ◌+◌, ◌-◌, arith, sym, inl, inr, refl, take, drop, length}, lemmas.{List.{take_all, length-drop}, Grind.common_steps}}
 use Rattle.stn_text.proofs.Splits.{cut_found, lines_of-found, lines_of-whole}
 use Rattle.stn_text.proofs.lines.first_line.Goals as goal
 

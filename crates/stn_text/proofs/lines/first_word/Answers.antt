@@ -1,5 +1,4 @@
-use Rattle.std.proofs.Common.{arith, sym, ◌∙◌}
-use Rattle.std.proofs.lemmas.Grind.{common_steps}
+use Rattle.std.proofs.{Common.{arith, sym, ◌∙◌}, lemmas.Grind.common_steps}
 use Rattle.stn_text.proofs.Splits.{words_of-none, words_of-found, words_of-whole}
 use Rattle.stn_text.proofs.lines.first_word.Goals as goal
 

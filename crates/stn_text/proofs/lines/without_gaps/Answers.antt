@@ -1,7 +1,5 @@
-use Rattle.std.proofs.Common.{◌≡◌, true, arith}
-use Rattle.std.proofs.lemmas.Grind.{common_steps}
-use Rattle.stn_text.specs.Lines.{is_gap}
-use Rattle.stn_text.proofs.Splits.{words_of-gap}
+use Rattle.std.proofs.{Common.{◌≡◌, true, arith}, lemmas.Grind.common_steps}
+use Rattle.stn_text.{specs.Lines.is_gap, proofs.Splits.words_of-gap}
 use Rattle.stn_text.proofs.lines.without_gaps.Goals as goal
 
 pub loop-first-preserved : goal.loop-first-preserved

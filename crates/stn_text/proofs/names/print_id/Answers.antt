@@ -1,5 +1,4 @@
-use Rattle.std.proofs.Common.{◌++◌, ap, ◌∙◌, decimal}
-use Rattle.std.proofs.{lemmas.List.append_assoc, lemmas.Result.IfOk-equal}
+use Rattle.std.proofs.{Common.{◌++◌, ap, ◌∙◌, decimal}, lemmas.{List.append_assoc, Result.IfOk-equal}}
 use Rattle.stn_text.proofs.Whole.{appended_whole}
 use Rattle.stn_text.proofs.names.print_id.Goals as goal
 

@@ -1,8 +1,5 @@
-use Rattle.std.proofs.Common.{◌≡◌, ℕ, ◌^◌, ◌<◌, List, Option, Some, Result, decimal, true, sym, ap, ◌∙◌, subst}
-use Rattle.std.specs.Result.{OkIff, result_ok}
-use Rattle.std.proofs.{lemmas.Bool.true≢false, lemmas.Slice.Eq.slice_eq-Decides, lemmas.Bool.Decides.Decides-eqb, lemmas.Result.Ok-from_Ok_iff, lemmas.Option.none-some, lemmas.Option.same_Some}
-use Rattle.stn_text.specs.Numbers.{number_of}
-use Rattle.stn_text.proofs.Digits.{number_of-decimal}
+use Rattle.std.{proofs.{Common.{◌≡◌, ℕ, ◌^◌, ◌<◌, List, Option, Some, Result, decimal, true, sym, ap, ◌∙◌, subst}, lemmas.{Bool.{true≢false, Decides.Decides-eqb}, Slice.Eq.slice_eq-Decides, Result.Ok-from_Ok_iff, Option.{none-some, same_Some}}}, specs.Result.{OkIff, result_ok}}
+use Rattle.stn_text.{specs.Numbers.number_of, proofs.Digits.number_of-decimal}
 use Rattle.stn_text.proofs.numbers.read_decimal.Goals as goal
 
 -- what is read of the decimal form of a number

@@ -1,7 +1,5 @@
-use Rattle.std.proofs.Common.{◌≡◌, ◌<◌, ◌≤◌, ◌&&◌, true, false, length, get_or, Some, sym, ap, ◌∙◌, arith}
-use Rattle.std.specs.{Prelude.nat_le, Prelude.nat_lt, Char.is_ascii_digit, Str.all_ascii_digits, Str.Parse.digits_value_after}
-use Rattle.std.proofs.{lemmas.Bool.Decides.nat_tests, lemmas.Grind.common_steps, lemmas.Bool.and_left, lemmas.List.at_drop_more, lemmas.List.at_drop_all}
-use Rattle.stn_text.proofs.{Digits.number_of-length, Digits.number_of-other, Digits.number_of-digits, numbers.read_number.Goals.then-is_empty-via-then-is_empty, numbers.read_number.Goals.then-is_empty-via-else-is_empty+then-word-gt-MOST_DIGITS}
+use Rattle.std.{proofs.{Common.{◌≡◌, ◌<◌, ◌≤◌, ◌&&◌, true, false, length, get_or, Some, sym, ap, ◌∙◌, arith}, lemmas.{Bool.{and_left, Decides.nat_tests}, Grind.common_steps, List.{at_drop_more, at_drop_all}}}, specs.{Prelude.{nat_le, nat_lt}, Char.is_ascii_digit, Str.{all_ascii_digits, Parse.digits_value_after}}}
+use Rattle.stn_text.proofs.{Digits.{number_of-length, number_of-other, number_of-digits}, numbers.read_number.Goals.{then-is_empty-via-then-is_empty, then-is_empty-via-else-is_empty+then-word-gt-MOST_DIGITS}}
 use Rattle.stn_text.proofs.numbers.read_number.Goals as goal
 
 pub returns-then-is_empty : goal.returns-then-is_empty

@@ -1,5 +1,4 @@
-use Rattle.std.proofs.Common.{◌≡◌, ◌^◌, ◌<◌, drop}
-use Rattle.std.specs.{Str.all_ascii_digits, Str.Parse.digits_value, Str.Parse.digits_value_after}
+use Rattle.std.{proofs.Common.{◌≡◌, ◌^◌, ◌<◌, drop}, specs.Str.{all_ascii_digits, Parse.{digits_value, digits_value_after}}}
 use Rattle.stn_text.proofs.numbers.read_number.Given as goal
 
 abbrev pub invariant-loop-digit : goal.invariant-loop-digit

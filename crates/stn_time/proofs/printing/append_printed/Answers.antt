@@ -1,8 +1,5 @@
-use Rattle.std.proofs.Common.{◌≡◌, ℕ, ℤ, ◌/◌, ◌%◌, ◌<◌, ◌≤◌, ◌++◌, ◌^◌, ap, ◌∙◌, subst, codes, w64, to_z, of_z, arith}
-use Rattle.std.specs.{Fmt.decimal, Fmt.sign_text, Int.is_negative, Prelude.unsigned_abs}
-use Rattle.std.proofs.lemmas.Int.{to_z-of_z}
-use Rattle.stn_time.specs.Text.{three_digits}
-use Rattle.stn_time.proofs.Prints.{appends-printed}
+use Rattle.std.{proofs.{Common.{◌≡◌, ℕ, ℤ, ◌/◌, ◌%◌, ◌<◌, ◌≤◌, ◌++◌, ◌^◌, ap, ◌∙◌, subst, codes, w64, to_z, of_z, arith}, lemmas.Int.to_z-of_z}, specs.{Fmt.{decimal, sign_text}, Int.is_negative, Prelude.unsigned_abs}}
+use Rattle.stn_time.{specs.Text.three_digits, proofs.Prints.appends-printed}
 use Rattle.stn_time.proofs.printing.append_printed.Goals as goal
 
 pub returns-clause-ok : goal.returns-clause-ok

@@ -1,6 +1,4 @@
-use Rattle.std.proofs.Common.{◌≡◌, get_or, arith}
-use Rattle.std.specs.Int.{IsInRange}
-use Rattle.std.proofs.{lemmas.Str.Parse.digit_at, lemmas.List.get_or_default}
+use Rattle.std.{proofs.{Common.{◌≡◌, get_or, arith}, lemmas.{Str.Parse.digit_at, List.get_or_default}}, specs.Int.IsInRange}
 use Rattle.stn_time.proofs.Sums.{digit_value-range}
 use Rattle.stn_time.proofs.reading.digit_at.Goals as goal
 

@@ -1,6 +1,4 @@
-use Rattle.std.proofs.Common.{◌∙◌, sym, length, arith}
-use Rattle.std.specs.Char.{is_ascii_digit}
-use Rattle.std.proofs.lemmas.List.Sums.{prefix_len_is}
+use Rattle.std.{proofs.{Common.{◌∙◌, sym, length, arith}, lemmas.List.Sums.prefix_len_is}, specs.Char.is_ascii_digit}
 use Rattle.stn_time.proofs.reading.digits_len.Goals as goal
 
 pub returns-then-not-is_ascii_digit-clause-value : goal.returns-then-not-is_ascii_digit-clause-value

@@ -1,5 +1,4 @@
-use Rattle.std.proofs.Common.{◌≡◌, ℕ, ◌<◌, true, get_or}
-use Rattle.std.specs.Char.{is_ascii_digit}
+use Rattle.std.{proofs.Common.{◌≡◌, ℕ, ◌<◌, true, get_or}, specs.Char.is_ascii_digit}
 use Rattle.stn_time.proofs.reading.digits_len.Given as goal
 
 abbrev pub invariant-loop-i : goal.invariant-loop-i

@@ -1,5 +1,4 @@
-use Rattle.std.proofs.Common.{◌≡◌, ◌<◌, ◌∙◌, sym, eqb, false, length, arith}
-use Rattle.std.proofs.lemmas.Bool.Decides.{nat_tests}
+use Rattle.std.proofs.{Common.{◌≡◌, ◌<◌, ◌∙◌, sym, eqb, false, length, arith}, lemmas.Bool.Decides.nat_tests}
 use Rattle.stn_time.proofs.Sums.{is_numeral-prefix}
 use Rattle.stn_time.proofs.reading.is_numeral.Goals as goal
 

@@ -1,6 +1,4 @@
-use Rattle.std.proofs.Common.{get_or, arith}
-use Rattle.std.specs.Int.{IsInRange}
-use Rattle.std.proofs.lemmas.Str.Parse.{digit_at}
+use Rattle.std.{proofs.{Common.{get_or, arith}, lemmas.Str.Parse.digit_at}, specs.Int.IsInRange}
 use Rattle.stn_time.proofs.Sums.{seconds-more}
 use Rattle.stn_time.proofs.reading.seconds.Goals as goal
 

@@ -1,5 +1,4 @@
-use Rattle.std.proofs.Common.{◌≡◌, min, take}
-use Rattle.std.specs.Str.Parse.{digits_value}
+use Rattle.std.{proofs.Common.{◌≡◌, min, take}, specs.Str.Parse.digits_value}
 use Rattle.stn_time.specs.declared.reading.TheConstants.{BEYOND}
 use Rattle.stn_time.proofs.reading.seconds.Given as goal
 

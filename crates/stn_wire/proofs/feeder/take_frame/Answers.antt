@@ -1,7 +1,5 @@
-use Rattle.std.proofs.Common.{Err, IfSome, ap, subst}
-use Rattle.std.proofs.lemmas.Result.{err_from_is_err_and}
-use Rattle.stn_wire.specs.{Feeder.holding, Frame.content, Front.IsFront, Front.whole, Front.unfinished, Front.answered, Reading.IsWanted, Reading.IsJudged}
-use Rattle.stn_wire.proofs.Feeding.{opening_err, filled_err, filled_whole, all_used, filled_is_all, filled_unfinished}
+use Rattle.std.proofs.{Common.{Err, IfSome, ap, subst}, lemmas.Result.err_from_is_err_and}
+use Rattle.stn_wire.{specs.{Feeder.holding, Frame.content, Front.{IsFront, whole, unfinished, answered_front}, Reading.{IsWanted, IsJudged}}, proofs.Feeding.{opening_err, filled_err, filled_whole, all_used, filled_is_all, filled_unfinished}}
 use Rattle.stn_wire.proofs.feeder.take_frame.Goals as goal
 
 pub returns-in_err-length : goal.returns-in_err-length
@@ -16,7 +14,7 @@ returns-in_err-frame g c =
     let p = err_from_is_err_and c.from_residual-in_err-frame.result c.from_residual-in_err-frame.ensures.1 in
     let wants = subst (λ l. IsWanted l c.in_ok-length.length) c.deref.ensures.value c.in_ok-length.ensures in
     let fault = c.in_err-frame.field-0.0 in
-    let found = subst (λ l. IfSome (answered {A = g.row.A.Denot} (Err fault)) (IsFront l)) c.deref-2.ensures.value c.in_err-frame.ensures in
+    let found = subst (λ l. IfSome (answered_front {A = g.row.A.Denot} (Err fault)) (IsFront l)) c.deref-2.ensures.value c.in_err-frame.ensures in
     rw (p.1, p.2) (filled_err c.args.held.now.items c.args.piece.now c.requires c.in_ok-opening.opening c.in_ok-opening.ensures.taken c.fill.new.held.items c.in_ok-opening.ensures.filled
     c.in_ok-length.length wants c.in_ok-used.field-0 c.in_ok-used.ensures.taken c.fill-2.new.held.items c.in_ok-used.ensures.filled g.row.A.Denot fault found)
 

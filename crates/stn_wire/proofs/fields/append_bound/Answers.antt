@@ -1,6 +1,5 @@
 use Rattle.std.proofs.Common.{◌++◌, ap, ◌∙◌, rules}
-use Rattle.stn_wire.specs.{Spelling.two, Spelling.side_bytes, declared.layout.Layout.TheVariants.New}
-use Rattle.stn_wire.proofs.Parts.{append_then}
+use Rattle.stn_wire.{specs.{Spelling.{two, side_bytes}, declared.layout.Layout.TheVariants.New}, proofs.Parts.append_then}
 use Rattle.stn_wire.proofs.fields.append_bound.Goals as goal
 
 pub returns-clause-appended : goal.returns-clause-appended

@@ -1,6 +1,5 @@
 use Rattle.std.proofs.Common.{[], ◌∷◌, ◌++◌, ap, ◌∙◌}
-use Rattle.stn_wire.specs.{Spelling.mark_byte, Spelling.bound_bytes, declared.layout.Layout.TheVariants.New}
-use Rattle.stn_wire.proofs.Parts.{append_then}
+use Rattle.stn_wire.{specs.{Spelling.{mark_byte, bound_bytes}, declared.layout.Layout.TheVariants.New}, proofs.Parts.append_then}
 use Rattle.stn_wire.proofs.fields.append_record.Goals as goal
 
 pub returns-clause-appended : goal.returns-clause-appended

@@ -1,6 +1,5 @@
 use Rattle.std.proofs.Common.{arith}
-use Rattle.stn_wire.specs.Frame.{content}
-use Rattle.stn_wire.proofs.Fronts.{whole_read}
+use Rattle.stn_wire.{specs.Frame.content, proofs.Fronts.whole_read}
 use Rattle.stn_wire.proofs.front.decode.Goals as goal
 
 pub returns-in-Some : goal.returns-in-Some

@@ -1,5 +1,4 @@
-use Rattle.std.proofs.Common.{◌≡◌, ◌++◌, take, All}
-use Rattle.std.specs.List.{flat_map}
+use Rattle.std.{proofs.Common.{◌≡◌, ◌++◌, take, All}, specs.List.flat_map}
 use Rattle.stn_wire.specs.declared.layout.Layout.TheVariants.{New}
 use Rattle.stn_wire.proofs.lists.append_items.Given as goal
 

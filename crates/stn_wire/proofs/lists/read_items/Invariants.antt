@@ -1,5 +1,4 @@
-use Rattle.std.proofs.Common.{◌≡◌, ◌++◌, length, All}
-use Rattle.std.specs.List.{flat_map}
+use Rattle.std.{proofs.Common.{◌≡◌, ◌++◌, length, All}, specs.List.flat_map}
 use Rattle.stn_wire.proofs.lists.read_items.Given as goal
 
 abbrev pub invariant-items : goal.invariant-items

@@ -1,5 +1,4 @@
-use Rattle.std.proofs.Common.{length, sym, ap, ◌∙◌}
-use Rattle.std.proofs.lemmas.Bool.{false≢true, eq-eqb}
+use Rattle.std.proofs.{Common.{length, sym, ap, ◌∙◌}, lemmas.Bool.{false≢true, eq-eqb}}
 use Rattle.stn_wire.proofs.Sources.{no_domain, no_plan, plan_and_more}
 use Rattle.stn_wire.proofs.source.read_files.Goals as goal
 

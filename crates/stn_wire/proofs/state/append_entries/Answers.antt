@@ -1,5 +1,4 @@
-use Rattle.std.proofs.Common.{◌≡◌, ◌==◌, false, List, [], ◌∷◌, length, refl}
-use Rattle.std.proofs.lemmas.Bool.{false≢true}
+use Rattle.std.proofs.{Common.{◌≡◌, ◌==◌, false, List, [], ◌∷◌, length, refl}, lemmas.Bool.false≢true}
 use Rattle.stn_records.specs.Id.{SiteCounter}
 use Rattle.stn_wire.specs.Spelling.{amendment_bytes, amendments_bytes, counted}
 use Rattle.stn_wire.proofs.state.append_entries.Goals as goal

@@ -1,5 +1,4 @@
-use Rattle.std.proofs.Common.{length, ap, ◌∙◌, arith}
-use Rattle.std.specs.FinMap.{entries}
+use Rattle.std.{proofs.Common.{length, ap, ◌∙◌, arith}, specs.FinMap.entries}
 use Rattle.stn_records.specs.Content.{Content}
 use Rattle.stn_wire.proofs.States.{few_additions, few_tombstones, few_replacements}
 use Rattle.stn_wire.proofs.state.append_state.Goals as goal

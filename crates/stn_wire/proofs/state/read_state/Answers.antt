@@ -1,5 +1,4 @@
-use Rattle.std.proofs.Common.{◌≡◌, [], length, sym, ap, ◌∙◌, eqb-true}
-use Rattle.std.proofs.{lemmas.Bool.false≢true, lemmas.Bool.eq-eqb, lemmas.List.nil_from_length}
+use Rattle.std.proofs.{Common.{◌≡◌, [], length, sym, ap, ◌∙◌, eqb-true}, lemmas.{Bool.{false≢true, eq-eqb}, List.nil_from_length}}
 use Rattle.stn_wire.proofs.States.{no_additions, no_tombstones, no_entries, something_left, lists_read}
 use Rattle.stn_wire.proofs.state.read_state.Goals as goal
 

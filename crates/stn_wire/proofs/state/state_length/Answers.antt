@@ -1,8 +1,6 @@
-use Rattle.std.proofs.Common.{◌+◌, ◌*◌, length, sym, ap, ◌∙◌, arith}
-use Rattle.std.specs.FinMap.{entries}
+use Rattle.std.{proofs.Common.{◌+◌, ◌*◌, length, sym, ap, ◌∙◌, arith}, specs.FinMap.entries}
 use Rattle.stn_records.specs.Content.{Content}
-use Rattle.stn_wire.specs.{Spelling.amendments_bytes, declared.layout.Layout.TheVariants.New}
-use Rattle.stn_wire.proofs.States.{few_additions, few_tombstones, few_replacements, amendments_short, length-state_bytes}
+use Rattle.stn_wire.{specs.{Spelling.amendments_bytes, declared.layout.Layout.TheVariants.New}, proofs.States.{few_additions, few_tombstones, few_replacements, amendments_short, length-state_bytes}}
 use Rattle.stn_wire.proofs.state.state_length.Goals as goal
 
 pub entries_length-requires : goal.entries_length-requires

@@ -1,5 +1,4 @@
-use Rattle.std.proofs.Common.{◌≡◌, sym, ◌∙◌}
-use Rattle.std.specs.declared.io.ErrorKind.TheVariants.{TimedOut, Interrupted}
+use Rattle.std.{proofs.Common.{◌≡◌, sym, ◌∙◌}, specs.declared.io.ErrorKind.TheVariants.{TimedOut, Interrupted}}
 use Rattle.stn_device.proofs.deadline.UntilDeadline.left.Goals as goal
 
 other_kind : TimedOut ≡ Interrupted → ⊥

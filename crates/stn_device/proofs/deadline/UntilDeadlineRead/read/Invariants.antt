@@ -1,12 +1,10 @@
-use Rattle.std.proofs.Common.{◌≡◌}
-use Rattle.std.specs.Io.KnownBytes.{Keeps}
-use Rattle.stn_device.proofs.Deadlines.{Waits}
-use Rattle.stn_device.specs.Deadline.{end_of, timed_stream, deadline_of}
+use Rattle.std.{proofs.Common.◌≡◌, specs.Io.KnownBytes.Keeps}
+use Rattle.stn_device.{proofs.Deadlines.Waits, specs.Deadline.{deadline_end, timed_stream, deadline_of}}
 use Rattle.stn_device.proofs.deadline.UntilDeadlineRead.read.Given as goal
 
 abbrev pub invariant-tries : goal.invariant-tries
 invariant-tries g l = record {
   bytes : Keeps (g.S.TimedStream.remaining (timed_stream l.fn.self)) (g.S.TimedStream.remaining (timed_stream l.self));
-  waits : Waits (end_of (deadline_of l.fn.self)) (g.S.Timer.time (timed_stream l.fn.self)) (g.S.Timer.time (timed_stream l.self));
+  waits : Waits (deadline_end (deadline_of l.fn.self)) (g.S.Timer.time (timed_stream l.fn.self)) (g.S.Timer.time (timed_stream l.self));
   stays : deadline_of l.self ≡ deadline_of l.fn.self;
 }

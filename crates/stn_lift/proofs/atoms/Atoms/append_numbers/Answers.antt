@@ -1,9 +1,6 @@
-use Rattle.std.proofs.Common.{◌≡◌, ◌<◌, ◌++◌, ◌∷◌, map, length, take, get_or, sym, ap, subst, ◌∙◌, []}
-use Rattle.std.proofs.lemmas.List.{append-nil, get_or-map, length-map}
-use Rattle.stn_pddl.specs.{Sound.IsSoundAtom, Views.atom_schema, Views.atoms_schema}
-use Rattle.stn_lift.specs.Plan.Views.{word_of}
-use Rattle.stn_lift.specs.{Footprints.ground, Numbering.AreNumbersOf}
-use Rattle.stn_lift.proofs.NumberLists.{kept_itself, kept_along, numbers_kept, numbers_push, grounded_more, all_said}
+use Rattle.std.proofs.{Common.{◌≡◌, ◌<◌, ◌++◌, ◌∷◌, map, length, take, get_or, sym, ap, subst, ◌∙◌, []}, lemmas.List.{append-nil, get_or-map, length-map}}
+use Rattle.stn_pddl.specs.{Sound.IsSoundAtom, Views.{atom_schema, atoms_schema}}
+use Rattle.stn_lift.{specs.{Plan.Views.word_of, Footprints.ground, Numbering.AreNumbersOf}, proofs.NumberLists.{kept_itself, kept_along, numbers_kept, numbers_push, grounded_more, all_said}}
 use Rattle.stn_lift.proofs.atoms.Atoms.append_numbers.Goals as goal
 
 pub loop-atom-init : goal.loop-atom-init

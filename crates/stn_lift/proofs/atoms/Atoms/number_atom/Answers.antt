@@ -1,9 +1,6 @@
-use Rattle.std.proofs.Common.{◌<◌, ◌≤◌, map, length, sym}
-use Rattle.std.proofs.lemmas.List.{take_all, get_or-map, length-map}
-use Rattle.stn_pddl.specs.Tree.Names.{folded}
-use Rattle.stn_pddl.specs.{Sound.IsSoundTerm, Views.term_schema, Views.terms_schema}
-use Rattle.stn_lift.specs.Plan.Views.{word_of}
-use Rattle.stn_lift.proofs.NumberLists.{kept_along, names_kept, spelled_more, all_said}
+use Rattle.std.proofs.{Common.{◌<◌, ◌≤◌, map, length, sym}, lemmas.List.{take_all, get_or-map, length-map}}
+use Rattle.stn_pddl.specs.{Tree.Names.folded, Sound.IsSoundTerm, Views.{term_schema, terms_schema}}
+use Rattle.stn_lift.{specs.Plan.Views.word_of, proofs.NumberLists.{kept_along, names_kept, spelled_more, all_said}}
 use Rattle.stn_lift.proofs.atoms.Atoms.number_atom.Goals as goal
 
 pub name_of-requires : goal.name_of-requires

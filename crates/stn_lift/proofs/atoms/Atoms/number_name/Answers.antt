@@ -1,6 +1,5 @@
 use Rattle.stn_pddl.specs.Tree.Names.{is_same_word}
-use Rattle.stn_lift.specs.AtomViews.{folded_name}
-use Rattle.stn_lift.proofs.{Numbered.different, Numbered.stored_at, Numbered.kept_at, NumberedAtoms.names_decide}
+use Rattle.stn_lift.{specs.AtomViews.folded_name, proofs.{Numbered.{different, stored_at, kept_at}, NumberedAtoms.names_decide}}
 use Rattle.stn_lift.proofs.atoms.Atoms.number_name.Goals as goal
 
 pub invariant_of-self-2 : goal.invariant_of-self-2

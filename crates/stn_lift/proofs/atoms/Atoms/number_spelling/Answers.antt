@@ -1,7 +1,5 @@
-use Rattle.std.proofs.Common.{nat_eq}
-use Rattle.std.specs.Cmp.Lexicographic.{pointwise}
-use Rattle.stn_lift.specs.AtomViews.{spelling_of}
-use Rattle.stn_lift.proofs.{Numbered.different, Numbered.stored_at, Numbered.kept_at, NumberedAtoms.spellings_decide}
+use Rattle.std.{proofs.Common.nat_eq, specs.Cmp.Lexicographic.pointwise}
+use Rattle.stn_lift.{specs.AtomViews.spelling_of, proofs.{Numbered.{different, stored_at, kept_at}, NumberedAtoms.spellings_decide}}
 use Rattle.stn_lift.proofs.atoms.Atoms.number_spelling.Goals as goal
 
 pub invariant_of-self-2 : goal.invariant_of-self-2

@@ -1,9 +1,6 @@
-use Rattle.std.proofs.Common.{map, sym, subst, []}
-use Rattle.std.proofs.lemmas.List.{map-append}
+use Rattle.std.proofs.{Common.{map, sym, subst, []}, lemmas.List.map-append}
 use Rattle.stn_pddl.specs.Views.{atoms_schema}
-use Rattle.stn_lift.specs.Plan.Views.{word_of}
-use Rattle.stn_lift.specs.{Footprints.ground, Numbering.AreNumbersOf}
-use Rattle.stn_lift.proofs.NumberLists.{kept_along, numbers_none, numbers_moved}
+use Rattle.stn_lift.{specs.{Plan.Views.word_of, Footprints.ground, Numbering.AreNumbersOf}, proofs.NumberLists.{kept_along, numbers_none, numbers_moved}}
 use Rattle.stn_lift.proofs.atoms.Atoms.numbers.Goals as goal
 
 pub returns-clause-numbers : goal.returns-clause-numbers

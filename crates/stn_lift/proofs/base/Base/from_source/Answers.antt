@@ -1,7 +1,5 @@
-use Rattle.std.proofs.Common.{arith}
-use Rattle.std.proofs.lemmas.Result.{IfOk-weaker}
-use Rattle.stn_lift.specs.PlanSource.{IsSoundSource}
-use Rattle.stn_lift.proofs.Steps.{few_steps}
+use Rattle.std.proofs.{Common.arith, lemmas.Result.IfOk-weaker}
+use Rattle.stn_lift.{specs.PlanSource.IsSoundSource, proofs.Steps.few_steps}
 use Rattle.stn_lift.proofs.base.Base.from_source.Goals as goal
 
 pub returns-in-Files : goal.returns-in-Files

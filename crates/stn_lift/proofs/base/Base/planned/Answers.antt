@@ -1,5 +1,4 @@
-use Rattle.std.proofs.Common.{◌∙◌, ◌≤◌, length, pos, sym, ap, arith}
-use Rattle.std.proofs.lemmas.{List.get_or_past, Bool.Decides.nat_tests}
+use Rattle.std.proofs.{Common.{◌∙◌, ◌≤◌, length, pos, sym, ap, arith}, lemmas.{List.get_or_past, Bool.Decides.nat_tests}}
 use Rattle.stn_lift.specs.PlanSource.{planned_of}
 use Rattle.stn_lift.proofs.base.Base.planned.Goals as goal
 

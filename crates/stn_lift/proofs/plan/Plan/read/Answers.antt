@@ -1,8 +1,6 @@
-use Rattle.std.proofs.Common.{◌≡◌, ◌<◌, ◌≤◌, length, map, Ok, refl, sym, arith}
-use Rattle.std.proofs.{lemmas.Bool.ltb-true, lemmas.Bool.Decides.nat_tests, lemmas.List.length-map, lemmas.Result.err_from_is_err_and}
+use Rattle.std.proofs.{Common.{◌≡◌, ◌<◌, ◌≤◌, length, map, Ok, refl, sym, arith}, lemmas.{Bool.{ltb-true, Decides.nat_tests}, List.length-map, Result.err_from_is_err_and}}
 use Rattle.stn_text.specs.Faults.{Fails}
-use Rattle.stn_lift.specs.{Plan.Lines.lines_of, Plan.Steps.most_steps, Plan.Steps.is_memory, Plan.Steps.steps_of, Plan.Steps.plan_of, Plan.Views.planned_step}
-use Rattle.stn_lift.proofs.{StepFacts.is_plan, StepFacts.plan_of-many, plan.FaultFacts.lines_fault, plan.FaultFacts.plan_fault}
+use Rattle.stn_lift.{specs.Plan.{Lines.lines_of, Steps.{most_steps, is_memory, steps_of, plan_of}, Views.planned_step}, proofs.{StepFacts.{is_plan, plan_of-many}, plan.FaultFacts.{lines_fault, plan_fault}}}
 use Rattle.stn_lift.proofs.plan.Plan.read.Goals as goal
 
 pub returns-then-is_too_long : goal.returns-then-is_too_long

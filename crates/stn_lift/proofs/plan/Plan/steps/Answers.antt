@@ -1,6 +1,5 @@
-use Rattle.std.proofs.Common.{◌≤◌, ◌<◌, length, map, refl, subst}
-use Rattle.std.proofs.lemmas.List.{get_or-map, length-map}
-use Rattle.stn_lift.specs.{Plan.Steps.most_steps, Plan.Steps.IsTimely, Plan.Views.planned_step}
+use Rattle.std.proofs.{Common.{◌≤◌, ◌<◌, length, map, refl, subst}, lemmas.List.{get_or-map, length-map}}
+use Rattle.stn_lift.specs.Plan.{Steps.{most_steps, IsTimely}, Views.planned_step}
 use Rattle.stn_lift.proofs.plan.Plan.steps.Goals as goal
 
 pub returns : goal.returns

@@ -1,7 +1,6 @@
 -- The names so far, and then those that are left, are the names of all tokens.
 use Rattle.std.proofs.Common.{◌≡◌, length}
-use Rattle.stn_lift.specs.{Plan.Steps.args_of, Plan.Views.names_of}
-use Rattle.stn_lift.proofs.StepFacts.{behind_names}
+use Rattle.stn_lift.{specs.Plan.{Steps.args_of, Views.names_of}, proofs.StepFacts.behind_names}
 use Rattle.stn_lift.proofs.plan.step.read_args.Given as goal
 
 abbrev pub invariant-loop-word : goal.invariant-loop-word

@@ -1,7 +1,6 @@
 use Rattle.std.proofs.Common.{◌*◌, map, length}
 use Rattle.stn_net.specs.Schedule.{times_of}
-use Rattle.stn_lift.specs.{Timelines.interfere_by_number, Views.numbers_of}
-use Rattle.stn_lift.proofs.SoundBounds.{more_orders}
+use Rattle.stn_lift.{specs.{Timelines.interfere_by_number, Views.numbers_of}, proofs.SoundBounds.more_orders}
 use Rattle.stn_lift.proofs.timeline.Timeline.append_orders.Goals as goal
 
 pub loop-before-preserved : goal.loop-before-preserved

@@ -1,5 +1,4 @@
-use Rattle.std.proofs.Common.{sym}
-use Rattle.std.proofs.lemmas.List.{append-nil}
+use Rattle.std.proofs.{Common.sym, lemmas.List.append-nil}
 use Rattle.stn_lift.proofs.timeline.Timeline.append_pair_order.Goals as goal
 
 pub returns-then-not-are_ordered : goal.returns-then-not-are_ordered

@@ -1,9 +1,6 @@
-use Rattle.std.proofs.Common.{◌≡◌, ◌+◌, ◌<◌, ◌≤◌, ◌++◌, ◌∷◌, ◌∙◌, map, length, get_or, drop, sym, ap, refl, []}
-use Rattle.std.proofs.{lemmas.List.get_or-map, lemmas.List.length-map, lemmas.List.drop_all, lemmas.Result.err_from_is_err_and}
+use Rattle.std.proofs.{Common.{◌≡◌, ◌+◌, ◌<◌, ◌≤◌, ◌++◌, ◌∷◌, ◌∙◌, map, length, get_or, drop, sym, ap, refl, []}, lemmas.{List.{get_or-map, length-map, drop_all}, Result.err_from_is_err_and}}
 use Rattle.stn_pddl.specs.Views.{action_schema}
-use Rattle.stn_lift.specs.Plan.Views.{planned_step}
-use Rattle.stn_lift.specs.Activities.{activity, activities}
-use Rattle.stn_lift.proofs.TimelineFacts.{behind, behind_none, behind_all, fails_at, found_at, all_lifted}
+use Rattle.stn_lift.{specs.{Plan.Views.planned_step, Activities.{activity, activities}}, proofs.TimelineFacts.{behind, behind_none, behind_all, fails_at, found_at, all_lifted}}
 use Rattle.stn_lift.proofs.timeline.Timeline.append_steps.Goals as goal
 
 pub loop-step-init : goal.loop-step-init

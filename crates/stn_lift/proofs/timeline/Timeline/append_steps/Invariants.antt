@@ -1,7 +1,5 @@
 use Rattle.std.proofs.Common.{◌≡◌, List, map, drop}
-use Rattle.stn_lift.specs.Plan.Views.{planned_step}
-use Rattle.stn_lift.specs.{Activities.Activity, Activities.activities, Timelines.IsTimeline, Views.numbers_of}
-use Rattle.stn_lift.proofs.TimelineFacts.{behind}
+use Rattle.stn_lift.{specs.{Plan.Views.planned_step, Activities.{Activity, activities}, Timelines.IsTimeline, Views.numbers_of}, proofs.TimelineFacts.behind}
 use Rattle.stn_lift.proofs.timeline.Timeline.append_steps.Given as goal
 
 -- the first steps are taken up, and the steps as a whole are these and what is left

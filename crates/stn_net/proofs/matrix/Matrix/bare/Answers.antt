@@ -1,7 +1,5 @@
 use Rattle.std.proofs.Common.{subst}
-use Rattle.stn_net.specs.Horizon.{horizon_bounds}
-use Rattle.stn_net.specs.{Matrix.Table.Table, Matrix.Tightest.IsExact}
-use Rattle.stn_net.proofs.Widest.{exact_widest, widest-closed}
+use Rattle.stn_net.{specs.{Horizon.horizon_bounds, Matrix.{Table.Table, Tightest.IsExact}}, proofs.Widest.{exact_widest, widest-closed}}
 use Rattle.stn_net.proofs.matrix.Matrix.bare.Goals as goal
 
 pub returns-clause-exact : goal.returns-clause-exact

@@ -1,8 +1,5 @@
-use Rattle.std.proofs.Common.{◌≡◌, ◌∙◌, arith}
-use Rattle.std.proofs.lemmas.Int.{ints}
-use Rattle.stn_net.specs.{Matrix.Table.far_of, Matrix.Closed.IsClosed}
-use Rattle.stn_net.proofs.Closure.{closed_within}
-use Rattle.stn_net.proofs.matrix.Matrix.far.{Given.Over, Goals.After-entry}
+use Rattle.std.proofs.{Common.{◌≡◌, ◌∙◌, arith}, lemmas.Int.ints}
+use Rattle.stn_net.{specs.Matrix.{Table.far_of, Closed.IsClosed}, proofs.{Closure.closed_within, matrix.Matrix.far.{Given.Over, Goals.After-entry}}}
 use Rattle.stn_net.proofs.matrix.Matrix.far.Goals as goal
 
 -- the entry that is read

@@ -1,7 +1,5 @@
 use Rattle.std.proofs.Common.{refl}
-use Rattle.stn_net.specs.Difference.{NamesEvents}
-use Rattle.stn_net.specs.{Matrix.Table.Table, Matrix.Table.far_of, Matrix.Tightest.IsExact, Matrix.Way.HasRoom}
-use Rattle.stn_net.proofs.{Closure.IsTightened, Closure.tightened_implied, Closure.tightened_narrower, Closure.no_room, matrix.Matrix.tighten.Given.Over, matrix.Matrix.tighten.Goals.then-not-is_implied+else-not-has_room, matrix.Matrix.tighten.Goals.else-not-is_implied}
+use Rattle.stn_net.{specs.{Difference.NamesEvents, Matrix.{Table.{Table, far_of}, Tightest.IsExact, Way.HasRoom}}, proofs.{Closure.{IsTightened, tightened_implied, tightened_narrower, no_room}, matrix.Matrix.tighten.{Given.Over, Goals.{then-not-is_implied+else-not-has_room, else-not-is_implied}}}}
 use Rattle.stn_net.proofs.matrix.Matrix.tighten.Goals as goal
 
 pub returns-then-not-has_room-clause-possible : goal.returns-then-not-has_room-clause-possible

@@ -1,7 +1,5 @@
-use Rattle.std.proofs.Common.{◌≤◌, ◌*◌, arith}
-use Rattle.std.proofs.lemmas.Int.{ints}
-use Rattle.stn_net.specs.Matrix.Table.{entry}
-use Rattle.stn_net.proofs.Closure.{closed_within}
+use Rattle.std.proofs.{Common.{◌≤◌, ◌*◌, arith}, lemmas.Int.ints}
+use Rattle.stn_net.{specs.Matrix.Table.entry, proofs.Closure.closed_within}
 use Rattle.stn_net.proofs.matrix.runs.changes_many_rows.Goals as goal
 
 pub overflow_add-entry : goal.overflow_add-entry

@@ -1,5 +1,4 @@
-use Rattle.std.proofs.Common.{◌≡◌, ◌+◌, ◌<◌, ℕ, length}
-use Rattle.std.specs.Prelude.{slice_index_or}
+use Rattle.std.{proofs.Common.{◌≡◌, ◌+◌, ◌<◌, ℕ, length}, specs.Prelude.slice_index_or}
 use Rattle.stn_net.proofs.matrix.runs.count_up.Given as goal
 
 abbrev pub invariant-loop-place : goal.invariant-loop-place

@@ -1,8 +1,5 @@
-use Rattle.std.proofs.Common.{◌≡◌, ℕ, ◌<◌, ◌≤◌, ◌+ℤ◌, ◌≤ℤ◌, sym, ◌∙◌, arith, inl, inr}
-use Rattle.std.specs.Prelude.{slice_index_or}
-use Rattle.std.proofs.{lemmas.Int.ints, lemmas.Bool.cases_eq, lemmas.List.Sorted.All-permutation, lemmas.List.Sorted.IsPermutation-trans}
-use Rattle.stn_net.specs.Matrix.Table.{entry}
-use Rattle.stn_net.proofs.{Closure.closed_within, matrix.runs.gather.Goals.then-far-onward, matrix.runs.gather.Goals.else-far-onward}
+use Rattle.std.{proofs.{Common.{◌≡◌, ℕ, ◌<◌, ◌≤◌, ◌+ℤ◌, ◌≤ℤ◌, sym, ◌∙◌, arith, inl, inr}, lemmas.{Int.ints, Bool.cases_eq, List.Sorted.{All-permutation, IsPermutation-trans}}}, specs.Prelude.slice_index_or}
+use Rattle.stn_net.{specs.Matrix.Table.entry, proofs.{Closure.closed_within, matrix.runs.gather.Goals.{then-far-onward, else-far-onward}}}
 use Rattle.stn_net.proofs.matrix.runs.gather.Goals as goal
 
 pub bounds-onward-column : goal.bounds-onward-column

@@ -1,6 +1,5 @@
-use Rattle.std.proofs.Common.{◌≡◌, ◌<◌, ◌≤◌, ℕ}
-use Rattle.std.specs.{Prelude.slice_index_or, List.Sorted.IsPermutation}
-use Rattle.stn_net.specs.{Matrix.Table.entry, Matrix.Way.IsOnWay}
+use Rattle.std.{proofs.Common.{◌≡◌, ◌<◌, ◌≤◌, ℕ}, specs.{Prelude.slice_index_or, List.Sorted.IsPermutation}}
+use Rattle.stn_net.specs.Matrix.{Table.entry, Way.IsOnWay}
 use Rattle.stn_net.proofs.matrix.runs.gather.Given as goal
 
 abbrev pub invariant-loop-place : goal.invariant-loop-place

@@ -1,6 +1,5 @@
 use Rattle.std.proofs.Common.{◌≡◌, length, arith}
-use Rattle.stn_net.specs.Matrix.Table.{entry}
-use Rattle.stn_net.proofs.{Passing.nearer_moved, Passing.runs_more, Passing.runs_all, matrix.runs.group.Goals.then-begin-columns, matrix.runs.group.Goals.else-begin-columns}
+use Rattle.stn_net.{specs.Matrix.Table.entry, proofs.{Passing.{nearer_moved, runs_more, runs_all}, matrix.runs.group.Goals.{then-begin-columns, else-begin-columns}}}
 use Rattle.stn_net.proofs.matrix.runs.group.Goals as goal
 
 pub loop-hub-preserved : goal.loop-hub-preserved

@@ -1,6 +1,5 @@
 use Rattle.std.proofs.Common.{◌+◌}
-use Rattle.stn_net.specs.{Matrix.Table.entry, Matrix.Way.AreNearer}
-use Rattle.stn_net.proofs.Passing.{AreRunsTo}
+use Rattle.stn_net.{specs.Matrix.{Table.entry, Way.AreNearer}, proofs.Passing.AreRunsTo}
 use Rattle.stn_net.proofs.matrix.runs.group.Given as goal
 
 abbrev pub invariant-loop-hub : goal.invariant-loop-hub

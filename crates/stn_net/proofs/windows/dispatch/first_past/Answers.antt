@@ -1,5 +1,4 @@
-use Rattle.std.proofs.Common.{◌≡◌, ◌∙◌, arith, inl, inr, sym}
-use Rattle.std.proofs.{lemmas.Bool.false≢true, lemmas.Int.ints, lemmas.Bool.cases_eq, lemmas.Bool.cases_lt}
+use Rattle.std.proofs.{Common.{◌≡◌, ◌∙◌, arith, inl, inr, sym}, lemmas.{Bool.{false≢true, cases_eq, cases_lt}, Int.ints}}
 use Rattle.stn_net.proofs.windows.dispatch.first_past.Goals.{else-is_left-via-then-is_left+else-lt, else-is_left-via-else-is_left}
 use Rattle.stn_net.proofs.windows.dispatch.first_past.Goals as goal
 

@@ -1,10 +1,6 @@
-use Rattle.std.proofs.Common.{◌≡◌, ◌≤ℤ◌, ◌<ℤ◌, refl, sym, ◌∙◌, inl, inr, arith, rules}
-use Rattle.std.proofs.{lemmas.Int.ints, lemmas.Bool.cases_lt, lemmas.Bool.false≢true}
-use Rattle.stn_net.specs.Matrix.Table.{far_of}
-use Rattle.stn_net.specs.{Windows.Dispatch.IsLeft, Windows.Leading.earliest, Windows.Leading.CanLead}
-use Rattle.stn_net.proofs.Coming.{one_more_run, same_first, one_more_behind}
+use Rattle.std.proofs.{Common.{◌≡◌, ◌≤ℤ◌, ◌<ℤ◌, refl, sym, ◌∙◌, inl, inr, arith, rules}, lemmas.{Int.ints, Bool.{cases_lt, false≢true}}}
+use Rattle.stn_net.{specs.{Matrix.Table.far_of, Windows.{Dispatch.IsLeft, Leading.{earliest, CanLead}}}, proofs.{Coming.{one_more_run, same_first, one_more_behind}, windows.dispatch.first_run.Goals.{then-is_left+else-le, else-le-via-then-le+else-leads, else-le-via-else-le, else-is_left}}}
 use Rattle.stn_net.proofs.windows.dispatch.first_run.Goals as goal
-use Rattle.stn_net.proofs.windows.dispatch.first_run.Goals.{then-is_left+else-le, else-le-via-then-le+else-leads, else-le-via-else-le, else-is_left}
 
 pub returns-then-leads : goal.returns-then-leads
 returns-then-leads g c =

@@ -1,6 +1,5 @@
 use Rattle.std.proofs.Common.{ℕ, ◌<◌}
-use Rattle.stn_net.specs.Matrix.Table.{far_of}
-use Rattle.stn_net.specs.Windows.Leading.{earliest, CanLead, IsEarliestSoFar}
+use Rattle.stn_net.specs.{Matrix.Table.far_of, Windows.Leading.{earliest, CanLead, IsEarliestSoFar}}
 use Rattle.stn_net.proofs.windows.dispatch.first_run.Given as goal
 
 abbrev pub invariant-loop-number : goal.invariant-loop-number

@@ -1,5 +1,4 @@
-use Rattle.std.proofs.Common.{◌≡◌, arith, inl, inr}
-use Rattle.std.proofs.{lemmas.Bool.false≢true, lemmas.Int.ints, lemmas.Bool.cases_eq}
+use Rattle.std.proofs.{Common.{◌≡◌, arith, inl, inr}, lemmas.{Bool.{false≢true, cases_eq}, Int.ints}}
 use Rattle.stn_net.proofs.windows.dispatch.leads.Goals.{else-is_left-via-then-is_left+else-get-lt0, else-is_left-via-else-is_left}
 use Rattle.stn_net.proofs.windows.dispatch.leads.Goals as goal
 

@@ -1,6 +1,5 @@
 use Rattle.std.proofs.Common.{◌≡◌, ℕ, ◌<◌, ◌≤ℤ◌}
-use Rattle.stn_net.specs.Matrix.Table.{far_of}
-use Rattle.stn_net.specs.Windows.Dispatch.{IsLeft}
+use Rattle.stn_net.specs.{Matrix.Table.far_of, Windows.Dispatch.IsLeft}
 use Rattle.stn_net.proofs.windows.dispatch.least_latest.Given as goal
 
 abbrev pub invariant-loop-number : goal.invariant-loop-number

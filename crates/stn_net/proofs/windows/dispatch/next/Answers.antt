@@ -1,6 +1,5 @@
 use Rattle.std.proofs.Common.{inl, inr}
-use Rattle.stn_net.specs.Matrix.Table.{far_of}
-use Rattle.stn_net.proofs.{Ends.latest_of_exact, Ends.past_is_overdue, Coming.leader_is_first, Coming.earliest_is_first}
+use Rattle.stn_net.{specs.Matrix.Table.far_of, proofs.{Ends.{latest_of_exact, past_is_overdue}, Coming.{leader_is_first, earliest_is_first}}}
 use Rattle.stn_net.proofs.windows.dispatch.next.Goals as goal
 
 pub returns-in-Some-clause-next : goal.returns-in-Some-clause-next

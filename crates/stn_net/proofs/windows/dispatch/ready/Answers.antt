@@ -1,7 +1,5 @@
-use Rattle.std.proofs.Common.{rules}
-use Rattle.std.proofs.lemmas.Bool.{false≢true}
-use Rattle.stn_net.proofs.{Readiness.ready_now, Readiness.ready_can_lead, Coming.none_is_past, Coming.past_none_ready}
-use Rattle.stn_net.specs.Matrix.Table.{far_of}
+use Rattle.std.proofs.{Common.rules, lemmas.Bool.false≢true}
+use Rattle.stn_net.{proofs.{Readiness.{ready_now, ready_can_lead}, Coming.{none_is_past, past_none_ready}}, specs.Matrix.Table.far_of}
 use Rattle.stn_net.proofs.windows.dispatch.ready.Goals as goal
 
 pub returns-then-is_none : goal.returns-then-is_none

@@ -1,6 +1,5 @@
-use Rattle.std.proofs.Common.{◌≤ℤ◌, ◌<ℤ◌, sym, ◌∙◌, arith}
-use Rattle.std.proofs.{lemmas.Int.ints, lemmas.Bool.false≢true}
-use Rattle.stn_net.proofs.{Readiness.ready_can_lead, ReadyTimes.ready_from_now, windows.dispatch.ready_times.Goals.then-not-is_left-via-then-not-is_left, windows.dispatch.ready_times.Goals.then-not-is_left-via-else-not-is_left+then-not-leads}
+use Rattle.std.proofs.{Common.{◌≤ℤ◌, ◌<ℤ◌, sym, ◌∙◌, arith}, lemmas.{Int.ints, Bool.false≢true}}
+use Rattle.stn_net.proofs.{Readiness.ready_can_lead, ReadyTimes.ready_from_now, windows.dispatch.ready_times.Goals.{then-not-is_left-via-then-not-is_left, then-not-is_left-via-else-not-is_left+then-not-leads}}
 use Rattle.stn_net.proofs.windows.dispatch.ready_times.Goals as goal
 
 pub returns-then-not-is_left : goal.returns-then-not-is_left

@@ -1,6 +1,5 @@
 use Rattle.std.proofs.Common.{◌≡◌, neg_ℤ}
-use Rattle.stn_net.specs.Matrix.Table.{far_of}
-use Rattle.stn_net.proofs.WindowEnds.{window_of_exact}
+use Rattle.stn_net.{specs.Matrix.Table.far_of, proofs.WindowEnds.window_of_exact}
 use Rattle.stn_net.proofs.windows.ends.window.Goals as goal
 
 pub returns : goal.returns

@@ -1,7 +1,5 @@
 use Rattle.std.proofs.Common.{◌≡◌, [], ◌∷◌, ◌++◌, subst, sym, rules}
-use Rattle.stn_net.specs.{Difference.Difference, Schedule.HasSchedule}
-use Rattle.stn_net.specs.Matrix.Tightest.{IsExact}
-use Rattle.stn_net.specs.Windows.Rehearsal.{fixed_at}
+use Rattle.stn_net.specs.{Difference.Difference, Schedule.HasSchedule, Matrix.Tightest.IsExact, Windows.Rehearsal.fixed_at}
 use Rattle.stn_net.proofs.windows.rehearsal.fix.Goals as goal
 
 pub returns-clause-exact : goal.returns-clause-exact

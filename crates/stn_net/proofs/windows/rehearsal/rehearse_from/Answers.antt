@@ -1,6 +1,4 @@
-use Rattle.std.proofs.Common.{◌≡◌, true, [], ◌∷◌, ◌++◌, drop, length, subst, ◌∙◌, arith, rules}
-use Rattle.std.specs.Prelude.{slice_set}
-use Rattle.std.proofs.lemmas.List.{take_at}
+use Rattle.std.{proofs.{Common.{◌≡◌, true, [], ◌∷◌, ◌++◌, drop, length, subst, ◌∙◌, arith, rules}, lemmas.List.take_at}, specs.Prelude.slice_set}
 use Rattle.stn_net.proofs.UnderWay.{IsUnderWay, under_way_at_first, under_way_further, rehearsal_at_end}
 use Rattle.stn_net.proofs.windows.rehearsal.rehearse_from.Goals as goal
 

@@ -1,9 +1,5 @@
-use Rattle.std.proofs.Common.{◌≡◌, ◌+◌, List, length, not}
-use Rattle.std.specs.Prelude.{count_by}
-use Rattle.stn_net.specs.Difference.{Difference}
-use Rattle.stn_net.specs.Matrix.Tightest.{IsExact}
-use Rattle.stn_net.specs.Windows.Dispatch.{NamesLeft}
-use Rattle.stn_net.proofs.UnderWay.{IsUnderWay}
+use Rattle.std.{proofs.Common.{◌≡◌, ◌+◌, List, length, not}, specs.Prelude.count_by}
+use Rattle.stn_net.{specs.{Difference.Difference, Matrix.Tightest.IsExact, Windows.Dispatch.NamesLeft}, proofs.UnderWay.IsUnderWay}
 use Rattle.stn_net.proofs.windows.rehearsal.rehearse_from.Given as goal
 
 abbrev pub invariant-loop-answer : goal.invariant-loop-answer

@@ -1,6 +1,5 @@
-use Rattle.stn_net.specs.Schedule.{times_of}
+use Rattle.stn_net.{specs.Schedule.times_of, proofs.Soonest.first_of_left}
 use Rattle.std.proofs.Common.{arith}
-use Rattle.stn_net.proofs.Soonest.{first_of_left}
 use Rattle.stn_net.proofs.windows.soonest.first_left.Goals as goal
 
 pub returns : goal.returns

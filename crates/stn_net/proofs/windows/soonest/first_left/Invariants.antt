@@ -1,5 +1,4 @@
-use Rattle.stn_net.specs.Schedule.{times_of}
-use Rattle.stn_net.specs.Windows.Leading.{IsEarliestSoFar}
+use Rattle.stn_net.specs.{Schedule.times_of, Windows.Leading.IsEarliestSoFar}
 use Rattle.stn_net.proofs.windows.soonest.first_left.Given as goal
 
 abbrev pub invariant-loop-number : goal.invariant-loop-number

@@ -1,7 +1,5 @@
-use Rattle.std.proofs.Common.{◌≡◌, pos, ◌<ℤ◌, sym, ◌∙◌, subst, inl, inr, arith, rules}
-use Rattle.std.proofs.{lemmas.Int.ints, lemmas.Bool.cases_lt, lemmas.List.get_or_read}
-use Rattle.stn_net.specs.{Schedule.times_of, Windows.Leading.IsFirstPast}
-use Rattle.stn_net.proofs.{Readiness.left_within, Ends.past_is_overdue, Ends.none_past_waits}
+use Rattle.std.proofs.{Common.{◌≡◌, pos, ◌<ℤ◌, sym, ◌∙◌, subst, inl, inr, arith, rules}, lemmas.{Int.ints, Bool.cases_lt, List.get_or_read}}
+use Rattle.stn_net.{specs.{Schedule.times_of, Windows.Leading.IsFirstPast}, proofs.{Readiness.left_within, Ends.{past_is_overdue, none_past_waits}}}
 use Rattle.stn_net.proofs.windows.soonest.overdue.Goals as goal
 
 pub returns-then-lt : goal.returns-then-lt

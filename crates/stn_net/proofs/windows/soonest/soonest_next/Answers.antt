@@ -1,5 +1,4 @@
-use Rattle.stn_net.specs.Schedule.{times_of}
-use Rattle.stn_net.proofs.{Readiness.left_within, Soonest.soonest_is_first}
+use Rattle.stn_net.{specs.Schedule.times_of, proofs.{Readiness.left_within, Soonest.soonest_is_first}}
 use Rattle.stn_net.proofs.windows.soonest.soonest_next.Goals as goal
 
 pub returns-in-Some : goal.returns-in-Some

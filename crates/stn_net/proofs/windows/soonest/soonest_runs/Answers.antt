@@ -1,8 +1,5 @@
-use Rattle.std.proofs.Common.{◌≡◌, ◌∷◌, ◌++◌, [], pos, ap, ◌∙◌, arith, rules}
-use Rattle.std.proofs.{lemmas.Bool.false≢true, lemmas.List.get_or_read}
-use Rattle.stn_net.specs.{Schedule.times_of, Windows.Dispatch.IsLeft}
-use Rattle.stn_net.proofs.Soonest.{run_pushed, run_kept, runs_sorted, soonest_is_rehearsal}
-use Rattle.stn_net.proofs.windows.soonest.soonest_runs.Goals.{then-is_left+in_ok-push, else-is_left}
+use Rattle.std.proofs.{Common.{◌≡◌, ◌∷◌, ◌++◌, [], pos, ap, ◌∙◌, arith, rules}, lemmas.{Bool.false≢true, List.get_or_read}}
+use Rattle.stn_net.{specs.{Schedule.times_of, Windows.Dispatch.IsLeft}, proofs.{Soonest.{run_pushed, run_kept, runs_sorted, soonest_is_rehearsal}, windows.soonest.soonest_runs.Goals.{then-is_left+in_ok-push, else-is_left}}}
 use Rattle.stn_net.proofs.windows.soonest.soonest_runs.Goals as goal
 
 pub loop-number-preserved : goal.loop-number-preserved

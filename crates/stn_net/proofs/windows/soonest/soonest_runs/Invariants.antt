@@ -1,5 +1,4 @@
-use Rattle.stn_net.specs.Schedule.{times_of}
-use Rattle.stn_net.specs.Windows.Leading.{AreRunsBelow}
+use Rattle.stn_net.specs.{Schedule.times_of, Windows.Leading.AreRunsBelow}
 use Rattle.stn_net.proofs.windows.soonest.soonest_runs.Given as goal
 
 abbrev pub invariant-loop-number : goal.invariant-loop-number

@@ -1,6 +1,5 @@
 use Rattle.std.proofs.Common.{◌∙◌, sym, ap}
-use Rattle.stn_pddl.specs.Actions.{is_taken}
-use Rattle.stn_pddl.proofs.ActionMaps.{taken-lookup}
+use Rattle.stn_pddl.{specs.Actions.is_taken, proofs.ActionMaps.taken-lookup}
 use Rattle.stn_pddl.proofs.actions.Actions.is_taken.Goals as goal
 
 pub returns : goal.returns

@@ -1,7 +1,5 @@
-use Rattle.std.proofs.Common.{◌∙◌, ap, refl, ◌++◌, ◌∷◌, []}
-use Rattle.std.proofs.lemmas.Result.{IfOk-weaker}
-use Rattle.stn_pddl.specs.Views.{entries_schema, action_schema}
-use Rattle.stn_pddl.proofs.ActionMaps.{absent, AreNamed-inserted, entries_schema-push}
+use Rattle.std.proofs.{Common.{◌∙◌, ap, refl, ◌++◌, ◌∷◌, []}, lemmas.Result.IfOk-weaker}
+use Rattle.stn_pddl.{specs.Views.{entries_schema, action_schema}, proofs.ActionMaps.{absent, AreNamed-inserted, entries_schema-push}}
 use Rattle.stn_pddl.proofs.actions.Actions.push.Goals as goal
 
 pub insert_new-requires : goal.insert_new-requires

@@ -1,6 +1,5 @@
 use Rattle.std.proofs.Common.{◌≡◌}
-use Rattle.stn_pddl.specs.Tree.Cursors.{row_at, left_at}
-use Rattle.stn_pddl.specs.{Fields.fields, Fields.no_values, FieldViews.values_of}
+use Rattle.stn_pddl.specs.{Tree.Cursors.{row_at, left_at}, Fields.{fields, no_values}, FieldViews.values_of}
 use Rattle.stn_pddl.proofs.fields.Values.read.Given as goal
 
 abbrev pub invariant-fields : goal.invariant-fields

@@ -1,4 +1,4 @@
-use Rattle.stn_pddl.proofs.{tree.Written.written-reads, tree.Writable.tree_of-writable}
+use Rattle.stn_pddl.proofs.tree.{Written.written-reads, Writable.tree_of-writable}
 use Rattle.stn_pddl.proofs.tree.laws.written_reads.Goals as goal
 
 pub returns : goal.returns

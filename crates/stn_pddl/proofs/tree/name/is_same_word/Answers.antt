@@ -1,4 +1,4 @@
-use Rattle.std.proofs.{lemmas.Bool.Decides.same_from_decides, lemmas.Slice.Eq.bytes_eq-Decides}
+use Rattle.std.proofs.lemmas.{Bool.Decides.same_from_decides, Slice.Eq.bytes_eq-Decides}
 use Rattle.stn_pddl.specs.Tree.Names.{is_same_word}
 use Rattle.stn_pddl.proofs.tree.name.is_same_word.Goals as goal
 

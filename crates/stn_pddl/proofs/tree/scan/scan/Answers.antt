@@ -1,5 +1,5 @@
 use Rattle.std.proofs.Common.{◌∙◌, get_or, arith, sym}
-use Rattle.stn_pddl.proofs.{tree.Rows.line_after-most, tree.Scanned.scanned-at}
+use Rattle.stn_pddl.proofs.tree.{Rows.line_after-most, Scanned.scanned-at}
 use Rattle.stn_pddl.proofs.tree.scan.scan.Goals as goal
 
 pub loop-byte-preserved : goal.loop-byte-preserved

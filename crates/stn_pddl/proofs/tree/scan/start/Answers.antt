@@ -1,6 +1,5 @@
 use Rattle.std.proofs.Common.{sym}
-use Rattle.stn_pddl.specs.{Tree.Trees.rows_from, Tree.Cursors.rows_at}
-use Rattle.stn_pddl.proofs.tree.Scanned.{one-list}
+use Rattle.stn_pddl.{specs.Tree.{Trees.rows_from, Cursors.rows_at}, proofs.tree.Scanned.one-list}
 use Rattle.stn_pddl.proofs.tree.scan.start.Goals as goal
 
 pub returns-clause-one : goal.returns-clause-one

@@ -1,6 +1,5 @@
 use Rattle.std.proofs.Common.{◌∙◌}
-use Rattle.stn_records.specs.Sorted.{dispute_of}
-use Rattle.stn_records.proofs.Disputes.{disputed}
+use Rattle.stn_records.{specs.Sorted.dispute_of, proofs.Disputes.disputed}
 use Rattle.stn_records.proofs.id_map.IdMap.dispute.Goals as goal
 
 pub returns : goal.returns

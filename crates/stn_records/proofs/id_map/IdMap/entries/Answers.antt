@@ -1,7 +1,5 @@
-use Rattle.std.proofs.Common.{sym, ap, subst, ◌∙◌}
-use Rattle.std.specs.FinMap.{is_sorted}
-use Rattle.stn_records.specs.{Id.id_cmp, Maps.AllFit}
-use Rattle.stn_records.proofs.Places.{entries_of_sorted}
+use Rattle.std.{proofs.Common.{sym, ap, subst, ◌∙◌}, specs.FinMap.is_sorted}
+use Rattle.stn_records.{specs.{Id.id_cmp, Maps.AllFit}, proofs.Places.entries_of_sorted}
 use Rattle.stn_records.proofs.id_map.IdMap.entries.Goals as goal
 
 pub returns : goal.returns

@@ -1,9 +1,6 @@
-use Rattle.std.proofs.Common.{◌≡◌, true, Some, sym, ap, ◌∙◌}
-use Rattle.std.proofs.{lemmas.Bool.false≢true, lemmas.List.Elements.All-same}
+use Rattle.std.{proofs.{Common.{◌≡◌, true, Some, sym, ap, ◌∙◌}, lemmas.{Bool.false≢true, List.Elements.All-same}}, specs.FinMap.is_sorted}
 use Rattle.std.specs.FinMap as fin
-use Rattle.std.specs.FinMap.{is_sorted}
-use Rattle.stn_records.specs.{Id.id_cmp, ContentLaws.ids_total, ContentLaws.ids_exact}
-use Rattle.stn_records.proofs.{Entries.in_order, Gets.entries_from_get, Places.map_of_sorted, Places.made_is, Places.listed_fits, id_map.IdMap.from_entries.Goals.else-is_rising-via-then-is_rising+else-are_fit, id_map.IdMap.from_entries.Goals.else-is_rising-via-else-is_rising}
+use Rattle.stn_records.{specs.{Id.id_cmp, ContentLaws.{ids_total, ids_exact}}, proofs.{Entries.in_order, Gets.entries_from_get, Places.{map_of_sorted, made_is, listed_fits}, id_map.IdMap.from_entries.Goals.{else-is_rising-via-then-is_rising+else-are_fit, else-is_rising-via-else-is_rising}}}
 use Rattle.stn_records.proofs.id_map.IdMap.from_entries.Goals as goal
 
 pub invariant_of-result : goal.invariant_of-result

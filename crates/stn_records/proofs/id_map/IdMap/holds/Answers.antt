@@ -1,7 +1,5 @@
-use Rattle.std.proofs.Common.{subst, sym, ◌∙◌, ◌↔◌}
-use Rattle.std.specs.Prelude.{IsTrue}
-use Rattle.stn_records.specs.{Maps.HasEntries, Sorted.has_entries}
-use Rattle.stn_records.proofs.Holding.{held}
+use Rattle.std.{proofs.Common.{subst, sym, ◌∙◌, ◌↔◌}, specs.Prelude.IsTrue}
+use Rattle.stn_records.{specs.{Maps.HasEntries, Sorted.has_entries}, proofs.Holding.held}
 use Rattle.stn_records.proofs.id_map.IdMap.holds.Goals as goal
 
 pub returns : goal.returns

@@ -1,7 +1,6 @@
 use Rattle.std.proofs.Common.{sym, subst, ◌∙◌}
 use Rattle.std.specs.FinMap as fin
-use Rattle.stn_records.specs.Maps.{AllFit}
-use Rattle.stn_records.proofs.{Places.entries_of_sorted, Places.made, Places.made_is, Places.inserted_entries, Places.there_already, Proper.insert_fits}
+use Rattle.stn_records.{specs.Maps.AllFit, proofs.{Places.{entries_of_sorted, made, made_is, inserted_entries, there_already}, Proper.insert_fits}}
 use Rattle.stn_records.proofs.id_map.IdMap.insert.Goals as goal
 
 pub invariant_of-self : goal.invariant_of-self

@@ -1,6 +1,6 @@
 use Rattle.std.proofs.Common.{◌∙◌}
 use Rattle.std.specs.FinMap as fin
-use Rattle.stn_records.proofs.{Places.made, Places.made_is, Places.nothing_listed, Proper.empty_fits}
+use Rattle.stn_records.proofs.{Places.{made, made_is, nothing_listed}, Proper.empty_fits}
 use Rattle.stn_records.proofs.id_map.IdMap.new.Goals as goal
 
 pub invariant_of-result : goal.invariant_of-result

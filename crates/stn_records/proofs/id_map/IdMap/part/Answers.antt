@@ -1,8 +1,6 @@
-use Rattle.std.proofs.Common.{ap, ◌∙◌, filter}
+use Rattle.std.{proofs.Common.{ap, ◌∙◌, filter}, specs.Set.is_member}
 use Rattle.std.specs.FinMap as fin
-use Rattle.std.specs.Set.{is_member}
-use Rattle.stn_records.specs.{Id.SiteCounter, Content.same_ids}
-use Rattle.stn_records.proofs.{Places.made, Places.made_is, Places.wanted_entries, Proper.retain_fits}
+use Rattle.stn_records.{specs.{Id.SiteCounter, Content.same_ids}, proofs.{Places.{made, made_is, wanted_entries}, Proper.retain_fits}}
 use Rattle.stn_records.proofs.id_map.IdMap.part.Goals as goal
 
 pub invariant_of-result : goal.invariant_of-result

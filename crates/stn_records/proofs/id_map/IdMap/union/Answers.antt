@@ -1,6 +1,5 @@
 use Rattle.std.proofs.Common.{◌∙◌}
-use Rattle.stn_records.specs.{Id.id_cmp, Maps.union, Sorted.merge}
-use Rattle.stn_records.proofs.{Places.made, Places.made_is, Places.merge_entries, Proper.union_fits}
+use Rattle.stn_records.{specs.{Id.id_cmp, Maps.union, Sorted.merge}, proofs.{Places.{made, made_is, merge_entries}, Proper.union_fits}}
 use Rattle.stn_records.proofs.id_map.IdMap.union.Goals as goal
 
 pub invariant_of-result : goal.invariant_of-result

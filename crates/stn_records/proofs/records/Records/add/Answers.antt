@@ -1,10 +1,7 @@
-use Rattle.std.proofs.Common.{◌≡◌, Some, None, is_some, sym, ap, subst, ◌∙◌, OnOk}
-use Rattle.std.proofs.lemmas.Bool.{false≢true}
+use Rattle.std.proofs.{Common.{◌≡◌, Some, None, is_some, sym, ap, subst, ◌∙◌, OnOk}, lemmas.Bool.false≢true}
 use Rattle.std.specs.FinMap as fin
-use Rattle.stn_records.specs.{declared.record.Record.Record, Content.Content, Content.IsSound, Content.join_contents, Content.one_record, Content.with_record, ContentLaws.records_decide}
-use Rattle.stn_records.proofs.{OneItem.record_again, OneItem.record_joins, Outcomes.record_sound, Outcomes.known_by_replaced, Outcomes.no_room_needed, Outcomes.room_left}
+use Rattle.stn_records.{specs.{declared.record.Record.Record, Content.{Content, IsSound, join_contents, one_record, with_record}, ContentLaws.records_decide}, proofs.{OneItem.{record_again, record_joins}, Outcomes.{record_sound, known_by_replaced, no_room_needed, room_left}, records.Records.add.Goals.{then-is_same, else-is_same, else-not-is_replaced-via-then-not-is_replaced+else-is_full, else-not-is_replaced-via-else-not-is_replaced}}}
 use Rattle.stn_records.proofs.records.Records.add.Goals as goal
-use Rattle.stn_records.proofs.records.Records.add.Goals.{then-is_same, else-is_same, else-not-is_replaced-via-then-not-is_replaced+else-is_full, else-not-is_replaced-via-else-not-is_replaced}
 
 -- the record is new
 none : (g : _) (c : goal.In_ok-add-in-None g) → fin.get c.args.self.now.additions c.args.id ≡ None

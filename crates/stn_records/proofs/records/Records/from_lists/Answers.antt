@@ -1,7 +1,5 @@
-use Rattle.std.proofs.Common.{◌≤◌, sym, subst, ◌∙◌, arith}
-use Rattle.std.proofs.lemmas.Bool.{false≢true}
-use Rattle.stn_records.specs.Content.{Content, AllAmend, known_count, most_known}
-use Rattle.stn_records.proofs.{Lists.same_lists, records.Records.from_lists.Goals.then-not-all_amend-via-then-not-all_amend, records.Records.from_lists.Goals.then-not-all_amend-via-else-not-all_amend+then-known-gt-MOST_KNOWN}
+use Rattle.std.proofs.{Common.{◌≤◌, sym, subst, ◌∙◌, arith}, lemmas.Bool.false≢true}
+use Rattle.stn_records.{specs.Content.{Content, AllAmend, known_count, most_known}, proofs.{Lists.same_lists, records.Records.from_lists.Goals.{then-not-all_amend-via-then-not-all_amend, then-not-all_amend-via-else-not-all_amend+then-known-gt-MOST_KNOWN}}}
 use Rattle.stn_records.proofs.records.Records.from_lists.Goals as goal
 
 pub returns-then-not-all_amend-clause-all : goal.returns-then-not-all_amend-clause-all

@@ -1,7 +1,5 @@
-use Rattle.std.proofs.Common.{◌↔◌, subst}
-use Rattle.std.specs.Prelude.{IsTrue}
-use Rattle.stn_records.specs.Content.{IsPart, IsSound}
-use Rattle.stn_records.proofs.Holding.{told_taken}
+use Rattle.std.{proofs.Common.{◌↔◌, subst}, specs.Prelude.IsTrue}
+use Rattle.stn_records.{specs.Content.{IsPart, IsSound}, proofs.Holding.told_taken}
 use Rattle.stn_records.proofs.records.Records.holds.Goals as goal
 
 pub returns-clause-taken : goal.returns-clause-taken

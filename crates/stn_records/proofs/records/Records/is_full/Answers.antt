@@ -1,7 +1,5 @@
-use Rattle.std.proofs.Common.{◌+◌, ◌<◌, length, arith}
-use Rattle.std.proofs.lemmas.Bool.{leb-true}
-use Rattle.stn_records.specs.Content.{known_count}
-use Rattle.stn_records.proofs.Outcomes.{not_full}
+use Rattle.std.proofs.{Common.{◌+◌, ◌<◌, length, arith}, lemmas.Bool.leb-true}
+use Rattle.stn_records.{specs.Content.known_count, proofs.Outcomes.not_full}
 use Rattle.stn_records.proofs.records.Records.is_full.Goals as goal
 
 -- both lists are too short

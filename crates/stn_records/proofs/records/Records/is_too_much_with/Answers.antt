@@ -1,7 +1,5 @@
-use Rattle.std.proofs.Common.{◌+◌, ◌≤◌, length, ap, arith}
-use Rattle.std.proofs.lemmas.Bool.{ltb-true}
-use Rattle.stn_records.specs.Content.{known_in_either}
-use Rattle.stn_records.proofs.Limits.{known_together}
+use Rattle.std.proofs.{Common.{◌+◌, ◌≤◌, length, ap, arith}, lemmas.Bool.ltb-true}
+use Rattle.stn_records.{specs.Content.known_in_either, proofs.Limits.known_together}
 use Rattle.stn_records.proofs.records.Records.is_too_much_with.Goals as goal
 
 -- all four lists together are too short

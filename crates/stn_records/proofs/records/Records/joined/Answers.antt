@@ -1,8 +1,5 @@
-use Rattle.std.proofs.Common.{Some, refl, sym, ap, subst, ◌∙◌}
-use Rattle.std.proofs.lemmas.Result.{err_from_is_err_and}
-use Rattle.std.specs.Prelude.{unwrap_or}
-use Rattle.stn_records.specs.{Content.IsSound, Content.dispute_contents, Content.joined_contents, ContentLaws.contents_undisputed, declared.faults.RecordsFault.TheVariants.Memory}
-use Rattle.stn_records.proofs.{FirstCauses.take_full, FirstCauses.take_free, Outcomes.not_too_much, Outcomes.too_many, Outcomes.taken_is, Outcomes.joined_sound}
+use Rattle.std.{proofs.{Common.{Some, refl, sym, ap, subst, ◌∙◌}, lemmas.Result.err_from_is_err_and}, specs.Prelude.unwrap_or}
+use Rattle.stn_records.{specs.{Content.{IsSound, dispute_contents, joined_contents}, ContentLaws.contents_undisputed, declared.faults.RecordsFault.TheVariants.Memory}, proofs.{FirstCauses.{take_full, take_free}, Outcomes.{not_too_much, too_many, taken_is, joined_sound}}}
 use Rattle.stn_records.proofs.records.Records.joined.Goals as goal
 
 pub returns-then-is_too_much_with : goal.returns-then-is_too_much_with

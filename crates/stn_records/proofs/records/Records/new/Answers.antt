@@ -1,6 +1,5 @@
 use Rattle.std.proofs.Common.{sym, subst}
-use Rattle.stn_records.specs.Content.{IsSound}
-use Rattle.stn_records.proofs.Outcomes.{empty_sound}
+use Rattle.stn_records.{specs.Content.IsSound, proofs.Outcomes.empty_sound}
 use Rattle.stn_records.proofs.records.Records.new.Goals as goal
 
 pub invariant_of-result : goal.invariant_of-result

@@ -1,5 +1,4 @@
-use Rattle.stn_records.specs.Content.{next_counter}
-use Rattle.stn_records.proofs.Counters.{counter_read, next_cases, new_cases}
+use Rattle.stn_records.{specs.Content.next_counter, proofs.Counters.{counter_read, next_cases, new_cases}}
 use Rattle.stn_records.proofs.records.Records.next_counter.Goals as goal
 
 pub returns : goal.returns

@@ -1,7 +1,6 @@
 use Rattle.std.proofs.Common.{sym, ap, subst, ◌∙◌}
 use Rattle.std.specs.FinMap as fin
-use Rattle.stn_records.specs.Content.{Content, IsSound, with_amendment}
-use Rattle.stn_records.proofs.{KnownIds.there_is, Outcomes.left_by, Amending.entry_again, Amending.amended_sound}
+use Rattle.stn_records.{specs.Content.{Content, IsSound, with_amendment}, proofs.{KnownIds.there_is, Outcomes.left_by, Amending.{entry_again, amended_sound}}}
 use Rattle.stn_records.proofs.records.Records.put_amendment.Goals as goal
 
 -- the entry is there, and so its record

@@ -1,7 +1,6 @@
 use Rattle.std.proofs.Common.{sym, ap, subst, ◌∙◌}
 use Rattle.std.specs.FinMap as fin
-use Rattle.stn_records.specs.Content.{Content, IsSound, with_tombstone}
-use Rattle.stn_records.proofs.{OneItem.tombstone_again, Outcomes.left_by, Outcomes.tombstone_sound}
+use Rattle.stn_records.{specs.Content.{Content, IsSound, with_tombstone}, proofs.{OneItem.tombstone_again, Outcomes.{left_by, tombstone_sound}}}
 use Rattle.stn_records.proofs.records.Records.put_tombstone.Goals as goal
 
 pub returns-then-contains-clause-withdrawn : goal.returns-then-contains-clause-withdrawn

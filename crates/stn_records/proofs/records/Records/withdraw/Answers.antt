@@ -1,5 +1,4 @@
-use Rattle.std.proofs.Common.{ap, sym, not, ◌∙◌}
-use Rattle.std.specs.{Prelude.unwrap_or, Bool.then_some}
+use Rattle.std.{proofs.Common.{ap, sym, not, ◌∙◌}, specs.{Prelude.unwrap_or, Bool.then_some}}
 use Rattle.stn_records.specs.declared.faults.RecordsFault.TheVariants.{Unknown, Memory}
 use Rattle.stn_records.proofs.records.Records.withdraw.Goals as goal
 

@@ -1,7 +1,5 @@
-use Rattle.std.proofs.Common.{◌↔◌, subst}
-use Rattle.std.specs.Prelude.{IsTrue}
-use Rattle.stn_records.specs.Content.{Content, AllAmend}
-use Rattle.stn_records.proofs.Lists.{amends_of_entries, entries_of_amends}
+use Rattle.std.{proofs.Common.{◌↔◌, subst}, specs.Prelude.IsTrue}
+use Rattle.stn_records.{specs.Content.{Content, AllAmend}, proofs.Lists.{amends_of_entries, entries_of_amends}}
 use Rattle.stn_records.proofs.state.State.all_amend.Goals as goal
 
 pub returns : goal.returns

@@ -1,8 +1,6 @@
-use Rattle.std.proofs.Common.{refl, ap, ◌∙◌}
-use Rattle.std.proofs.lemmas.Result.{err_from_is_err_and}
+use Rattle.std.proofs.{Common.{refl, ap, ◌∙◌}, lemmas.Result.err_from_is_err_and}
 use Rattle.std.specs.FinMap as fin
-use Rattle.stn_records.specs.Content.{Content, with_amendment}
-use Rattle.stn_records.proofs.{Lists.same_content, Replaced.kept_by_amendment}
+use Rattle.stn_records.{specs.Content.{Content, with_amendment}, proofs.{Lists.same_content, Replaced.kept_by_amendment}}
 use Rattle.stn_records.proofs.state.State.amend.Goals as goal
 
 pub returns-in_err-insert : goal.returns-in_err-insert

@@ -1,6 +1,6 @@
 use Rattle.std.proofs.Common.{Some, ap, sym, ◌∙◌, ◌||◌}
 use Rattle.std.specs.FinMap as fin
-use Rattle.stn_records.specs.{Content.Content, Content.plain, Id.same_ids, Record.same_records, Maps.differ}
+use Rattle.stn_records.specs.{Content.{Content, plain}, Id.same_ids, Record.same_records, Maps.differ}
 use Rattle.stn_records.proofs.state.State.clashes.Goals as goal
 
 pub returns-then-is_another : goal.returns-then-is_another

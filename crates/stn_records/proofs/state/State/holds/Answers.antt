@@ -1,6 +1,5 @@
-use Rattle.std.proofs.Common.{sym, ◌∙◌}
-use Rattle.std.proofs.lemmas.Bool.{false≢true}
-use Rattle.stn_records.proofs.{Holding.last_told, Holding.missed, state.State.holds.Goals.then-holds, state.State.holds.Goals.else-holds}
+use Rattle.std.proofs.{Common.{sym, ◌∙◌}, lemmas.Bool.false≢true}
+use Rattle.stn_records.proofs.{Holding.{last_told, missed}, state.State.holds.Goals.{then-holds, else-holds}}
 use Rattle.stn_records.proofs.state.State.holds.Goals as goal
 
 pub returns-then-holds-2 : goal.returns-then-holds-2

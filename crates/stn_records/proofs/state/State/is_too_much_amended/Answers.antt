@@ -1,8 +1,6 @@
-use Rattle.std.proofs.Common.{◌+◌, ◌≤◌, length, ap, ◌∙◌, arith}
-use Rattle.std.proofs.lemmas.Bool.{le-ltb}
+use Rattle.std.proofs.{Common.{◌+◌, ◌≤◌, length, ap, ◌∙◌, arith}, lemmas.Bool.le-ltb}
 use Rattle.std.specs.FinMap as fin
-use Rattle.stn_records.specs.Content.{Content, known_count, replaced_set}
-use Rattle.stn_records.proofs.{Limits.known_within, Amending.too_much_told, Amending.few_enough}
+use Rattle.stn_records.{specs.Content.{Content, known_count, replaced_set}, proofs.{Limits.known_within, Amending.{too_much_told, few_enough}}}
 use Rattle.stn_records.proofs.state.State.is_too_much_amended.Goals as goal
 
 -- the ids are counted

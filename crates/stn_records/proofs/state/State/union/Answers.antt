@@ -1,6 +1,5 @@
 use Rattle.std.proofs.Common.{◌∙◌}
-use Rattle.stn_records.specs.Content.{Content, dispute_contents, joined_contents}
-use Rattle.stn_records.proofs.{Lists.same_content, Replaced.kept_by_union}
+use Rattle.stn_records.{specs.Content.{Content, dispute_contents, joined_contents}, proofs.{Lists.same_content, Replaced.kept_by_union}}
 use Rattle.stn_records.proofs.state.State.union.Goals as goal
 
 pub invariant_of-result : goal.invariant_of-result

@@ -1,7 +1,5 @@
-use Rattle.std.proofs.Common.{refl, ap, ◌∙◌}
-use Rattle.std.proofs.lemmas.Result.{err_from_is_err_and}
-use Rattle.stn_records.specs.Content.{Content, with_tombstone}
-use Rattle.stn_records.proofs.{Lists.same_content, Replaced.kept_by_withdrawal}
+use Rattle.std.proofs.{Common.{refl, ap, ◌∙◌}, lemmas.Result.err_from_is_err_and}
+use Rattle.stn_records.{specs.Content.{Content, with_tombstone}, proofs.{Lists.same_content, Replaced.kept_by_withdrawal}}
 use Rattle.stn_records.proofs.state.State.withdraw.Goals as goal
 
 pub returns-in_err-insert : goal.returns-in_err-insert

@@ -1,7 +1,5 @@
-use Rattle.std.proofs.Common.{ℤ, subst, w64, SFits, rules}
-use Rattle.std.proofs.lemmas.Int.{to_z-of_z}
-use Rattle.stn_time.specs.Time.{IsWithinHorizon}
-use Rattle.stn_time.proofs.Prints.{spells-printed, time_of-printed}
+use Rattle.std.proofs.{Common.{ℤ, subst, w64, SFits, rules}, lemmas.Int.to_z-of_z}
+use Rattle.stn_time.{specs.Time.IsWithinHorizon, proofs.Prints.{spells-printed, time_of-printed}}
 use Rattle.stn_time.proofs.millis.Ms.print.Goals as goal
 
 pub returns-clause-spells : goal.returns-clause-spells

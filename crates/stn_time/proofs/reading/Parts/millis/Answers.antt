@@ -1,8 +1,5 @@
-use Rattle.std.proofs.Common.{ℕ, ◌≡◌, ◌<◌, w64, of_z, to_z, subst}
-use Rattle.std.specs.Str.Parse.{digits_value}
-use Rattle.std.proofs.lemmas.Int.{to_z-of_z}
-use Rattle.stn_time.specs.Text.{thousandths_of}
-use Rattle.stn_time.proofs.Sums.{near-size}
+use Rattle.std.{proofs.{Common.{ℕ, ◌≡◌, ◌<◌, w64, of_z, to_z, subst}, lemmas.Int.to_z-of_z}, specs.Str.Parse.digits_value}
+use Rattle.stn_time.{specs.Text.thousandths_of, proofs.Sums.near-size}
 use Rattle.stn_time.proofs.reading.Parts.millis.Goals as goal
 
 pub returns : goal.returns

@@ -1,5 +1,4 @@
-use Rattle.std.proofs.Common.{◌≡◌, ◌<◌, ◌==◌, ◌↔◌, ℕ, not, length, vec_len, ap, ◌∙◌, arith, rules, tests}
-use Rattle.std.specs.Prelude.{IsTrue}
+use Rattle.std.{proofs.Common.{◌≡◌, ◌<◌, ◌==◌, ◌↔◌, ℕ, not, length, vec_len, ap, ◌∙◌, arith, rules, tests}, specs.Prelude.IsTrue}
 use Rattle.stn_wire.specs.Feeder.{FeederState}
 use Rattle.stn_wire.proofs.feeder.Feeder.middle.Goals as goal
 

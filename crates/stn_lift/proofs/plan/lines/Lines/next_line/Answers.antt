@@ -1,5 +1,4 @@
-use Rattle.std.proofs.Common.{arith}
-use Rattle.std.proofs.lemmas.Bool.Decides.{nat_tests}
+use Rattle.std.proofs.{Common.arith, lemmas.Bool.Decides.nat_tests}
 use Rattle.stn_lift.proofs.plan.LineFacts.{no_lines, lines_cut}
 use Rattle.stn_lift.proofs.plan.lines.Lines.next_line.Goals as goal
 

@@ -1,5 +1,4 @@
-use Rattle.std.proofs.Common.{◌≡◌, arith}
-use Rattle.std.proofs.lemmas.Int.{ints}
+use Rattle.std.proofs.{Common.{◌≡◌, arith}, lemmas.Int.ints}
 use Rattle.stn_net.specs.Matrix.Table.{entry}
 use Rattle.stn_net.proofs.matrix.square.Square.has_room.Goals as goal
 

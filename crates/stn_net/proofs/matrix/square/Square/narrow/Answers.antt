@@ -1,10 +1,5 @@
-use Rattle.std.proofs.Common.{◌≡◌, ◌∙◌, ℕ, ◌≤◌, ◌≤ℤ◌, neg_ℤ, refl, sym, subst, arith}
-use Rattle.std.proofs.lemmas.Int.{ints}
-use Rattle.stn_net.specs.Matrix.Table.{entry}
-use Rattle.stn_net.specs.Matrix.Closed.{IsClosed}
-use Rattle.stn_net.specs.Matrix.Way.{shorter, narrower}
-use Rattle.stn_net.proofs.Closure.{shorter-closed, closed_same, lower_round, narrower-closed}
-use Rattle.stn_net.proofs.matrix.square.Square.narrow.Given.{Over}
+use Rattle.std.proofs.{Common.{◌≡◌, ◌∙◌, ℕ, ◌≤◌, ◌≤ℤ◌, neg_ℤ, refl, sym, subst, arith}, lemmas.Int.ints}
+use Rattle.stn_net.{specs.Matrix.{Table.entry, Closed.IsClosed, Way.{shorter, narrower}}, proofs.{Closure.{shorter-closed, closed_same, lower_round, narrower-closed}, matrix.square.Square.narrow.Given.Over}}
 use Rattle.stn_net.proofs.matrix.square.Square.narrow.Goals as goal
 
 pub shorten-requires-clause-round : goal.shorten-requires-clause-round

@@ -1,7 +1,5 @@
-use Rattle.std.proofs.Common.{◌≤◌, ◌<◌, ◌∙◌, ◌+ℤ◌, ◌≤ℤ◌, length, take, arith}
-use Rattle.std.proofs.{lemmas.Int.ints, lemmas.List.take_more_set}
-use Rattle.stn_net.specs.Matrix.Table.{entry}
-use Rattle.stn_net.proofs.{Closure.closed_within, Entries.nearer_skip, Entries.nearer_more, matrix.square.Square.nearer_columns.Goals.then-through-own, matrix.square.Square.nearer_columns.Goals.else-through-own}
+use Rattle.std.proofs.{Common.{◌≤◌, ◌<◌, ◌∙◌, ◌+ℤ◌, ◌≤ℤ◌, length, take, arith}, lemmas.{Int.ints, List.take_more_set}}
+use Rattle.stn_net.{specs.Matrix.Table.entry, proofs.{Closure.closed_within, Entries.{nearer_skip, nearer_more}, matrix.square.Square.nearer_columns.Goals.{then-through-own, else-through-own}}}
 use Rattle.stn_net.proofs.matrix.square.Square.nearer_columns.Goals as goal
 
 pub overflow_add-through : goal.overflow_add-through

@@ -1,6 +1,5 @@
 use Rattle.std.proofs.Common.{◌≤◌, take}
-use Rattle.stn_net.specs.Matrix.Table.{entry}
-use Rattle.stn_net.specs.Matrix.Way.{AreNearer}
+use Rattle.stn_net.specs.Matrix.{Table.entry, Way.AreNearer}
 use Rattle.stn_net.proofs.matrix.square.Square.nearer_columns.Given as goal
 
 abbrev pub invariant-loop-column : goal.invariant-loop-column

@@ -1,5 +1,4 @@
-use Rattle.std.proofs.Common.{w64}
-use Rattle.std.proofs.lemmas.Int.{to_z-of_z}
+use Rattle.std.proofs.{Common.w64, lemmas.Int.to_z-of_z}
 use Rattle.stn_net.proofs.Entries.{written-set}
 use Rattle.stn_net.proofs.matrix.square.Square.set.Goals as goal
 

@@ -1,9 +1,5 @@
-use Rattle.std.proofs.Common.{ap, refl, ◌≡◌, pos, ◌+◌, ◌∙◌, arith, sym, subst, to_z, of_z, w64, ◌+ℤ◌, ◌≤ℤ◌, ◌<ℤ◌, ◌≤◌}
-use Rattle.std.specs.Prelude.{slice_index_or}
-use Rattle.std.proofs.lemmas.Int.{ints}
-use Rattle.stn_net.specs.{Matrix.Table.entry, Matrix.Table.entry_at, Matrix.Way.AreRunsOf, Matrix.Way.IsRowShortened}
-use Rattle.stn_net.proofs.{Closure.closed_within, Closure.shorter-kept_row, Entries.IsNearerRow, Entries.nearer_row, Entries.row_left_out, Entries.shortened_skip, Entries.shortened_turn, Passing.runs_of_row}
-use Rattle.stn_net.proofs.matrix.square.Square.shorten.{Given.Over, Goals.then-through-own, Goals.else-through-own}
+use Rattle.std.{proofs.{Common.{ap, refl, ◌≡◌, pos, ◌+◌, ◌∙◌, arith, sym, subst, to_z, of_z, w64, ◌+ℤ◌, ◌≤ℤ◌, ◌<ℤ◌, ◌≤◌}, lemmas.Int.ints}, specs.Prelude.slice_index_or}
+use Rattle.stn_net.{specs.Matrix.{Table.{entry, entry_in}, Way.{AreRunsOf, IsRowShortened}}, proofs.{Closure.{closed_within, shorter-kept_row}, Entries.{IsNearerRow, nearer_row, row_left_out, shortened_skip, shortened_turn}, Passing.runs_of_row, matrix.square.Square.shorten.{Given.Over, Goals.{then-through-own, else-through-own}}}}
 use Rattle.stn_net.proofs.matrix.square.Square.shorten.Goals as goal
 
 pub loop-row-init : goal.loop-row-init
@@ -25,7 +21,7 @@ way : (g : Over) (c : goal.After-shorten_row-arg-1 g)
 way g c =
     let row : c.loop-row.row ≤ c.args.self.now.events = (let size = c.size-size.ensures.value in omega (arith, c.loop-row-test.true)) in
     let from_is = c.from-from.ensures ∙ c.number.ensures.value in
-    let own : entry_at c.row-own.result.now c.from-from.result ≡ entry c.loop-row.self c.loop-row.row c.args.arc.from =
+    let own : entry_in c.row-own.result.now c.from-from.result ≡ entry c.loop-row.self c.loop-row.row c.args.arc.from =
     c.row-own.ensures.entries c.from-from.result (rw (from_is, c.loop-row.invariant.events) c.requires.from) ∙ ap (entry c.loop-row.self c.loop-row.row) from_is in
     let weight = c.get-weight.ensures.value in
     let weight_within = c.get-weight.ensures.within in
@@ -41,7 +37,7 @@ nearer g c =
     let row : c.loop-row.row ≤ c.args.self.now.events = (let size = c.size-size.ensures.value in omega (arith, c.loop-row-test.true)) in
     let arc = c.args.arc in
     let to_is = c.from-to.ensures ∙ c.number-2.ensures.value in
-    let end : entry_at c.row-own.result.now c.from-to.result ≡ new c.loop-row.row arc.to =
+    let end : entry_in c.row-own.result.now c.from-to.result ≡ new c.loop-row.row arc.to =
     c.row-own.ensures.entries c.from-to.result (rw (to_is, c.loop-row.invariant.events) c.requires.to) ∙ ap (new c.loop-row.row) to_is in
     let through = to_z w64 (of_z w64 (to_z w64 (of_z w64 (slice_index_or c.row-own.result.now c.from-from.result (pos 0))) +ℤ to_z w64 (of_z w64 c.get-weight.result))) in
     let test = c.if-through-own.true in
@@ -84,9 +80,9 @@ loop-row-preserved g c =
     let arc = c.args.arc in
     let from_is = c.from-from.ensures ∙ c.number.ensures.value in
     let to_is = c.from-to.ensures ∙ c.number-2.ensures.value in
-    let start : entry_at c.row-own.result.now c.from-from.result ≡ new row arc.from =
+    let start : entry_in c.row-own.result.now c.from-from.result ≡ new row arc.from =
     c.row-own.ensures.entries c.from-from.result (rw (from_is, c.loop-row.invariant.events) c.requires.from) ∙ ap (new row) from_is in
-    let end : entry_at c.row-own.result.now c.from-to.result ≡ new row arc.to =
+    let end : entry_in c.row-own.result.now c.from-to.result ≡ new row arc.to =
     c.row-own.ensures.entries c.from-to.result (rw (to_is, c.loop-row.invariant.events) c.requires.to) ∙ ap (new row) to_is in
     let weight = c.get-weight.ensures.value in
     let within = c.get-weight.ensures.within in

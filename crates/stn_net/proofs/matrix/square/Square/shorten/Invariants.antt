@@ -1,6 +1,5 @@
 use Rattle.std.proofs.Common.{◌≡◌}
-use Rattle.stn_net.specs.Matrix.Table.{entry}
-use Rattle.stn_net.proofs.Entries.{IsShortenedTo}
+use Rattle.stn_net.{specs.Matrix.Table.entry, proofs.Entries.IsShortenedTo}
 use Rattle.stn_net.proofs.matrix.square.Square.shorten.Given as goal
 
 abbrev pub invariant-loop-row : goal.invariant-loop-row

@@ -1,6 +1,5 @@
 use Rattle.std.proofs.Common.{◌≡◌}
-use Rattle.stn_net.specs.Matrix.Table.{entry}
-use Rattle.stn_net.proofs.Entries.{IsWidenedTo}
+use Rattle.stn_net.{specs.Matrix.Table.entry, proofs.Entries.IsWidenedTo}
 use Rattle.stn_net.proofs.matrix.square.Square.widen.Given as goal
 
 abbrev pub invariant-loop-event : goal.invariant-loop-event

@@ -1,6 +1,5 @@
 use Rattle.std.proofs.Common.{◌<◌, arith}
-use Rattle.stn_pddl.specs.{Tree.Trees.word_len, Tree.Cursors.rows_at, Tree.Cursors.left_at}
-use Rattle.stn_pddl.proofs.tree.Rows.{split-word, word_len-positive}
+use Rattle.stn_pddl.{specs.Tree.{Trees.word_len, Cursors.{rows_at, left_at}}, proofs.tree.Rows.{split-word, word_len-positive}}
 use Rattle.stn_pddl.proofs.tree.cursor.Child.word_at.Goals as goal
 
 pub returns-clause-first : goal.returns-clause-first

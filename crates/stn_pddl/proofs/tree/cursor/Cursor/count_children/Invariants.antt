@@ -1,5 +1,5 @@
 use Rattle.std.proofs.Common.{◌≡◌, ◌+◌, ◌≤◌}
-use Rattle.stn_pddl.specs.{Tree.Trees.how_many, Tree.Cursors.row_at, Tree.Cursors.left_at}
+use Rattle.stn_pddl.specs.Tree.{Trees.how_many, Cursors.{row_at, left_at}}
 use Rattle.stn_pddl.proofs.tree.cursor.Cursor.count_children.Given as goal
 
 abbrev pub invariant-children : goal.invariant-children

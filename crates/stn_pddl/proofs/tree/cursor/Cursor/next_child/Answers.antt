@@ -1,7 +1,5 @@
-use Rattle.std.proofs.Common.{◌∙◌, ◌+◌, get_or, arith, refl, sym}
-use Rattle.stn_pddl.specs.Tree.Cursors.{rows_at}
-use Rattle.std.proofs.lemmas.List.{take_rest}
-use Rattle.stn_pddl.proofs.{tree.Rows.opened, tree.Rows.closed, tree.Rows.passed, tree.Rows.begins-at, tree.Rows.line_after-most, tree.Rows.at-end}
+use Rattle.std.proofs.{Common.{◌∙◌, ◌+◌, get_or, arith, refl, sym}, lemmas.List.take_rest}
+use Rattle.stn_pddl.{specs.Tree.Cursors.rows_at, proofs.tree.Rows.{opened, closed, passed, begins-at, line_after-most, at-end}}
 use Rattle.stn_pddl.proofs.tree.cursor.Cursor.next_child.Goals as goal
 
 pub returns-in-Open-clause-first : goal.returns-in-Open-clause-first

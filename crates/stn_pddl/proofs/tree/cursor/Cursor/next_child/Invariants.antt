@@ -1,5 +1,5 @@
 use Rattle.std.proofs.Common.{◌≡◌, ◌+◌, ◌≤◌, drop}
-use Rattle.stn_pddl.specs.{Tree.Trees.rows_from, Tree.Cursors.rows_at}
+use Rattle.stn_pddl.specs.Tree.{Trees.rows_from, Cursors.rows_at}
 use Rattle.stn_pddl.proofs.tree.cursor.Cursor.next_child.Given as goal
 
 abbrev pub invariant-loop-index : goal.invariant-loop-index

@@ -1,6 +1,5 @@
 use Rattle.std.proofs.Common.{◌≡◌, ◌+◌, ◌*◌, ◌≤◌}
-use Rattle.stn_pddl.specs.Tree.Cursors.{behind_at, left_at}
-use Rattle.stn_pddl.proofs.tree.Cursors.{further}
+use Rattle.stn_pddl.{specs.Tree.Cursors.{behind_at, left_at}, proofs.tree.Cursors.further}
 use Rattle.stn_pddl.proofs.tree.cursor.Cursor.skip.Given as goal
 
 abbrev pub invariant-rows : goal.invariant-rows

@@ -1,8 +1,5 @@
-use Rattle.std.proofs.Common.{◌≡◌, ◌+◌, ◌-◌, None, length, take, drop, refl, sym, ap, subst, ◌∙◌}
-use Rattle.std.proofs.lemmas.List.{take_rest}
-use Rattle.stn_wire.specs.Feeder.{IsTaken}
-use Rattle.stn_wire.specs.Stream.Held.{Stream}
-use Rattle.stn_wire.proofs.Streams.{fed_is}
+use Rattle.std.proofs.{Common.{◌≡◌, ◌+◌, ◌-◌, None, length, take, drop, refl, sym, ap, subst, ◌∙◌}, lemmas.List.take_rest}
+use Rattle.stn_wire.{specs.{Feeder.CompletesFrame, Stream.Held.Stream}, proofs.Streams.fed_is}
 use Rattle.stn_wire.proofs.stream.reader.FrameReader.feed.Goals as goal
 
 pub returns-clause-fed : goal.returns-clause-fed
@@ -11,6 +8,6 @@ returns-clause-fed g c =
     let fed = c.in_ok-fed.fed in
     let rest = take (length c.deref.result.now - old.at) (drop old.at c.deref.result.now) in
     let whole : old.feeder.broken ≡ None = ap (λ (s : Stream). s.broken) c.self.view_is ∙ c.requires in
-    let taken = subst (λ (s : Stream). IsTaken s.held rest fed.used fed.frame c.feed.new.self) c.self.view_is (c.in_ok-fed.ensures.fed whole) in
+    let taken = subst (λ (s : Stream). CompletesFrame s.held rest fed.used fed.frame c.feed.new.self) c.self.view_is (c.in_ok-fed.ensures.fed whole) in
     fed_is c.args.self.now (record { held = c.feed.new.self.held; behind = drop (old.at + fed.used) old.piece.items; count = old.taken; broken = c.feed.new.self.broken }) old.piece.items old.at fed.used fed.frame rest
     c.feed.new.self (ap (λ (s : Stream). s.behind) (sym c.self.view_is)) (take_rest c.deref.result.now old.at ∙ ap (drop old.at) c.deref.ensures.value) taken refl refl

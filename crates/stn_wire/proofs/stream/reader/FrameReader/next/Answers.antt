@@ -1,7 +1,5 @@
-use Rattle.std.proofs.Common.{sym, subst, ◌∙◌}
-use Rattle.std.proofs.lemmas.Result.{err_from_is_err_and}
-use Rattle.stn_wire.specs.Front.{IsFront, unfinished}
-use Rattle.stn_wire.proofs.Streams.{filled_more, fill_fails}
+use Rattle.std.proofs.{Common.{sym, subst, ◌∙◌}, lemmas.Result.err_from_is_err_and}
+use Rattle.stn_wire.{specs.Front.{IsFront, unfinished}, proofs.Streams.{filled_more, fill_fails}}
 use Rattle.stn_wire.proofs.stream.reader.FrameReader.next.Goals as goal
 
 pub returns-in_err-more-clause-gives : goal.returns-in_err-more-clause-gives
