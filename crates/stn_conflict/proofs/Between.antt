@@ -1,9 +1,5 @@
-use Rattle.std.proofs.Common.{◌≡◌, ℕ, List, [], ◌∷◌, ◌++◌, arith}
-use Rattle.std.specs.Prelude.{ℤ, pos, ◌+ℤ◌, ◌-ℤ◌, ◌≤ℤ◌, ◌<ℤ◌}
-use Rattle.std.specs.Int.{int_min, int_max}
-use Rattle.std.proofs.{lemmas.Int.ints, lemmas.Int.clamps, lemmas.Int.by_lt_z, lemmas.List.Elements.All-push}
-use Rattle.stn_net.specs.{Difference.Difference, Schedule.Meets, Schedule.IsSchedule, Schedule.HasSchedule}
-use Rattle.stn_net.specs.Matrix.Tightest.{IsTightest}
+use Rattle.std.{proofs.{Common.{◌≡◌, ℕ, List, [], ◌∷◌, ◌++◌, arith}, lemmas.{Int.{ints, clamps, by_lt_z}, List.Elements.All-push}}, specs.{Prelude.{ℤ, pos, ◌+ℤ◌, ◌-ℤ◌, ◌≤ℤ◌, ◌<ℤ◌}, Int.{int_min, int_max}}}
+use Rattle.stn_net.specs.{Difference.Difference, Schedule.{Meets, IsSchedule, HasSchedule}, Matrix.Tightest.IsTightest}
 
 -- the earlier of two times of each event, the second list of times moved, both moved so that the origin stands at 0
 abbrev earlier : (ℕ → ℤ) → (ℕ → ℤ) → ℤ → ℤ → ℕ → ℤ

@@ -1,11 +1,6 @@
-use Rattle.std.proofs.Common.{◌≡◌, ℕ, ◌<◌, List, [], ◌∷◌, ◌++◌, length, take, sym, subst, ap, refl, ◌∙◌, arith}
-use Rattle.std.specs.{Prelude.ℤ, Prelude.pos, Prelude.◌+ℤ◌, List.AllByRecursion}
-use Rattle.std.proofs.{lemmas.Int.ints, lemmas.List.length-take}
-use Rattle.stn_net.specs.Difference.{Difference}
-use Rattle.stn_net.specs.Matrix.Tightest.{IsTightest}
-use Rattle.stn_net.proofs.Tightest.{tightest_unique}
-use Rattle.stn_conflict.specs.{declared.links.Link.Link, Arcs.Arc, Arcs.arc_of, Arcs.IsChain, Arcs.weight_of, Named.IsTight, Named.IsTightChain, Named.IsFirstStep, Named.IsWay}
-use Rattle.stn_conflict.proofs.Tightness.{arc_before}
+use Rattle.std.{proofs.{Common.{◌≡◌, ℕ, ◌<◌, List, [], ◌∷◌, ◌++◌, length, take, sym, subst, ap, refl, ◌∙◌, arith}, lemmas.{Int.ints, List.length-take}}, specs.{Prelude.{ℤ, pos, ◌+ℤ◌}, List.AllByRecursion}}
+use Rattle.stn_net.{specs.{Difference.Difference, Matrix.Tightest.IsTightest}, proofs.Tightest.tightest_unique}
+use Rattle.stn_conflict.{specs.{declared.links.Link.Link, Arcs.{Arc, arc_of, IsChain, weight_of}, Named.{IsTight, IsTightChain, IsFirstStep, IsWay}}, proofs.Tightness.arc_before}
 
 -- one chain and a link that begins where it ends are a chain
 pub chain-push : (bounds : List Difference) (links : List Link) (link : Link) (x y : ℕ) → IsChain bounds links x y → link.place < length bounds → (arc_of bounds link).from ≡ y → IsChain bounds (links ++ link ∷ []) x (arc_of bounds link).to

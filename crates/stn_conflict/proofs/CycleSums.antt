@@ -1,13 +1,7 @@
-use Rattle.std.proofs.Common.{◌≡◌, ℕ, ◌<◌, ◌≤◌, List, [], ◌∷◌, ◌++◌, length, take, sym, subst, ap, refl, ◌∙◌, arith}
-use Rattle.std.specs.Prelude.{ℤ, pos, neg_ℤ, ◌*ℤ◌, ◌+ℤ◌, ◌-ℤ◌, ◌≤ℤ◌, ◌<ℤ◌}
-use Rattle.std.proofs.{lemmas.Int.ints, lemmas.List.take_more, lemmas.List.Elements.All-from_recursion}
-use Rattle.std.specs.List.{AllByRecursion}
+use Rattle.std.{proofs.{Common.{◌≡◌, ℕ, ◌<◌, ◌≤◌, List, [], ◌∷◌, ◌++◌, length, take, sym, subst, ap, refl, ◌∙◌, arith}, lemmas.{Int.ints, List.{take_more, Elements.All-from_recursion}}}, specs.{Prelude.{ℤ, pos, neg_ℤ, ◌*ℤ◌, ◌+ℤ◌, ◌-ℤ◌, ◌≤ℤ◌, ◌<ℤ◌}, List.AllByRecursion}}
 use Rattle.stn_time.specs.Time.{horizon, IsWithinHorizon}
-use Rattle.stn_net.specs.{Difference.Difference, Schedule.IsSchedule, Schedule.HasSchedule}
-use Rattle.stn_net.specs.Matrix.Tightest.{IsTightest}
-use Rattle.stn_net.proofs.Tightest.{tightest_unique}
-use Rattle.stn_conflict.specs.{declared.links.Link.Link, declared.links.Side.Side, declared.links.Side.TheVariants.Upper, declared.links.Side.TheVariants.Lower, Arcs.arc, Arcs.arc_of, Arcs.bound_at, Arcs.IsChain, Arcs.weight_of, Arcs.IsNegativeCycle, Culprit.IsRefusedSide, Culprit.IsCulprit, Named.IsWay, Named.IsWayOf, Named.IsNamedCycle, Search.IsCycleOf}
-use Rattle.stn_conflict.proofs.{Tightness.tightest_self, Tightness.link_kept, Between.refused_lower, OneCycle.way_unique, Chains.way_is_tight, Chains.weight_of_tight, Chains.chain_before}
+use Rattle.stn_net.{specs.{Difference.Difference, Schedule.{IsSchedule, HasSchedule}, Matrix.Tightest.IsTightest}, proofs.Tightest.tightest_unique}
+use Rattle.stn_conflict.{specs.{declared.links.{Link.Link, Side.{Side, TheVariants.{Upper, Lower}}}, Arcs.{arc, arc_of, bound_at, IsChain, weight_of, IsNegativeCycle}, Culprit.{IsRefusedSide, IsCulprit}, Named.{IsWay, IsWayOf, IsNamedCycle}, Search.IsCycleOf}, proofs.{Tightness.{tightest_self, link_kept}, Between.refused_lower, OneCycle.way_unique, Chains.{way_is_tight, weight_of_tight, chain_before}}}
 
 -- a refused side and the way back from its end to its beginning have a negative sum
 refused_negative : (bounds : List Difference) (bound : Difference) (side : Side) (far : ℤ) → bound.lo ≤ℤ bound.hi → ¬ HasSchedule (bounds ++ bound ∷ []) → IsRefusedSide bounds bound side → IsTightest bounds (arc bound side).to (arc bound side).from far → ((arc bound side).weight +ℤ far) <ℤ pos 0

@@ -1,7 +1,5 @@
 -- What is told of a cycle or a way that was looked for, if it was found.
-use Rattle.std.proofs.Common.{ℕ, List, Option, Some, None, Result, Ok, Err, sym, refl}
-use Rattle.std.specs.Prelude.{◌↔◌, IfOk, IfSome, IsNone, MatchOption}
-use Rattle.std.proofs.lemmas.Bool.{false≢true}
+use Rattle.std.{proofs.{Common.{ℕ, List, Option, Some, None, Result, Ok, Err, sym, refl}, lemmas.Bool.false≢true}, specs.Prelude.{◌↔◌, IfOk, IfSome, IsNone, MatchOption}}
 use Rattle.stn_net.specs.{Difference.Difference, Schedule.HasSchedule}
 use Rattle.stn_conflict.specs.{declared.links.Cycle.Cycle, Search.IsCycleOf}
 

@@ -1,9 +1,6 @@
-use Rattle.std.proofs.Common.{◌≡◌, inl, inr, ℕ, ◌<◌, List, length, take, refl, sym, subst, arith}
-use Rattle.std.specs.Prelude.{ℤ, pos}
-use Rattle.std.proofs.{lemmas.Int.ints, lemmas.Bool.cases_lt, lemmas.List.take_all}
-use Rattle.stn_net.specs.{Difference.Difference, Horizon.horizon_bounds, Schedule.Meets, Schedule.HasSchedule}
+use Rattle.std.{proofs.{Common.{◌≡◌, inl, inr, ℕ, ◌<◌, List, length, take, refl, sym, subst, arith}, lemmas.{Int.ints, Bool.cases_lt, List.take_all}}, specs.Prelude.{ℤ, pos}}
+use Rattle.stn_net.{specs.{Difference.Difference, Horizon.horizon_bounds, Schedule.{Meets, HasSchedule}}, proofs.Widest.horizon_each}
 pub use Rattle.stn_net.proofs.Horizons.{known_within, known_first}
-use Rattle.stn_net.proofs.Widest.{horizon_each}
 
 -- the horizon bounds have a schedule: all events at once
 bare_schedule : (events : ℕ) → HasSchedule (horizon_bounds events)

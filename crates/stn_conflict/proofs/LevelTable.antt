@@ -1,12 +1,7 @@
-use Rattle.std.proofs.Common.{◌≡◌, ◌⊎◌, inl, inr, ℕ, zero, suc, ◌+◌, ◌<◌, ◌≤◌, Option, Some, None, List, [], ◌∷◌, ◌++◌, length, sym, subst, ap, refl, ◌∙◌, arith}
-use Rattle.std.specs.Prelude.{ℤ, pos, neg_ℤ, ◌+ℤ◌, ◌-ℤ◌, ◌≤ℤ◌, ◌<ℤ◌}
-use Rattle.std.specs.List.{AllByRecursion}
-use Rattle.std.proofs.{lemmas.Int.ints, lemmas.Int.by_lt_z, lemmas.List.length_push, lemmas.List.Elements.All-from_get_or}
+use Rattle.std.{proofs.{Common.{◌≡◌, ◌⊎◌, inl, inr, ℕ, zero, suc, ◌+◌, ◌<◌, ◌≤◌, Option, Some, None, List, [], ◌∷◌, ◌++◌, length, sym, subst, ap, refl, ◌∙◌, arith}, lemmas.{Int.{ints, by_lt_z}, List.{length_push, Elements.All-from_get_or}}}, specs.{Prelude.{ℤ, pos, neg_ℤ, ◌+ℤ◌, ◌-ℤ◌, ◌≤ℤ◌, ◌<ℤ◌}, List.AllByRecursion}}
 use Rattle.stn_time.proofs.Each.{each_pushed}
-use Rattle.stn_net.specs.{Difference.Difference, Schedule.Meets, Schedule.IsSchedule, Schedule.times_of}
-use Rattle.stn_net.specs.Matrix.Tightest.{IsTightest}
-use Rattle.stn_conflict.specs.{declared.links.Link.Link, declared.links.Side.Side, declared.links.Side.TheVariants.Upper, declared.links.Side.TheVariants.Lower, Arcs.arc, Arcs.arc_of, Arcs.bound_at, Arcs.IsChain, Relaxation.AreDistances, Named.IsTight, Named.IsTightChain, Named.IsLevel}
-use Rattle.stn_conflict.proofs.{Tightness.tightest_self, Tightness.link_reaches, Tightness.link_among, Chains.chain-push}
+use Rattle.stn_net.specs.{Difference.Difference, Schedule.{Meets, IsSchedule, times_of}, Matrix.Tightest.IsTightest}
+use Rattle.stn_conflict.{specs.{declared.links.{Link.Link, Side.{Side, TheVariants.{Upper, Lower}}}, Arcs.{arc, arc_of, bound_at, IsChain}, Relaxation.AreDistances, Named.{IsTight, IsTightChain, IsLevel}}, proofs.{Tightness.{tightest_self, link_reaches, link_among}, Chains.chain-push}}
 
 pub some_or_none : (o : Option ℕ) → (o ≡ None) ⊎ ((k : ℕ) × (o ≡ Some k))
 some_or_none None = inl refl

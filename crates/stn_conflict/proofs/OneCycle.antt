@@ -1,10 +1,7 @@
-use Rattle.std.proofs.Common.{◌≡◌, inl, inr, ℕ, zero, suc, ◌+◌, ◌≤◌, List, [], ◌∷◌, ◌++◌, length, take, sym, subst, ap, refl, ◌∙◌, arith}
-use Rattle.std.proofs.{lemmas.Int.ints, lemmas.Bool.cases_order, lemmas.List.length_push, lemmas.List.take-take}
+use Rattle.std.proofs.{Common.{◌≡◌, inl, inr, ℕ, zero, suc, ◌+◌, ◌≤◌, List, [], ◌∷◌, ◌++◌, length, take, sym, subst, ap, refl, ◌∙◌, arith}, lemmas.{Int.ints, Bool.cases_order, List.{length_push, take-take}}}
 use Rattle.stn_time.proofs.Each.{each_parted}
-use Rattle.stn_net.specs.{Difference.Difference, Schedule.IsSchedule, Schedule.HasSchedule}
-use Rattle.stn_net.proofs.Tightest.{tightest_unique}
-use Rattle.stn_conflict.specs.{declared.links.Link.Link, declared.links.Side.Side, declared.links.Side.TheVariants.Upper, declared.links.Side.TheVariants.Lower, Arcs.arc_of, Arcs.bound_at, Arcs.rank, Arcs.side_rank, Culprit.IsRefusedSide, Culprit.IsCulprit, Named.IsLevel, Named.IsStep, Named.IsFirstStep, Named.IsWay, Named.IsNamedCycle}
-use Rattle.stn_conflict.proofs.{Tightness.schedule_before, Chains.IsPushedChain, Chains.chain-unpush, Chains.last_of}
+use Rattle.stn_net.{specs.{Difference.Difference, Schedule.{IsSchedule, HasSchedule}}, proofs.Tightest.tightest_unique}
+use Rattle.stn_conflict.{specs.{declared.links.{Link.Link, Side.{Side, TheVariants.{Upper, Lower}}}, Arcs.{arc_of, bound_at, rank, side_rank}, Culprit.{IsRefusedSide, IsCulprit}, Named.{IsLevel, IsStep, IsFirstStep, IsWay, IsNamedCycle}}, proofs.{Tightness.schedule_before, Chains.{IsPushedChain, chain-unpush, last_of}}}
 
 -- links of one place and one side are equal
 pub link_same : (p q : ℕ) (s t : Side) → p ≡ q → s ≡ t → (let one : Link = record { place = p; side = s } in let other : Link = record { place = q; side = t } in one ≡ other)

@@ -1,15 +1,7 @@
-use Rattle.std.proofs.Common.{◌≡◌, ◌≢◌, inl, inr, ℕ, Bool, true, false, ◌+◌, ◌<◌, ◌≤◌, List, [], ◌∷◌, ◌++◌, length, set, take, replicate, sym, subst, ap, refl, ◌∙◌, arith}
-use Rattle.std.specs.Prelude.{ℤ, pos, negsuc, neg_ℤ, ◌+ℤ◌, ◌-ℤ◌, ◌≤ℤ◌, ◌<ℤ◌, All, unsigned_abs}
-use Rattle.std.proofs.{lemmas.Int.ints, lemmas.Bool.cases_eq, lemmas.Bool.cases_lt, lemmas.Bool.false≢true, lemmas.List.Sums.sum_by-set}
-use Rattle.std.proofs.lemmas.List.{take-take, get_or-set_same, get_or-set_other, get_or-replicate, get_or_append_left, get_or_push, length-append, length-set, length-replicate}
-use Rattle.std.proofs.lemmas.List.Elements.{All-from_get_or, All-take, All-append, All-push}
-use Rattle.stn_time.specs.Time.{horizon, IsWithinHorizon}
-use Rattle.stn_time.proofs.Each.{All-left}
-use Rattle.stn_net.specs.{Difference.Difference, Difference.NamesEvents, Schedule.Meets, Schedule.IsSchedule, Schedule.HasSchedule, Schedule.times_of, Horizon.horizon_bounds}
-use Rattle.stn_net.proofs.Widest.{horizon_times}
-use Rattle.stn_conflict.specs.{declared.links.Link.Link, declared.links.Side.Side, declared.links.Side.TheVariants.Upper, declared.links.Side.TheVariants.Lower, Arcs.Arc, Arcs.arc, Arcs.arc_of, Arcs.bound_at}
-use Rattle.stn_conflict.specs.Relaxation.{NamesAmong, IsNetwork, AreEstimates, AreDistances, AreRelaxed, IsRelaxed, IsRelaxedBut, IsTaken, is_fresh, room}
-use Rattle.stn_conflict.proofs.{Tightness.schedule_before, Tightness.link_kept, Tightness.link_reaches, Tightness.link_among, Known.known_first, LevelTable.meets_moved}
+use Rattle.std.{proofs.{Common.{◌≡◌, ◌≢◌, inl, inr, ℕ, Bool, true, false, ◌+◌, ◌<◌, ◌≤◌, List, [], ◌∷◌, ◌++◌, length, set, take, replicate, sym, subst, ap, refl, ◌∙◌, arith}, lemmas.{Int.ints, Bool.{cases_eq, cases_lt, false≢true}, List.{take-take, get_or-set_same, get_or-set_other, get_or-replicate, get_or_append_left, get_or_push, length-append, length-set, length-replicate, Sums.sum_by-set, Elements.{All-from_get_or, All-take, All-append, All-push}}}}, specs.Prelude.{ℤ, pos, negsuc, neg_ℤ, ◌+ℤ◌, ◌-ℤ◌, ◌≤ℤ◌, ◌<ℤ◌, All, unsigned_abs}}
+use Rattle.stn_time.{specs.Time.{horizon, IsWithinHorizon}, proofs.Each.All-left}
+use Rattle.stn_net.{specs.{Difference.{Difference, NamesEvents}, Schedule.{Meets, IsSchedule, HasSchedule, times_of}, Horizon.horizon_bounds}, proofs.Widest.horizon_times}
+use Rattle.stn_conflict.{specs.{declared.links.{Link.Link, Side.{Side, TheVariants.{Upper, Lower}}}, Arcs.{Arc, arc, arc_of, bound_at}, Relaxation.{NamesAmong, IsNetwork, AreEstimates, AreDistances, AreRelaxed, IsRelaxed, IsRelaxedBut, IsTaken, is_fresh, room}}, proofs.{Tightness.{schedule_before, link_kept, link_reaches, link_among}, Known.known_first, LevelTable.meets_moved}}
 
 -- the events of the plan are so many and the origin
 pub among_events : (bounds : List Difference) (events count : ℕ) → count ≡ events + 1 → All (NamesEvents events) bounds → All (NamesAmong count) bounds

@@ -1,28 +1,20 @@
 -- How a search goes on.
-use Rattle.std.proofs.Common.{◌≡◌, inl, inr, ℕ, ◌+◌, ◌-◌, ◌<◌, Bool, true, false, List, Option, Some, None, Result, Ok, Err, length, set, sym, subst, ap, ◌∙◌, arith}
-use Rattle.std.specs.Prelude.{ℤ, Vec, All, IfSome, IfNone, OnOk, is_ok}
-use Rattle.std.specs.{List.Contains, Option.option_or}
-use Rattle.std.proofs.{lemmas.Bool.cases_eq, lemmas.Bool.false≢true, lemmas.List.get_or-set_same, lemmas.List.get_or-set_other}
+use Rattle.std.{proofs.{Common.{◌≡◌, inl, inr, ℕ, ◌+◌, ◌-◌, ◌<◌, Bool, true, false, List, Option, Some, None, Result, Ok, Err, length, set, sym, subst, ap, ◌∙◌, arith}, lemmas.{Bool.{cases_eq, false≢true}, List.{get_or-set_same, get_or-set_other}}}, specs.{Prelude.{ℤ, All, IfSome, IfNone, OnOk, is_ok}, Option.option_or}}
 use Rattle.stn_net.specs.Difference.{Difference}
-use Rattle.stn_conflict.specs.{declared.links.Link.Link, declared.relaxation.Search.Search, Arcs.arc_of}
-use Rattle.stn_conflict.specs.Relaxation.{AreRelaxed, AreRows, NamesAmong, HasTables, IsRelaxed, IsRelaxedBut, IsRelaxedOf, IsSearch, KeepsRelaxed, is_fresh, row_of}
-use Rattle.stn_conflict.proofs.Tightness.{link_among}
+use Rattle.stn_conflict.{specs.{declared.{links.Link.Link, relaxation.Search.Search}, Arcs.arc_of, Relaxation.{AreRelaxed, NamesAmong, HasTables, IsRelaxed, IsRelaxedBut, IsRelaxedOf, IsSearch, KeepsRelaxed, is_fresh}}, proofs.Tightness.link_among}
 
 module _ {A : Type 0} where
   -- of as many events as it has estimates
   pub tables_of : (count : ℕ) (search : Search A) → HasTables count search → HasTables (length search.far.items) search
   tables_of count search h = subst (λ n. HasTables n search) (sym h.far) h
 
-  -- what goes on from a search has its start and its events
-  pub goes_on : (bounds : List Difference) (start count : ℕ) (old new : Search A) → IsSearch bounds start count old
-      → IsSearch bounds old.start (length old.far.items) new → IsSearch bounds start count new
-  goes_on bounds start count old new h n =
-      subst (λ s. IsSearch bounds s count new) h.from (subst (λ k. IsSearch bounds old.start k new) h.tables.far n)
+  -- what goes on from a search has its start
+  pub goes_on : (bounds : List Difference) (start count : ℕ) (old new : Search A) → IsSearch bounds start count old → IsSearch bounds old.start count new → IsSearch bounds start count new
+  goes_on bounds start count old new h n = subst (λ s. IsSearch bounds s count new) h.from n
 
-  -- a search with its own start and its own events
-  pub own : (bounds : List Difference) (start count : ℕ) (search : Search A) → IsSearch bounds start count search → IsSearch bounds search.start (length search.far.items) search
-  own bounds start count search h =
-      subst (λ s. IsSearch bounds s (length search.far.items) search) (sym h.from) (subst (λ n. IsSearch bounds start n search) (sym h.tables.far) h)
+  -- a search with its own start
+  pub own : (bounds : List Difference) (start count : ℕ) (search : Search A) → IsSearch bounds start count search → IsSearch bounds search.start count search
+  own bounds start count search h = subst (λ s. IsSearch bounds s count search) (sym h.from) h
 
   -- what was relaxed after one step is so after the next
   pub keeps_on : (bounds : List Difference) (old mid new : Search A) → KeepsRelaxed bounds old mid → KeepsRelaxed bounds mid new → KeepsRelaxed bounds old new
@@ -36,13 +28,13 @@ module _ {A : Type 0} where
   relaxed_on bounds mid new link next h there stale = next.relaxed link (h there (next.stale (arc_of bounds link).from stale)) there stale
 
   -- after all links of its row are relaxed, an event's estimate needs not be fresh
-  pub row_relaxed : (bounds : List Difference) (count event : ℕ) (rows : List (Vec Link A)) (far : List ℤ) (fresh : List Bool) (mid new : Search A)
-      → AreRows bounds count rows → IsRelaxedBut bounds far fresh → mid.far.items ≡ far → mid.fresh.items ≡ set fresh event false → KeepsRelaxed bounds mid new
-      → ((link : Link) → Contains (row_of rows event) link → IsRelaxedOf bounds new link) → IsRelaxedBut bounds new.far.items new.fresh.items
-  row_relaxed bounds count event rows far fresh mid new h before far_is fresh_is kept looked = λ link there stale.
+  pub row_relaxed : (bounds : List Difference) (event : ℕ) (far : List ℤ) (fresh : List Bool) (mid new : Search A)
+      → IsRelaxedBut bounds far fresh → mid.far.items ≡ far → mid.fresh.items ≡ set fresh event false → KeepsRelaxed bounds mid new
+      → ((link : Link) → link.place < length bounds → (arc_of bounds link).from ≡ event → IsRelaxedOf bounds new link) → IsRelaxedBut bounds new.far.items new.fresh.items
+  row_relaxed bounds event far fresh mid new before far_is fresh_is kept looked = λ link there stale.
       let from = (arc_of bounds link).from in
       elim (cases_eq from event) [
-        | inl same ↦ looked link (subst (λ x. Contains (row_of rows x) link) same (h.every link there)) there stale
+        | inl same ↦ looked link there same there stale
         | inr differs ↦
             let was : is_fresh fresh from ≡ false = sym (get_or-set_other fresh event from false true differs) ∙ ap (λ l. is_fresh l from) (sym fresh_is) ∙ kept.stale from stale in
             kept.relaxed link (subst (λ l. IsRelaxed bounds l link) (sym far_is) (before link there was)) there stale

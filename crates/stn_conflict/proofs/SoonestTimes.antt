@@ -1,12 +1,8 @@
 -- The earliest, the latest and the soonest times that a search finds.
-use Rattle.std.proofs.Common.{◌≡◌, ℕ, ℤ, pos, ◌+◌, ◌≤◌, ◌≤ℤ◌, neg_ℤ, Bool, List, ◌++◌, length, map, sym, subst, append_assoc, arith}
-use Rattle.std.specs.Prelude.{Vec, All, Option, Some, None, MatchOption}
-use Rattle.std.proofs.{lemmas.Int.ints, lemmas.List.get_or-map, lemmas.List.Elements.All-append}
+use Rattle.std.{proofs.{Common.{◌≡◌, ℕ, ℤ, pos, ◌+◌, ◌≤◌, ◌≤ℤ◌, neg_ℤ, Bool, List, ◌++◌, length, map, sym, subst, append_assoc, arith}, lemmas.{Int.ints, List.{get_or-map, Elements.All-append}}}, specs.Prelude.{Vec, All, Option, Some, None, MatchOption}}
 use Rattle.stn_time.specs.Time.{horizon}
-use Rattle.stn_net.specs.{Difference.Difference, Difference.NamesEvents, Schedule.IsSchedule, Schedule.HasSchedule, Schedule.times_of}
-use Rattle.stn_net.specs.Windows.{Window.IsInWindow, Dispatch.IsLeft, Dispatch.CanWaitUntil, Leading.AreFloorsBelow, Soonest.AreEarliest, Soonest.AreLatest, Soonest.AreSoonest}
-use Rattle.stn_net.proofs.{Readiness.left_within, Ends.earliest_of_tightest, Ends.latest_of_tightest, Soonest.waits_above, Soonest.soonest_of_earliest}
-use Rattle.stn_conflict.specs.{declared.relaxation.Search.Search, Distances.AreDistancesFrom, Distances.AreDistancesTo, Relaxation.AreDistances, Relaxation.HasTables, Relaxation.IsNetwork}
+use Rattle.stn_net.{specs.{Difference.{Difference, NamesEvents}, Schedule.{IsSchedule, HasSchedule, times_of}, Windows.{Window.IsInWindow, Dispatch.{IsLeft, CanWaitUntil}, Leading.AreFloorsBelow, Soonest.{AreEarliest, AreLatest, AreSoonest}}}, proofs.{Readiness.left_within, Ends.{earliest_of_tightest, latest_of_tightest}, Soonest.{waits_above, soonest_of_earliest}}}
+use Rattle.stn_conflict.specs.{declared.relaxation.Search.Search, Distances.{AreDistancesFrom, AreDistancesTo}, Relaxation.{AreDistances, HasTables, IsNetwork}}
 
 -- the distances that a search has found
 pub distances_of : {A : Type 0} (bounds : List Difference) (events event : ℕ) (search : Search A) → HasTables (events + 1) search × AreDistances bounds event search.far.items

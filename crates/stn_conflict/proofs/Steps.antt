@@ -1,12 +1,7 @@
-use Rattle.std.proofs.Common.{◌≡◌, ◌≢◌, inl, inr, ℕ, zero, suc, ◌+◌, ◌*◌, ◌<◌, ◌≤◌, Option, Some, List, [], ◌∷◌, ◌++◌, length, eqb, eqb-true, eq-eqb, sym, subst, ap, refl, ◌∙◌, arith, to_z, of_z, w64}
-use Rattle.std.specs.Prelude.{ℤ, ◌+ℤ◌, IsTrue, Vec, reverse, slice_index_or}
-use Rattle.std.specs.List.{AllByRecursion, Contains}
-use Rattle.std.proofs.{lemmas.List.get_or_default, lemmas.List.reverse-append, lemmas.Bool.cases_eq, lemmas.Bool.cases_lt, lemmas.Int.ints}
+use Rattle.std.{proofs.{Common.{◌≡◌, ◌≢◌, inl, inr, ℕ, zero, suc, ◌+◌, ◌*◌, ◌<◌, ◌≤◌, Option, Some, List, [], ◌∷◌, ◌++◌, length, eqb, eqb-true, eq-eqb, sym, subst, ap, refl, ◌∙◌, arith, to_z, of_z, w64}, lemmas.{List.{get_or_default, reverse-append}, Bool.{cases_eq, cases_lt}, Int.ints}}, specs.{Prelude.{ℤ, ◌+ℤ◌, IsTrue, reverse, slice_index_or}, List.AllByRecursion}}
 use Rattle.stn_time.specs.Time.{IsWithinHorizon}
-use Rattle.stn_net.specs.Difference.{Difference}
-use Rattle.stn_net.specs.Matrix.Tightest.{IsTightest}
-use Rattle.stn_conflict.specs.{declared.links.Link.Link, declared.links.Side.Side, declared.links.Side.TheVariants.Upper, declared.links.Side.TheVariants.Lower, Arcs.arc, Arcs.arc_of, Arcs.bound_at, Arcs.rank, Arcs.side_rank, Arcs.IsChain, Named.IsTight, Named.IsLevel, Named.IsStep, Named.IsFirstStep, Relaxation.AreRows, Relaxation.row_of, Search.other_side, Search.across, Search.HasLevels, Search.HasNoStep, Search.IsFirstStepTo}
-use Rattle.stn_conflict.proofs.{Tightness.tight_from_sum, Tightness.sum_from_tight, OneCycle.link_same, OneCycle.level_unique}
+use Rattle.stn_net.specs.{Difference.Difference, Matrix.Tightest.IsTightest}
+use Rattle.stn_conflict.{specs.{declared.{links.{Link.Link, Side.{Side, TheVariants.{Upper, Lower}}}, outgoing.Look.Look}, Arcs.{arc, arc_of, bound_at, rank, side_rank, IsChain}, Named.{IsTight, IsLevel, IsStep, IsFirstStep}, Relaxation.{HasLink, IsRow, Searched}, Search.{other_side, across, HasLevels, HasNoStep, IsFirstStepTo}}, proofs.{Tightness.{tight_from_sum, sum_from_tight}, OneCycle.{link_same, level_unique}}}
 
 -- what a test of a sum of two times says
 pub sum_test : (m w n : ℤ) → IsWithinHorizon m → IsWithinHorizon w → IsWithinHorizon n
@@ -46,6 +41,10 @@ side_low Lower = omega arith
 -- the links of so many bounds have the first ranks
 pub rank_within : (count : ℕ) (link : Link) → link.place < count → rank link < 2 * count
 rank_within count link there = omega (arith, side_low link.side)
+
+-- and only these
+pub rank_place : (link : Link) (count : ℕ) → rank link < 2 * count → link.place < count
+rank_place link count below = omega (arith, side_low link.side)
 
 -- a link that stands before another is of no later bound
 pub place_of_rank : (one other : Link) → rank one ≤ rank other → one.place ≤ other.place
@@ -95,59 +94,64 @@ step_leaves bounds start link step same =
     absurd (omega (arith, level_unique bounds start _ level (suc level) low (subst (λ x. IsLevel bounds start x (suc level)) (sym same) high)))
 
 -- none of the first links of a row is across from a step
-abbrev pub ArePassed : List Difference → ℕ → List Link → ℕ → Type 0
-ArePassed bounds start row seen = (k : ℕ) (link : Link) → k < seen → slice_index_or row k link ≡ link → ¬ IsStep bounds start (across link)
+abbrev pub ArePassed : List Difference → ℕ → List Look → ℕ → Type 0
+ArePassed bounds start row seen = (k : ℕ) (look : Look) → k < seen → slice_index_or row k look ≡ look → ¬ IsStep bounds start (across look.link)
 
 -- one more
-pub passed_more : (bounds : List Difference) (start seen : ℕ) (row : List Link) (link : Link) → seen < length row → slice_index_or row seen link ≡ link
-    → ¬ IsStep bounds start (across link) → ArePassed bounds start row seen → ArePassed bounds start row (seen + 1)
-passed_more bounds start seen row link there here none passed = λ k other below at.
+pub passed_more : (bounds : List Difference) (start seen : ℕ) (row : List Look) (look : Look) → seen < length row → slice_index_or row seen look ≡ look
+    → ¬ IsStep bounds start (across look.link) → ArePassed bounds start row seen → ArePassed bounds start row (seen + 1)
+passed_more bounds start seen row look there here none passed = λ k other below at.
     elim (cases_eq k seen) [
       | inl same ↦
-          let e : other ≡ link = sym at ∙ ap (λ n. slice_index_or row n other) same ∙ get_or_default row seen other link there ∙ here in
-          λ step. none (subst (λ l. IsStep bounds start (across l)) e step)
+          let e : other ≡ look = sym at ∙ ap (λ n. slice_index_or row n other) same ∙ get_or_default row seen other look there ∙ here in
+          λ step. none (subst (λ (l : Look). IsStep bounds start (across l.link)) e step)
       | inr differs ↦ passed k other (omega arith) at
     ]
 
-module _ {A : Type 0} where
-  -- a link that ends at an event stands in the event's row, across
-  across_in_row : (bounds : List Difference) (count event : ℕ) (rows : List (Vec Link A)) (link : Link) → AreRows bounds count rows → link.place < length bounds
-      → (arc_of bounds link).to ≡ event → Contains (row_of rows event) (across link)
-  across_in_row bounds count event rows link h there ends =
-      subst (λ x. Contains (row_of rows x) (across link)) ((across_ends bounds link).0 ∙ ends) (h.every (across link) there)
+module _ (searched : Searched) (start event seen : ℕ) (row : List Look) (is : IsRow searched event row) where
+  -- a link that ends at the event stands in its row, across
+  across_in_row : (link : Link) → link.place < length searched.bounds → (arc_of searched.bounds link).to ≡ event → HasLink row (across link)
+  across_in_row link there ends = is.every (across link) there ((across_ends searched.bounds link).0 ∙ ends)
 
-  -- the first link of an event's row that is across from a step is across from the first step to the event
-  pub first_in_row : (bounds : List Difference) (start count event seen : ℕ) (rows : List (Vec Link A)) (link : Link) → AreRows bounds count rows → seen < length (row_of rows event)
-      → slice_index_or (row_of rows event) seen link ≡ link → ArePassed bounds start (row_of rows event) seen → IsStep bounds start (across link)
-      → IsFirstStepTo bounds start event (across link)
-  first_in_row bounds start count event seen rows link h there here passed step =
-      let row = row_of rows event in
-      let begins : (arc_of bounds link).from ≡ event = h.begin event link (seen, there, here) step.tight.there in
+  -- the first link of the event's row that is across from a step is across from the first step to the event
+  pub first_in_row : (look : Look) → seen < length row → slice_index_or row seen look ≡ look → ArePassed searched.bounds start row seen
+      → IsStep searched.bounds start (across look.link) → IsFirstStepTo searched.bounds start event (across look.link)
+  first_in_row look there here passed step =
+      let bounds = searched.bounds in
+      let link = look.link in
+      let begins : (arc_of bounds link).from ≡ event = (is.each look (seen, there, here)).from in
       let ends : (arc_of bounds (across link)).to ≡ event = (across_ends bounds link).1 ∙ begins in
       record {
         ends = ends;
         first = record {
           step = step;
           first = λ other before same other_step.
-              let (k, within, at) = across_in_row bounds count event rows other h other_step.tight.there (same ∙ ends) in
+              let (found, (k, within, at), names) = across_in_row other other_step.tight.there (same ∙ ends) in
+              let back : across found.link ≡ other = ap across names ∙ across_twice other in
               elim (cases_lt k seen) [
-                | inl earlier ↦ passed k (across other) earlier at (subst (IsStep bounds start) (sym (across_twice other)) other_step)
+                | inl earlier ↦ passed k found earlier at (subst (IsStep bounds start) (sym back) other_step)
                 | inr later ↦
-                    let found : slice_index_or row k link ≡ across other = get_or_default row k link (across other) within ∙ at in
-                    let order = h.ordered event seen k link later within in
-                    let place : other.place ≡ link.place = omega (arith, place_of_rank other (across link) (omega arith), order, ap (λ l. l.place) here, ap (λ l. l.place) found) in
+                    let order = is.ordered seen k look later within in
+                    let read : slice_index_or row k look ≡ found = get_or_default row k look found within ∙ at in
+                    let place : other.place ≡ link.place = omega (
+                      arith,
+                      place_of_rank other (across link) (omega arith),
+                      order,
+                      ap (λ (l : Look). l.link.place) here,
+                      ap (λ (l : Look). l.link.place) read,
+                      ap (λ (l : Link). l.place) names,
+                    ) in
                     let e : other ≡ link = link_before_across other link place before in
                     step_leaves bounds start (across link) step ((across_ends bounds link).0 ∙ sym (ap (λ l. (arc_of bounds l).to) e) ∙ same)
               ];
         };
       }
 
-  -- where no link of an event's row is across from a step, none leads to the event
-  pub none_in_row : (bounds : List Difference) (start count event seen : ℕ) (rows : List (Vec Link A)) → AreRows bounds count rows → length (row_of rows event) ≤ seen
-      → ArePassed bounds start (row_of rows event) seen → HasNoStep bounds start event
-  none_in_row bounds start count event seen rows h all passed = λ link ends step.
-      let (k, within, at) = across_in_row bounds count event rows link h step.tight.there ends in
-      passed k (across link) (omega arith) at (subst (IsStep bounds start) (sym (across_twice link)) step)
+  -- where no link of the event's row is across from a step, none leads to the event
+  pub none_in_row : length row ≤ seen → ArePassed searched.bounds start row seen → HasNoStep searched.bounds start event
+  none_in_row all passed = λ link ends step.
+      let (found, (k, within, at), names) = across_in_row link step.tight.there ends in
+      passed k found (omega arith) at (subst (IsStep searched.bounds start) (sym (ap across names ∙ across_twice link)) step)
 
 -- a step to an event begins one level lower
 pub lower_by_one : (bounds : List Difference) (start count x : ℕ) (levels : ℕ → Option ℕ) (link : Link) → HasLevels bounds start count levels

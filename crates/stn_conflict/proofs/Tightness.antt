@@ -1,11 +1,6 @@
-use Rattle.std.proofs.Common.{◌≡◌, ℕ, ◌<◌, List, length, take, sym, subst, ap, ◌∙◌, arith}
-use Rattle.std.specs.Prelude.{ℤ, pos, ◌+ℤ◌, ◌-ℤ◌, ◌≤ℤ◌}
-use Rattle.std.specs.List.{All}
-use Rattle.std.proofs.{lemmas.Int.ints, lemmas.List.get_or-take, lemmas.List.Elements.All-take}
-use Rattle.stn_net.specs.{Difference.Difference, Schedule.Meets, Schedule.IsSchedule}
-use Rattle.stn_net.proofs.Tightest.{tightest_unique}
-use Rattle.stn_net.specs.Matrix.Tightest.{IsTightest}
-use Rattle.stn_conflict.specs.{declared.links.Link.Link, declared.links.Side.Side, declared.links.Side.TheVariants.Upper, declared.links.Side.TheVariants.Lower, Arcs.arc, Arcs.arc_of, Arcs.bound_at, Relaxation.NamesAmong, Named.IsTight}
+use Rattle.std.{proofs.{Common.{◌≡◌, ℕ, ◌<◌, List, length, take, sym, subst, ap, ◌∙◌, arith}, lemmas.{Int.ints, List.{get_or-take, Elements.All-take}}}, specs.{Prelude.{ℤ, pos, ◌+ℤ◌, ◌-ℤ◌, ◌≤ℤ◌}, List.All}}
+use Rattle.stn_net.{specs.{Difference.Difference, Schedule.{Meets, IsSchedule}, Matrix.Tightest.IsTightest}, proofs.Tightest.tightest_unique}
+use Rattle.stn_conflict.specs.{declared.links.{Link.Link, Side.{Side, TheVariants.{Upper, Lower}}}, Arcs.{arc, arc_of, bound_at}, Relaxation.NamesAmong, Named.IsTight}
 
 -- an event lies at 0 from itself
 pub tightest_self : (bounds : List Difference) (x : ℕ) (m : ℤ) → IsTightest bounds x x m → m ≡ pos 0

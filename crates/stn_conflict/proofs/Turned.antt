@@ -1,11 +1,6 @@
-use Rattle.std.proofs.Common.{◌≡◌, ℕ, ◌<◌, List, length, map, take, refl, subst, sym, ap, ◌∙◌, arith}
-use Rattle.std.specs.{Prelude.ℤ, Prelude.neg_ℤ, Prelude.Vec, List.Contains}
-use Rattle.std.proofs.{lemmas.Int.ints, lemmas.List.Elements.All-map}
-use Rattle.std.proofs.lemmas.List.{get_or-map, get_or-take, take-map, length-map, length-take}
-use Rattle.stn_net.specs.{Difference.Difference, Difference.NamesEvents, Schedule.Meets, Schedule.IsSchedule, Schedule.HasSchedule}
-use Rattle.stn_net.specs.Matrix.Tightest.{IsTightest}
-use Rattle.stn_conflict.specs.{declared.listed.Direction.Direction, declared.links.Link.Link, declared.links.Side.Side, declared.links.Side.TheVariants.Upper, declared.links.Side.TheVariants.Lower, Arcs.arc, Arcs.arc_of, Arcs.bound_at, Directions.turned, Directions.faced, Directions.facing, Distances.AreDistancesFrom, Distances.AreDistancesTo, Relaxation.AreRows, Relaxation.IsNetwork, Relaxation.row_of}
-use Rattle.stn_conflict.specs.declared.listed.Direction.TheVariants.{Forward, Backward}
+use Rattle.std.{proofs.{Common.{◌≡◌, ℕ, ◌<◌, ◌≤◌, List, length, map, take, refl, subst, sym, ap, ◌∙◌, arith}, Math.IntN.neg_ℤ-neg_ℤ, lemmas.{Int.ints, List.{get_or-map, get_or-take, take-map, length-map, length-take, Elements.All-map}}}, specs.Prelude.{ℤ, neg_ℤ}}
+use Rattle.stn_net.specs.{Difference.{Difference, NamesEvents}, Schedule.{Meets, IsSchedule, HasSchedule}, Matrix.Tightest.IsTightest}
+use Rattle.stn_conflict.specs.{declared.{graph.Direction.{Direction, TheVariants.{Forward, Backward}}, links.{Link.Link, Side.{Side, TheVariants.{Upper, Lower}}}}, Arcs.{arc, arc_of, bound_at}, Directions.{turned, faced, facing}, Distances.{AreDistancesFrom, AreDistancesTo}, Relaxation.IsNetwork, Search.across}
 
 -- the times with their signs changed
 abbrev opposite : (ℕ → ℤ) → ℕ → ℤ
@@ -40,29 +35,6 @@ network_turned events bounds n = record {
   named = All-map (NamesEvents events) turned bounds (λ k d below. let ends = n.named k d below in record { from = ends.from; to = ends.to });
   apart = λ time s x y xs ys. (let near = n.apart (opposite time) (schedule_of_turned bounds time s) y x ys xs in omega (arith, ints));
 }
-
--- each link begins at the same event
-begins_turned : (bounds : List Difference) (link : Link) → link.place < length bounds → (arc_of (map turned bounds) link).from ≡ (arc_of bounds link).from
-begins_turned bounds link there = ap (λ b. (arc b link.side).from) (get_or-map turned bounds link.place _ _ there) ∙ begins (bound_at bounds link.place) link.side
-  where
-    begins : (bound : Difference) (side : Side) → (arc (turned bound) side).from ≡ (arc bound side).from
-    begins bound Upper = refl
-    begins bound Lower = refl
-
--- so the rows of the bounds are those of the turned ones
-pub rows_turned : {A : Type 0} (bounds : List Difference) (count : ℕ) (rows : List (Vec Link A)) → AreRows bounds count rows → AreRows (map turned bounds) count rows
-rows_turned bounds count rows h =
-    let long = length-map bounds turned in
-    record {
-      long = h.long;
-      every = λ link there.
-          let there' : link.place < length bounds = omega (arith, long) in
-          subst (λ x. Contains (row_of rows x) link) (sym (begins_turned bounds link there')) (h.every link there');
-      begin = λ x link has there.
-          let there' : link.place < length bounds = omega (arith, long) in
-          begins_turned bounds link there' ∙ h.begin x link has there';
-      ordered = h.ordered;
-    }
 
 -- the tightest difference of two events over turned bounds is that from the second to the first
 tightest_of_turned : (bounds : List Difference) (x y : ℕ) (m : ℤ) → IsTightest (map turned bounds) x y m → IsTightest bounds y x m
@@ -108,3 +80,27 @@ bound_listed direction all bounds end place bound is there at =
     let first : place < length (take end all) = omega (arith, there, ap length is, length_facing direction (take end all)) in
     let below : place < end = omega (arith, first, length-take end all) in
     ap (λ l. bound_at l place) (sym is) ∙ bound_facing direction (take end all) place first ∙ ap (faced direction) (get_or-take end all place _ below ∙ sym at)
+
+-- the weight of the link, or of that of the other side of its bound
+abbrev pub arc_ahead : Direction → List Difference → Link → ℤ
+arc_ahead Forward bounds link = (arc_of bounds link).weight
+arc_ahead Backward bounds link = (arc_of bounds (across link)).weight
+
+-- what a link of the first of the bounds says, turned round or not
+pub arc_listed : (direction : Direction) (bounds : List Difference) (end : ℕ) (link : Link) → link.place < end → end ≤ length bounds
+    → ((arc_of (facing direction (take end bounds)) link).from ≡ (arc_of bounds link).from) × ((arc_of (facing direction (take end bounds)) link).to ≡ (arc_of bounds link).to)
+    × ((arc_of (facing direction (take end bounds)) link).weight ≡ arc_ahead direction bounds link)
+arc_listed direction bounds end link below within =
+    let first : link.place < length (facing direction (take end bounds)) = omega (arith, length_facing direction (take end bounds), length-take end bounds) in
+    let is = bound_listed direction bounds (facing direction (take end bounds)) end link.place (bound_at bounds link.place) refl first refl in
+    subst (λ b. ((arc b link.side).from ≡ (arc_of bounds link).from) × ((arc b link.side).to ≡ (arc_of bounds link).to) × ((arc b link.side).weight ≡ arc_ahead direction bounds link)) (sym is)
+    (says direction link.side)
+  where
+    bound : Difference
+    bound = bound_at bounds link.place
+
+    says : (direction : Direction) (side : Side) → ((arc (faced direction bound) side).from ≡ (arc bound side).from) × ((arc (faced direction bound) side).to ≡ (arc bound side).to)
+        × ((arc (faced direction bound) side).weight ≡ arc_ahead direction bounds (record { place = link.place; side = side }))
+    says Forward side = (refl, refl, refl)
+    says Backward Upper = (refl, refl, refl)
+    says Backward Lower = (refl, refl, neg_ℤ-neg_ℤ bound.hi)

@@ -1,12 +1,6 @@
-use Rattle.std.proofs.Common.{◌≡◌, ◌≢◌, inl, inr, ℕ, suc, ◌+◌, ◌<◌, ◌≤◌, cond, Option, Some, None, List, [], ◌∷◌, ◌++◌, length, set, replicate, refl, sym, subst, ap, ◌∙◌, arith}
-use Rattle.std.specs.Prelude.{ℤ, Vec, is_some, count_by, slice_index_or}
-use Rattle.std.specs.List.{Contains}
-use Rattle.std.proofs.{lemmas.Bool.cases_eq, lemmas.Bool.cases_lt, lemmas.List.Elements.Contains-push_cases, lemmas.List.Sums.sum_by-set, lemmas.List.Sums.count_by-le-length}
-use Rattle.std.proofs.lemmas.List.{get_or-set_same, get_or-set_other, get_or-replicate, get_or_past, get_or_append_left, get_or_push, length-set, length-replicate, length_push}
+use Rattle.std.{proofs.{Common.{◌≡◌, ◌≢◌, inl, inr, ℕ, suc, ◌+◌, ◌<◌, ◌≤◌, cond, Option, Some, None, List, [], ◌∷◌, ◌++◌, length, set, replicate, refl, sym, subst, ap, ◌∙◌, arith}, lemmas.{Bool.{cases_eq, cases_lt}, List.{get_or-set_same, get_or-set_other, get_or-replicate, get_or_past, get_or_append_left, get_or_push, length-set, length-replicate, length_push, Elements.Contains-push_cases, Sums.{sum_by-set, count_by-le-length}}}}, specs.{Prelude.{ℤ, is_some, count_by, slice_index_or}, List.Contains}}
 use Rattle.stn_net.specs.Difference.{Difference}
-use Rattle.stn_conflict.specs.{declared.levels.Walk.Walk, declared.links.Link.Link, Arcs.arc_of, Relaxation.AreDistances, Relaxation.AreRows, Relaxation.row_of, Named.IsTight}
-use Rattle.stn_conflict.specs.Search.{level_at, event_at, IsFollowed, IsWalk, IsWalkOf, AreLevels, LeadsOn}
-use Rattle.stn_conflict.proofs.LevelTable.{IsClosed, some_or_none, some_same, level_of_entry, entry_of_level, level_of_event}
+use Rattle.stn_conflict.{specs.{declared.{levels.Walk.Walk, links.Link.Link, outgoing.Look.Look}, Arcs.arc_of, Relaxation.{AreDistances, IsRow, Searched}, Named.IsTight, Search.{level_at, event_at, IsFollowed, IsWalk, IsWalkOf, AreLevels, LeadsOn}}, proofs.LevelTable.{IsClosed, some_or_none, some_same, level_of_entry, entry_of_level, level_of_event}}
 
 -- an event with a level keeps it
 keeps_level : (levels marked : ℕ → Option ℕ) (end : ℕ) → levels end ≡ None → ((x : ℕ) → x ≢ end → marked x ≡ levels x) → (x i : ℕ) → levels x ≡ Some i → marked x ≡ Some i
@@ -221,15 +215,15 @@ module _ {A : Type 0} where
       (i, omega (arith, level_there walk.levels.items x i here, w.whole), here)
 
   -- a walk that follows the links of an event that it has reached: so far these
-  pub record IsFollowing (bounds : List Difference) (start count seen level event : ℕ) (row : List Link) (walk : Walk A) : Type 0 where
+  pub record IsFollowing (bounds : List Difference) (start count seen level event : ℕ) (row : List Look) (walk : Walk A) : Type 0 where
     pub so_far : IsWalkOf bounds start count seen walk
     pub there : seen < length walk.reached.items
     pub here : event_at walk.reached.items seen ≡ event
     pub marked : level_at walk.levels.items event ≡ Some level
-    pub followed : (link : Link) → Contains row link → IsTight bounds start link → IsFollowed bounds (level_at walk.levels.items) link level
+    pub followed : (look : Look) → Contains row look → IsTight bounds start look.link → IsFollowed bounds (level_at walk.levels.items) look.link level
 
   -- no level is above the number of the events that got theirs before
-  pub level_low : (bounds : List Difference) (start count seen level event : ℕ) (row : List Link) (walk : Walk A) → IsFollowing bounds start count seen level event row walk → level < count
+  pub level_low : (bounds : List Difference) (start count seen level event : ℕ) (row : List Look) (walk : Walk A) → IsFollowing bounds start count seen level event row walk → level < count
   level_low bounds start count seen level event row walk h =
       let (i, at, le) = h.so_far.steps.each seen h.there in
       omega (
@@ -242,23 +236,24 @@ module _ {A : Type 0} where
       )
 
   -- at first none of them
-  pub following_begins : (bounds : List Difference) (start count seen level event : ℕ) (row : List Link) (walk : Walk A) → IsWalkOf bounds start count seen walk → seen < length walk.reached.items
+  pub following_begins : (bounds : List Difference) (start count seen level event : ℕ) (row : List Look) (walk : Walk A) → IsWalkOf bounds start count seen walk → seen < length walk.reached.items
       → event_at walk.reached.items seen ≡ event → level_at walk.levels.items event ≡ Some level → row ≡ [] → IsFollowing bounds start count seen level event row walk
   following_begins bounds start count seen level event row walk w there here at none = record {
     so_far = w;
     there = there;
     here = here;
     marked = at;
-    followed = λ link has. (let (k, below, is) = subst (λ l. Contains l link) none has in absurd (omega arith));
+    followed = λ look has. (let (k, below, is) = subst (λ l. Contains l look) none has in absurd (omega arith));
   }
 
   -- a link that leads on: its end is reached
-  pub following_reaches : (bounds : List Difference) (start count seen level event x : ℕ) (row : List Link) (walk next : Walk A) (link : Link) → IsFollowing bounds start count seen level event row walk
-      → LeadsOn bounds start (level_at walk.levels.items) link → (arc_of bounds link).from ≡ event → x ≡ (arc_of bounds link).to → x < count
+  pub following_reaches : (bounds : List Difference) (start count seen level event x : ℕ) (row : List Look) (walk next : Walk A) (look : Look) → IsFollowing bounds start count seen level event row walk
+      → LeadsOn bounds start (level_at walk.levels.items) look.link → (arc_of bounds look.link).from ≡ event → x ≡ (arc_of bounds look.link).to → x < count
       → next.levels.items ≡ set walk.levels.items x (Some (level + 1)) → next.reached.items ≡ walk.reached.items ++ x ∷ []
-      → IsFollowing bounds start count seen level event (row ++ link ∷ []) next
-  following_reaches bounds start count seen level event x row walk next link h leads begins to within marked longer =
+      → IsFollowing bounds start count seen level event (row ++ look ∷ []) next
+  following_reaches bounds start count seen level event x row walk next look h leads begins to within marked longer =
       let old = walk.levels.items in
+      let link = look.link in
       let there : x < length old = omega (arith, h.so_far.whole) in
       let more : level + 1 ≡ suc level = omega arith in
       let gets : level_at next.levels.items (arc_of bounds link).to ≡ Some (suc level) =
@@ -278,25 +273,25 @@ module _ {A : Type 0} where
         here = ap (λ l. event_at l seen) longer ∙ get_or_append_left walk.reached.items (x ∷ []) 0 seen h.there ∙ h.here;
         marked = kept event level h.marked;
         followed = λ other has tight.
-            elim (Contains-push_cases row link other has) [
+            elim (Contains-push_cases row look other has) [
               | inl before ↦ (let (k, at, le) = h.followed other before tight in (k, kept _ k at, le))
-              | inr same ↦ (suc level, ap (λ l. level_at next.levels.items (arc_of bounds l).to) (sym same) ∙ gets, omega arith)
+              | inr same ↦ (suc level, ap (λ (l : Look). level_at next.levels.items (arc_of bounds l.link).to) (sym same) ∙ gets, omega arith)
             ];
       }
 
   -- a link that does not lead on is not tight, or leads to a level
-  pub following_passes : (bounds : List Difference) (start count seen level event : ℕ) (row : List Link) (walk : Walk A) (link : Link) → IsFollowing bounds start count seen level event row walk
-      → ¬ LeadsOn bounds start (level_at walk.levels.items) link → IsFollowing bounds start count seen level event (row ++ link ∷ []) walk
-  following_passes bounds start count seen level event row walk link h stays = record {
+  pub following_passes : (bounds : List Difference) (start count seen level event : ℕ) (row : List Look) (walk : Walk A) (look : Look) → IsFollowing bounds start count seen level event row walk
+      → ¬ LeadsOn bounds start (level_at walk.levels.items) look.link → IsFollowing bounds start count seen level event (row ++ look ∷ []) walk
+  following_passes bounds start count seen level event row walk look h stays = record {
     so_far = h.so_far;
     there = h.there;
     here = h.here;
     marked = h.marked;
     followed = λ other has tight.
-        elim (Contains-push_cases row link other has) [
+        elim (Contains-push_cases row look other has) [
           | inl before ↦ h.followed other before tight
-          | inr same ↦ elim (some_or_none (level_at walk.levels.items (arc_of bounds other).to)) [
-            | inl none ↦ absurd (stays (subst (LeadsOn bounds start (level_at walk.levels.items)) (sym same) (record { tight = tight; to = none })))
+          | inr same ↦ elim (some_or_none (level_at walk.levels.items (arc_of bounds other.link).to)) [
+            | inl none ↦ absurd (stays (subst (λ (l : Look). LeadsOn bounds start (level_at walk.levels.items) l.link) (sym same) (record { tight = tight; to = none })))
             | inr (k, at) ↦
                 let w = h.so_far.steps in
                 let (place, below, is) = w.every _ k at in
@@ -306,11 +301,13 @@ module _ {A : Type 0} where
   }
 
   -- where all are followed, the walk goes on to the next event
-  pub following_ends : (bounds : List Difference) (start count seen level event : ℕ) (rows : List (Vec Link A)) (walk : Walk A) → AreRows bounds count rows
-      → IsFollowing bounds start count seen level event (row_of rows event) walk → IsWalkOf bounds start count (seen + 1) walk
-  following_ends bounds start count seen level event rows walk all h = record {
+  pub following_ends : (searched : Searched) (start count seen level event : ℕ) (row : List Look) (walk : Walk A) → IsRow searched event row
+      → IsFollowing searched.bounds start count seen level event row walk → IsWalkOf searched.bounds start count (seen + 1) walk
+  following_ends searched start count seen level event row walk is h = record {
     whole = h.so_far.whole;
     counted = h.so_far.counted;
-    steps = walk_goes_on bounds start seen level (level_at walk.levels.items) walk.reached.items h.so_far.steps h.there (ap (level_at walk.levels.items) h.here ∙ h.marked)
-        (λ link tight from. h.followed link (subst (λ x. Contains (row_of rows x) link) (from ∙ h.here) (all.every link tight.there)) tight);
+    steps = walk_goes_on searched.bounds start seen level (level_at walk.levels.items) walk.reached.items h.so_far.steps h.there (ap (level_at walk.levels.items) h.here ∙ h.marked)
+        (λ link tight from.
+        let (look, has, names) = is.every link tight.there (from ∙ h.here) in
+        subst (λ l. IsFollowed searched.bounds (level_at walk.levels.items) l level) names (h.followed look has (subst (IsTight searched.bounds start) (sym names) tight)));
   }

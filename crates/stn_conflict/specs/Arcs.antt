@@ -1,6 +1,6 @@
 use Rattle.std.specs.Prelude.{◌≡◌, ℕ, ℤ, pos, neg_ℤ, ◌+ℤ◌, ◌<ℤ◌, ◌<◌, ◌+◌, ◌*◌, List, [], ◌∷◌, length, slice_index_or}
 use Rattle.stn_net.specs.Difference.{Difference}
-use Rattle.stn_conflict.specs.{declared.links.Link.Link, declared.links.Side.Side, declared.links.Side.TheVariants.Upper, declared.links.Side.TheVariants.Lower}
+use Rattle.stn_conflict.specs.declared.links.{Link.Link, Side.{Side, TheVariants.{Upper, Lower}}}
 
 -- the event `to` comes at most `weight` milliseconds after the event `from`
 pub record Arc : Type 0 where

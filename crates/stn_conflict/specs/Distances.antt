@@ -1,6 +1,5 @@
 use Rattle.std.specs.Prelude.{◌≡◌, ◌↔◌, ℕ, ℤ, ◌+◌, ◌≤◌, ◌-ℤ◌, ◌≤ℤ◌, Bool, IsTrue, List, length}
-use Rattle.stn_net.specs.{Difference.Difference, Schedule.IsSchedule, Schedule.HasSchedule, Schedule.times_of}
-use Rattle.stn_net.specs.Matrix.Tightest.{IsTightest}
+use Rattle.stn_net.specs.{Difference.Difference, Schedule.{IsSchedule, HasSchedule, times_of}, Matrix.Tightest.IsTightest}
 
 -- for the origin and each of so many events, how long after `event` it can come at the most
 pub record AreDistancesFrom (bounds : List Difference) (events event : ℕ) (far : List ℤ) : Type 0 where

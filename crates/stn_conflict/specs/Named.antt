@@ -1,9 +1,7 @@
-use Rattle.std.specs.Prelude.{◌≡◌, ℕ, ℤ, suc, ◌<◌, ◌≤◌, ◌+ℤ◌, List, [], ◌∷◌, length, take, All}
-use Rattle.std.specs.List.{AllByRecursion}
+use Rattle.std.specs.{Prelude.{◌≡◌, ℕ, ℤ, suc, ◌<◌, ◌≤◌, ◌+ℤ◌, List, [], ◌∷◌, length, take, All}, List.AllByRecursion}
 use Rattle.stn_time.specs.Time.{IsWithinHorizon}
-use Rattle.stn_net.specs.Difference.{Difference}
-use Rattle.stn_net.specs.Matrix.Tightest.{IsTightest}
-use Rattle.stn_conflict.specs.{declared.links.Link.Link, Arcs.arc_of, Arcs.rank, Arcs.weight_of, Arcs.IsChain, Culprit.IsCulprit}
+use Rattle.stn_net.specs.{Difference.Difference, Matrix.Tightest.IsTightest}
+use Rattle.stn_conflict.specs.{declared.links.Link.Link, Arcs.{arc_of, rank, weight_of, IsChain}, Culprit.IsCulprit}
 
 -- the link's end can be as far after `start` as the link allows when its beginning is as far as it can be
 pub record IsTight (bounds : List Difference) (start : ℕ) (link : Link) : Type 0 where

@@ -1,10 +1,8 @@
 -- For proofs alone: no public clause cites these words.
-use Rattle.std.specs.Prelude.{◌≡◌, ℕ, ℤ, pos, neg_ℤ, ◌+ℤ◌, ◌-ℤ◌, ◌≤ℤ◌, ◌<◌, ◌≤◌, ◌+◌, ◌*◌, Bool, true, false, List, [], length, map, All, Contains, Vec, slice_index_or, sum_by, unsigned_abs}
-use Rattle.std.specs.List.Sorted.{IsNonDecreasingBy}
+use Rattle.std.specs.{Prelude.{◌≡◌, ℕ, ℤ, pos, neg_ℤ, ◌+ℤ◌, ◌-ℤ◌, ◌≤ℤ◌, ◌<◌, ◌≤◌, ◌+◌, ◌*◌, Bool, true, false, List, [], length, map, All, Contains, Vec, slice_index_or, sum_by, unsigned_abs}, List.Sorted.IsNonDecreasingBy}
 use Rattle.stn_time.specs.Time.{horizon}
-use Rattle.stn_net.specs.{Event.most_events, Difference.Difference, Difference.NamesEvents, Schedule.IsSchedule, Schedule.times_of}
-use Rattle.stn_net.specs.Matrix.Tightest.{IsTightest}
-use Rattle.stn_conflict.specs.{declared.links.Link.Link, declared.relaxation.Search.Search, declared.outgoing.Rows.Rows, Arcs.arc_of, Arcs.rank}
+use Rattle.stn_net.specs.{Event.most_events, Difference.{Difference, NamesEvents}, Schedule.{IsSchedule, times_of}, Matrix.Tightest.IsTightest}
+use Rattle.stn_conflict.specs.{declared.{graph.Direction.{Direction, TheVariants.{Forward, Backward}}, links.Link.Link, outgoing.{Look.Look, Rows.Rows}, relaxation.Search.Search}, Arcs.{arc_of, rank}, Search.across}
 
 -- both events of the bound are among the first so many
 abbrev pub NamesAmong : ℕ → Difference → Type 0
@@ -78,26 +76,69 @@ pub record KeepsRelaxed {A : Type 0} (bounds : List Difference) (old new : Searc
 abbrev pub IsArcTo : List Difference → ℕ → ℕ → ℤ → Type 0
 IsArcTo bounds to from weight = (link : Link) × (link.place < length bounds) × (arc_of bounds link ≡ record { from = from; to = to; weight = weight })
 
--- the links of the row at a place
-abbrev pub row_of : {A : Type 0} → List (Vec Link A) → ℕ → List Link
+-- the looks of the row at a place
+abbrev pub row_of : {A : Type 0} → List (Vec Look A) → ℕ → List Look
 row_of rows place = slice_index_or (map (λ row. row.items) rows) place []
 
--- there is a row for each of so many events; each link of the bounds stands in the row of the event at which it begins, and in no other,
--- and those of each row stand in the order of their bounds
-pub record AreRows {A : Type 0} (bounds : List Difference) (count : ℕ) (rows : List (Vec Link A)) : Type 0 where
-  pub long : length rows ≡ count
-  pub every : (link : Link) → link.place < length bounds → Contains (row_of rows (arc_of bounds link).from) link
-  pub begin : (x : ℕ) (link : Link) → Contains (row_of rows x) link → link.place < length bounds → (arc_of bounds link).from ≡ x
-  pub ordered : (x : ℕ) → IsNonDecreasingBy (λ link. link.place) (row_of rows x)
+-- the look is at a link of the bounds that begins at the event
+pub record IsLook (bounds : List Difference) (event : ℕ) (look : Look) : Type 0 where
+  pub from : (arc_of bounds look.link).from ≡ event
+  pub to : (arc_of bounds look.link).to ≡ look.to
+  pub onward : (arc_of bounds look.link).weight ≡ look.onward
+  pub back : (arc_of bounds (across look.link)).weight ≡ look.back
 
--- there is a row for each of so many events; the first links of the bounds, those of rank below `seen`, stand in the rows of the events at which
--- they begin, and nothing else, and those of each row stand in the order of their bounds
-pub record AreRowsTo {A : Type 0} (bounds : List Difference) (count seen : ℕ) (rows : List (Vec Link A)) : Type 0 where
+-- one of the looks is at the link
+abbrev pub HasLink : List Look → Link → Type 0
+HasLink looks link = (look : Look) × Contains looks look × (look.link ≡ link)
+
+-- there is a row for each of so many events; the first links of the bounds, those of rank below `seen`, are looked at in the rows of the events at
+-- which they begin, and nothing else is, and the looks of each row stand in the order of their bounds
+pub record AreRowsTo {A : Type 0} (bounds : List Difference) (count seen : ℕ) (rows : List (Vec Look A)) : Type 0 where
   pub long : length rows ≡ count
-  pub every : (link : Link) → rank link < seen → Contains (row_of rows (arc_of bounds link).from) link
-  pub begin : (x : ℕ) (link : Link) → Contains (row_of rows x) link → (arc_of bounds link).from ≡ x
-  pub below : (x : ℕ) (link : Link) → Contains (row_of rows x) link → rank link < seen
-  pub ordered : (x : ℕ) → IsNonDecreasingBy (λ link. link.place) (row_of rows x)
+  pub every : (link : Link) → rank link < seen → HasLink (row_of rows (arc_of bounds link).from) link
+  pub each : (x : ℕ) (look : Look) → Contains (row_of rows x) look → IsLook bounds x look
+  pub below : (x : ℕ) (look : Look) → Contains (row_of rows x) look → rank look.link < seen
+  pub ordered : (x : ℕ) → IsNonDecreasingBy (λ look. look.link.place) (row_of rows x)
+
+-- all links of the bounds are looked at
+abbrev pub AreRows : {A : Type 0} → List Difference → ℕ → List (Vec Look A) → Type 0
+AreRows bounds count rows = AreRowsTo bounds count (2 * length bounds) rows
+
+-- the rows are those of the bounds, which are about so many events beside the origin, and of which `end` count
+pub record HasRows {A : Type 0} (events end : ℕ) (bounds : List Difference) (rows : List (Vec Look A)) : Type 0 where
+  pub within : end ≤ length bounds
+  pub named : All (NamesAmong (events + 1)) bounds
+  pub stand : AreRows bounds (events + 1) rows
+
+-- so many looks are at links of bounds before the place, and no more
+pub record IsCutAt (row : List Look) (place count : ℕ) : Type 0 where
+  pub within : count ≤ length row
+  pub before : (k : ℕ) (look : Look) → k < count → (slice_index_or row k look).link.place < place
+  pub behind : (k : ℕ) (look : Look) → count ≤ k → k < length row → place ≤ (slice_index_or row k look).link.place
+
+-- bounds as a search looks at them, turned round where the direction is backward; they are about so many events beside the origin
+pub record Searched : Type 0 where
+  pub direction : Direction
+  pub events : ℕ
+  pub bounds : List Difference
+
+-- how long after the event of its row the look's other event can come, by the bounds or by the bounds turned round
+abbrev pub ahead : Direction → Look → ℤ
+ahead Forward look = look.onward
+ahead Backward look = look.back
+
+-- the look is at a link of the bounds that begins at the event
+pub record IsLookOf (searched : Searched) (event : ℕ) (look : Look) : Type 0 where
+  pub there : look.link.place < length searched.bounds
+  pub from : (arc_of searched.bounds look.link).from ≡ event
+  pub to : (arc_of searched.bounds look.link).to ≡ look.to
+  pub weight : (arc_of searched.bounds look.link).weight ≡ ahead searched.direction look
+
+-- the looks are at the links of the bounds that begin at the event, in the order of the bounds
+pub record IsRow (searched : Searched) (event : ℕ) (looks : List Look) : Type 0 where
+  pub every : (link : Link) → link.place < length searched.bounds → (arc_of searched.bounds link).from ≡ event → HasLink looks link
+  pub each : (look : Look) → Contains looks look → IsLookOf searched event look
+  pub ordered : IsNonDecreasingBy (λ look. look.link.place) looks
 
 -- the links that were added are the first ones of the bounds
 pub record AreFirstRows {A : Type 0} (bounds : List Difference) (count : ℕ) (rows : Rows A) : Type 0 where

@@ -2,7 +2,7 @@
 use Rattle.std.specs.Prelude.{◌≡◌, ℕ, ℤ, pos, neg_ℤ, ◌*ℤ◌, ◌≤ℤ◌, suc, ◌+◌, ◌<◌, ◌≤◌, ◌↔◌, List, length, take, All, Option, Some, None, is_some, count_by, slice_index_or}
 use Rattle.stn_time.specs.Time.{horizon}
 use Rattle.stn_net.specs.{Difference.Difference, Schedule.HasSchedule}
-use Rattle.stn_conflict.specs.{declared.levels.Walk.Walk, declared.links.Link.Link, declared.links.Side.Side, declared.links.Side.TheVariants.Upper, declared.links.Side.TheVariants.Lower, Arcs.arc_of, Arcs.weight_of, Arcs.IsNegativeCycle, Named.IsTight, Named.IsLevel, Named.IsStep, Named.IsFirstStep, Named.IsNamedCycle}
+use Rattle.stn_conflict.specs.{declared.{levels.Walk.Walk, links.{Link.Link, Side.{Side, TheVariants.{Upper, Lower}}}}, Arcs.{arc_of, weight_of, IsNegativeCycle}, Named.{IsTight, IsLevel, IsStep, IsFirstStep, IsNamedCycle}}
 
 -- the level that a table has of an event, if it has one yet
 abbrev pub level_at : List (Option ℕ) → ℕ → Option ℕ

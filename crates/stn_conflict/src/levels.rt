@@ -1,11 +1,10 @@
-ghost use Rattle.std.specs.Prelude.{◌≡◌, ◌+◌, ◌<◌, ◌≤◌, ◌↔◌, length, IsTrue, IfOk, OnOk, MatchOption};
+ghost use Rattle.std.specs.Prelude.{◌≡◌, ◌+◌, ◌<◌, ◌≤◌, ◌↔◌, ℕ, length, IsTrue, IfOk, OnOk, MatchOption};
 ghost use Rattle.stn_net.specs.Event.{most_events};
-ghost use Rattle.stn_conflict.specs.Relaxation.{AreDistances, AreRows};
-ghost use Rattle.stn_conflict.specs.Named.{IsTight, IsStep};
-ghost use Rattle.stn_conflict.specs.Search.{level_at, LeadsOn, IsWalkOf, AreLevels, HasNoStep, IsFirstStepTo};
+ghost use Rattle.stn_conflict.specs.{Relaxation.{AreDistances, IsLookOf}, Named.{IsTight, IsStep}, Search.{level_at, LeadsOn, IsWalkOf, AreLevels, HasNoStep, IsFirstStepTo}};
 
+use crate::graph::Graph;
 use crate::links::Link;
-use crate::listed::{Listed, across};
+use crate::outgoing::{Look, across};
 use std::alloc::Allocator;
 use stn_net::Event;
 use stn_time::{Memory, Ms};
@@ -20,58 +19,55 @@ pub(crate) struct Walk<A: Allocator> {
 // Whether the link's end can be as far after `start` as the link allows when its beginning is as far
 // as it can be.
 #[tactic(auto, using(crate::proofs::Tightness::link_among))]
-fn is_tight(bounds: &Listed<'_>, far: &[Ms], start: Event, link: Link) -> bool
-    requires far { AreDistances bounds.now start far.now }
-    requires there { link.place < length bounds.now }
-    ensures { IsTrue result ↔ IsTight bounds.now start link }
+fn is_tight<A: Allocator>(graph: &Graph<'_, A>, far: &[Ms], start: Event, link: Link) -> bool
+    requires far { AreDistances graph.now.bounds start far.now }
+    requires there { link.place < length graph.now.bounds }
+    ensures { IsTrue result ↔ IsTight graph.now.bounds start link }
 {
-    let arc = bounds.arc(link);
+    let arc = graph.arc(link);
     let begin = far[usize::from(arc.from.number())].get();
     let end = far[usize::from(arc.to.number())].get();
     begin + arc.weight.get() == end
 }
 
 // Whether the link is a tight one of the bounds to an event that has no level yet.
-fn leads_on(
-    bounds: &Listed<'_>,
+fn leads_on<A: Allocator>(
+    graph: &Graph<'_, A>,
     far: &[Ms],
     start: Event,
     levels: &[Option<u16>],
-    link: Link,
+    look: &Look,
 ) -> bool
-    requires far { AreDistances bounds.now start far.now }
+    requires far { AreDistances graph.now.bounds start far.now }
     requires whole { length levels.now ≡ length far.now }
-    ensures { IsTrue result ↔ LeadsOn bounds.now start (level_at levels.now) link }
+    requires look { (event : ℕ) × IsLookOf graph.now event look.now }
+    ensures { IsTrue result ↔ LeadsOn graph.now.bounds start (level_at levels.now) look.now.link }
 {
-    link.place < bounds.len()
-        && levels[usize::from(bounds.arc(link).to.number())].is_none()
-        && is_tight(bounds, far, start, link)
+    levels[usize::from(look.to.number())].is_none() && is_tight(graph, far, start, look.link)
 }
 
 // Follows the tight links from the event at a place of those that were reached: gives the next level to each event
 // that has none.
 fn follow<A: Allocator + Copy>(
-    bounds: &Listed<'_>,
-    outgoing: &[Vec<Link, A>],
+    graph: &Graph<'_, A>,
     far: &[Ms],
     start: Event,
     walk: &mut Walk<A>,
     place: usize,
 ) -> Result<(), Memory>
-    requires far { AreDistances bounds.now start far.now }
+    requires far { AreDistances graph.now.bounds start far.now }
     requires few { length far.now ≤ most_events + 1 }
-    requires rows { AreRows bounds.now (length far.now) outgoing.now }
+    requires whole { length far.now ≡ graph.now.events + 1 }
     requires there { place < length walk.old.reached.items }
-    requires walk { IsWalkOf bounds.now start (length far.now) place walk.old }
-    ensures { OnOk result (IsWalkOf bounds.now start (length far.now) (place + 1) walk.new) }
+    requires walk { IsWalkOf graph.now.bounds start (length far.now) place walk.old }
+    ensures { OnOk result (IsWalkOf graph.now.bounds start (length far.now) (place + 1) walk.new) }
 {
     let event = usize::from(walk.reached[place].number());
     let level = walk.levels[event].unwrap();
-    for link in &outgoing[event] {
-        if leads_on(bounds, far, start, &walk.levels, *link) {
-            let end = bounds.arc(*link).to;
-            walk.levels[usize::from(end.number())] = Some(level + 1);
-            walk.reached.push(end)?;
+    for look in graph.row(event) {
+        if leads_on(graph, far, start, &walk.levels, look) {
+            walk.levels[usize::from(look.to.number())] = Some(level + 1);
+            walk.reached.push(look.to)?;
         }
     }
     Ok(())
@@ -80,15 +76,14 @@ fn follow<A: Allocator + Copy>(
 // The level of each event, breadth first over the tight links (Moore, 1959).
 pub(crate) fn levels_from<A: Allocator + Copy>(
     alloc: A,
-    bounds: &Listed<'_>,
-    outgoing: &[Vec<Link, A>],
+    graph: &Graph<'_, A>,
     far: &[Ms],
     start: Event,
 ) -> Result<Vec<Option<u16>, A>, Memory>
-    requires far { AreDistances bounds.now start far.now }
+    requires far { AreDistances graph.now.bounds start far.now }
     requires few { length far.now ≤ most_events + 1 }
-    requires rows { AreRows bounds.now (length far.now) outgoing.now }
-    ensures { IfOk result (λ levels. AreLevels bounds.now start (length far.now) levels.items) }
+    requires whole { length far.now ≡ graph.now.events + 1 }
+    ensures { IfOk result (λ levels. AreLevels graph.now.bounds start (length far.now) levels.items) }
 {
     let mut walk = Walk {
         levels: vec![in alloc; None; far.len()]?,
@@ -98,52 +93,51 @@ pub(crate) fn levels_from<A: Allocator + Copy>(
     walk.reached.push(start)?;
     let mut place = 0;
     while place < walk.reached.len() {
-        follow(bounds, outgoing, far, start, &mut walk, place)?;
+        follow(graph, far, start, &mut walk, place)?;
         place += 1;
     }
     Ok(walk.levels)
 }
 
 // Whether the link is tight and begins one level lower than it ends.
-fn is_step(
-    bounds: &Listed<'_>,
+fn is_step<A: Allocator>(
+    graph: &Graph<'_, A>,
     far: &[Ms],
     start: Event,
     levels: &[Option<u16>],
     link: Link,
 ) -> bool
-    requires far { AreDistances bounds.now start far.now }
+    requires far { AreDistances graph.now.bounds start far.now }
     requires few { length far.now ≤ most_events + 1 }
-    requires levels { AreLevels bounds.now start (length far.now) levels.now }
-    requires there { link.place < length bounds.now }
-    ensures { IsTrue result ↔ IsStep bounds.now start link }
+    requires levels { AreLevels graph.now.bounds start (length far.now) levels.now }
+    requires there { link.place < length graph.now.bounds }
+    ensures { IsTrue result ↔ IsStep graph.now.bounds start link }
 {
-    let arc = bounds.arc(link);
+    let arc = graph.arc(link);
     let begin = levels[usize::from(arc.from.number())].unwrap();
     let end = levels[usize::from(arc.to.number())].unwrap();
-    begin + 1 == end && is_tight(bounds, far, start, link)
+    begin + 1 == end && is_tight(graph, far, start, link)
 }
 
 // The first step to an event: the links that end at it are those of its row with the other side of their bounds, in the row's order.
-#[tactic(auto, using(crate::proofs::Rows::row_is, crate::proofs::Steps::passed_more, std::proofs::lemmas::List::get_or_default))]
+#[tactic(auto, using(crate::proofs::Steps::passed_more))]
 pub(crate) fn first_step<A: Allocator>(
-    bounds: &Listed<'_>,
-    outgoing: &[Vec<Link, A>],
+    graph: &Graph<'_, A>,
     far: &[Ms],
     start: Event,
     levels: &[Option<u16>],
     event: Event,
 ) -> Option<Link>
-    requires far { AreDistances bounds.now start far.now }
+    requires far { AreDistances graph.now.bounds start far.now }
     requires few { length far.now ≤ most_events + 1 }
-    requires rows { AreRows bounds.now (length far.now) outgoing.now }
-    requires levels { AreLevels bounds.now start (length far.now) levels.now }
+    requires whole { length far.now ≡ graph.now.events + 1 }
+    requires levels { AreLevels graph.now.bounds start (length far.now) levels.now }
     requires event { event < length far.now }
-    ensures { MatchOption result (HasNoStep bounds.now start event) (IsFirstStepTo bounds.now start event) }
+    ensures { MatchOption result (HasNoStep graph.now.bounds start event) (IsFirstStepTo graph.now.bounds start event) }
 {
-    for link in &outgoing[usize::from(event.number())] {
-        let into = across(*link);
-        if into.place < bounds.len() && is_step(bounds, far, start, levels, into) {
+    for look in graph.row(usize::from(event.number())) {
+        let into = across(look.link);
+        if is_step(graph, far, start, levels, into) {
             return Some(into);
         }
     }

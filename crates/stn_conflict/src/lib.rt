@@ -12,9 +12,9 @@ pub use search::cycle;
 pub use times::{earliest, latest, soonest};
 pub use ways::both_ways;
 
+mod graph;
 mod levels;
 mod links;
-mod listed;
 mod network;
 mod outgoing;
 mod reach;

@@ -1,8 +1,6 @@
 ghost use Rattle.std.specs.Prelude.{◌≡◌, ℕ, List};
-ghost use Rattle.stn_net.specs.Difference.{Difference};
-ghost use Rattle.stn_net.specs.Schedule.{HasSchedule};
-ghost use Rattle.stn_conflict.specs.Arcs.{IsNegativeCycle};
-ghost use Rattle.stn_conflict.specs.Named.{IsNamedCycle, IsWay};
+ghost use Rattle.stn_net.specs.{Difference.Difference, Schedule.HasSchedule};
+ghost use Rattle.stn_conflict.specs.{Arcs.IsNegativeCycle, Named.{IsNamedCycle, IsWay}};
 
 use std::alloc::Allocator;
 use stn_time::Ms;

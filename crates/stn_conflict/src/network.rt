@@ -1,13 +1,8 @@
-ghost use Rattle.std.specs.Prelude.{◌≡◌, ◌≤◌, ◌++◌, ◌∷◌, [], take, All, IfOk, OnOk, OnErr, MatchOption};
-ghost use Rattle.stn_net.specs.Event.{most_events};
-ghost use Rattle.stn_net.specs.Difference.{NamesEvents};
-ghost use Rattle.stn_net.specs.Schedule.{HasSchedule};
-ghost use Rattle.stn_net.specs.Horizon.{horizon_bounds};
-ghost use Rattle.stn_net.specs.Matrix.Tightest.{IsTightest};
-ghost use Rattle.stn_conflict.specs.Distances.{TellsWithin};
-ghost use Rattle.stn_conflict.specs.Relaxation.{IsTaken};
+ghost use Rattle.std.specs.Prelude.{◌≡◌, ◌+◌, ◌≤◌, ◌↔◌, ◌++◌, ◌∷◌, [], false, take, All, IsTrue, IfOk, OnOk, OnErr, MatchOption};
+ghost use Rattle.stn_net.specs.{Event.most_events, Difference.NamesEvents, Schedule.HasSchedule, Horizon.horizon_bounds, Matrix.Tightest.IsTightest};
+ghost use Rattle.stn_conflict.specs.{Distances.TellsWithin, Relaxation.{AreDistances, AreFirstRows, IsRelaxedBut, IsSearch, IsTaken, NamesAmong}};
 
-use crate::listed::{Direction, Listed};
+use crate::graph::{Direction, Graph};
 use crate::outgoing::Rows;
 use crate::relaxation::Search;
 use std::alloc::Allocator;
@@ -28,8 +23,7 @@ pub struct Network<A: Allocator> {
 }
 
 impl<A: Allocator> Model for Network<A> {
-    ghost use Rattle.stn_conflict.specs.Listing.{Listing};
-    ghost use Rattle.stn_conflict.specs.Relaxation.{IsReady};
+    ghost use Rattle.stn_conflict.specs.{Listing.Listing, Relaxation.IsReady};
 
     ghost Value = { Listing };
 
@@ -76,6 +70,30 @@ impl<A: Allocator + Copy> Network<A> {
         Ok(())
     }
 
+    /// One bound more, after the others, if they have a schedule with it; whether it was taken. It fails only if memory
+    /// runs out; all is as before then.
+    pub fn take(&mut self, bound: Bound) -> Result<bool, Memory>
+        requires { NamesEvents self.old.events bound }
+        ensures possible { IfOk result (λ taken. IsTrue taken ↔ HasSchedule (self.old.bounds ++ bound ∷ [])) }
+        ensures taken { IfOk result (λ taken. IsTrue taken → self.new ≡ record self.old { bounds = self.old.bounds ++ bound ∷ [] }) }
+        ensures refused { IfOk result (λ taken. taken ≡ false → self.new ≡ self.old) }
+        ensures err { OnErr result (self.new ≡ self.old) }
+    {
+        let count = self.bounds.len();
+        self.search.copy_from(&self.latest);
+        self.bounds.push(bound)?;
+        self.latest.fresh[usize::from(bound.from().number())] = true;
+        self.latest.fresh[usize::from(bound.to().number())] = true;
+        let fits = extend(self.events, &self.bounds, &mut self.rows, &mut self.latest);
+        if let Ok(true) = fits {
+            return Ok(true);
+        }
+        self.bounds.truncate(count);
+        self.rows.cut(count);
+        self.latest.copy_from(&self.search);
+        fits
+    }
+
     /// Whether `to` comes at most `most` milliseconds after `from` in each schedule of the bounds; none exactly where they
     /// have no schedule. It fails only if memory runs out.
     pub fn is_within(&mut self, from: Event, to: Event, most: i64) -> Result<Option<bool>, Memory>
@@ -104,9 +122,7 @@ impl<A: Allocator + Copy> Network<A> {
         ensures taken { IfOk result (λ found. MatchOption found (¬ HasSchedule self.old.bounds) (IsTaken self.old.bounds from to)) }
         ensures same { self.new ≡ self.old }
     {
-        let bounds = Listed::new(Direction::Forward, &self.bounds, &[]);
-        self.rows.add(&bounds)?;
-        if !self.latest.go_on(&bounds, &self.rows.outgoing) {
+        if !extend(self.events, &self.bounds, &mut self.rows, &mut self.latest)? {
             self.latest.fresh.fill(true);
             return Ok(None);
         }
@@ -121,14 +137,40 @@ impl<A: Allocator + Copy> Network<A> {
         ensures found { IfOk result (λ found. MatchOption found (¬ HasSchedule self.old.bounds) (IsTightest self.old.bounds from to)) }
         ensures same { self.new ≡ self.old }
     {
-        let bounds = Listed::new(Direction::Forward, &self.bounds, &[]);
-        self.rows.add(&bounds)?;
-        if !self
-            .search
-            .find(self.events, &bounds, &self.rows.outgoing, from)
-        {
+        self.rows.add(&self.bounds, &[])?;
+        let graph = Graph::new(
+            Direction::Forward,
+            self.events,
+            &self.bounds,
+            &[],
+            &self.rows.outgoing,
+        );
+        if !self.search.find(&graph, from) {
             return Ok(None);
         }
         Ok(Some(self.search.far[usize::from(to.number())]))
     }
+}
+
+// Takes the links of the bounds that the rows don't have yet into the search for how late each event can come; whether the
+// bounds have a schedule.
+fn extend<A: Allocator + Copy>(
+    events: u16,
+    bounds: &[Bound],
+    rows: &mut Rows<A>,
+    latest: &mut Search<A>,
+) -> Result<bool, Memory>
+    requires named { All (NamesAmong (events + 1)) bounds.now }
+    requires rows { AreFirstRows bounds.now (events + 1) rows.old }
+    requires late { IsSearch bounds.now 0 (events + 1) latest.old }
+    requires relaxed { IsRelaxedBut bounds.now latest.old.far.items latest.old.fresh.items }
+    ensures rows { AreFirstRows bounds.now (events + 1) rows.new }
+    ensures late { IsSearch bounds.now 0 (events + 1) latest.new }
+    ensures possible { IfOk result (λ fits. IsTrue fits ↔ HasSchedule bounds.now) }
+    ensures distances { IfOk result (λ fits. IsTrue fits → AreDistances bounds.now 0 latest.new.far.items) }
+    ensures err { OnErr result (latest.new ≡ latest.old) }
+{
+    rows.add(bounds, &[])?;
+    let graph = Graph::new(Direction::Forward, events, bounds, &[], &rows.outgoing);
+    Ok(latest.go_on(&graph))
 }

@@ -1,13 +1,11 @@
 ghost use Rattle.std.specs.Prelude.{◌≡◌, ◌+◌, ◌↔◌, ◌≤◌, ◌++◌, take, All, IsNone, IfOk, IfSome};
-ghost use Rattle.stn_net.specs.Event.{most_events};
-ghost use Rattle.stn_net.specs.Difference.{NamesEvents};
-ghost use Rattle.stn_net.specs.Schedule.{HasSchedule};
-ghost use Rattle.stn_net.specs.Horizon.{horizon_bounds};
+ghost use Rattle.stn_net.specs.{Event.most_events, Difference.NamesEvents, Schedule.HasSchedule, Horizon.horizon_bounds};
 ghost use Rattle.stn_conflict.specs.Distances.{AreDistancesFrom, AreDistancesTo};
 
+use crate::graph::{Direction, Graph};
 use crate::links::Distances;
-use crate::listed::{Direction, Listed};
-use crate::relaxation::{Search, outgoing_links};
+use crate::outgoing::Rows;
+use crate::relaxation::Search;
 use std::alloc::Allocator;
 use stn_net::{Bound, Event};
 use stn_time::Memory;
@@ -34,13 +32,13 @@ pub fn distances<A: Allocator + Copy>(
     ensures to { IfOk result (λ found. IfSome found
         (λ distances. AreDistancesTo (base.now ++ extra.now) events event distances.to.items)) }
 {
-    let onward = Listed::new(Direction::Forward, base, extra);
-    let back = Listed::new(Direction::Backward, base, extra);
-    let outgoing = outgoing_links(alloc, events, &onward)?;
-    let Some(from) = Search::found(alloc, events, &onward, &outgoing, event)? else {
+    let rows = Rows::of(alloc, events, base, extra)?;
+    let onward = Graph::new(Direction::Forward, events, base, extra, &rows.outgoing);
+    let back = Graph::new(Direction::Backward, events, base, extra, &rows.outgoing);
+    let Some(from) = Search::found(alloc, &onward, event)? else {
         return Ok(None);
     };
-    let Some(to) = Search::found(alloc, events, &back, &outgoing, event)? else {
+    let Some(to) = Search::found(alloc, &back, event)? else {
         return Ok(None);
     };
     Ok(Some(Distances {

@@ -6,16 +6,13 @@
 // the event.
 
 ghost use Rattle.std.specs.Prelude.{◌≡◌, ◌+◌, ◌<◌, ◌≤◌, ◌↔◌, ℕ, false, length, All, IsTrue, IsErr, IsOk, IfOk, IfSome, IfNone, OnOk, MatchOption, List};
-ghost use Rattle.std.specs.List.{Contains};
-ghost use Rattle.stn_net.specs.Event.{most_events};
-ghost use Rattle.stn_net.specs.Difference.{Difference, NamesEvents};
-ghost use Rattle.stn_net.specs.Schedule.{HasSchedule};
-ghost use Rattle.stn_conflict.specs.Relaxation.{AreRows, NamesAmong, AreEstimates, AreDistances, AreRelaxed, IsRelaxedBut, IsRelaxedOf, IsNetwork, IsSearch, KeepsRelaxed, HasTables, IsArcTo, room};
+ghost use Rattle.stn_net.specs.{Event.most_events, Difference.Difference, Schedule.HasSchedule};
+ghost use Rattle.stn_conflict.specs.{Arcs.arc_of, Relaxation.{NamesAmong, AreEstimates, AreDistances, AreRelaxed, IsRelaxedBut, IsRelaxedOf, IsNetwork, IsSearch, KeepsRelaxed, HasTables, IsArcTo, IsLookOf, room}};
 ghost use Rattle.stn_time.specs.Time.{horizon};
 
+use crate::graph::{Arc, Graph};
 use crate::links::Link;
-use crate::listed::{Arc, Listed};
-use crate::outgoing::Rows;
+use crate::outgoing::Look;
 use std::alloc::Allocator;
 use stn_net::Event;
 use stn_time::{HORIZON, Memory, Ms};
@@ -28,20 +25,6 @@ pub(crate) fn horizon() -> Ms
     ensures { result ≡ horizon }
 {
     Ms::new(HORIZON).unwrap()
-}
-
-// The links of the bounds by the event at which they begin, in their order.
-pub(crate) fn outgoing_links<A: Allocator + Copy>(
-    alloc: A,
-    events: u16,
-    bounds: &Listed<'_>,
-) -> Result<Vec<Vec<Link, A>, A>, Memory>
-    requires { All (NamesEvents events) bounds.now }
-    ensures { IfOk result (λ outgoing. AreRows bounds.now (events + 1) outgoing.items) }
-{
-    let mut rows = Rows::new(alloc, events)?;
-    rows.add(bounds)?;
-    Ok(rows.outgoing)
 }
 
 // A search for the distances from an event.
@@ -71,23 +54,30 @@ impl<A: Allocator + Copy> Search<A> {
         })
     }
 
-    // A search that has found the distances from an event, or none where the bounds have no schedule.
-    pub fn found(
-        alloc: A,
-        events: u16,
-        bounds: &Listed<'_>,
-        outgoing: &[Vec<Link, A>],
-        start: Event,
-    ) -> Result<Option<Search<A>>, Memory>
-        requires few { events ≤ most_events }
-        requires network { IsNetwork events bounds.now }
-        requires rows { AreRows bounds.now (events + 1) outgoing.now }
-        requires start { start ≤ events }
-        ensures { IfOk result (λ found. MatchOption found (¬ HasSchedule bounds.now)
-            (λ search. HasTables (events + 1) search × AreDistances bounds.now start search.far.items)) }
+    // The estimates of another search among as many events, and what is fresh among them.
+    pub fn copy_from(&mut self, other: &Search<A>)
+        requires tables { HasTables (length other.now.far.items) self.old }
+        requires other { HasTables (length other.now.far.items) other.now }
+        ensures tables { HasTables (length other.now.far.items) self.new }
+        ensures start { self.new.start ≡ other.now.start }
+        ensures far { self.new.far.items ≡ other.now.far.items }
+        ensures fresh { self.new.fresh.items ≡ other.now.fresh.items }
     {
-        let mut search = Search::new(alloc, usize::from(events) + 1)?;
-        if search.find(events, bounds, outgoing, start) {
+        self.start = other.start;
+        self.far.copy_from_slice(&other.far);
+        self.fresh.copy_from_slice(&other.fresh);
+    }
+
+    // A search that has found the distances from an event, or none where the bounds have no schedule.
+    pub fn found(alloc: A, graph: &Graph<'_, A>, start: Event) -> Result<Option<Search<A>>, Memory>
+        requires few { graph.now.events ≤ most_events }
+        requires network { IsNetwork graph.now.events graph.now.bounds }
+        requires start { start ≤ graph.now.events }
+        ensures { IfOk result (λ found. MatchOption found (¬ HasSchedule graph.now.bounds)
+            (λ search. HasTables (graph.now.events + 1) search × AreDistances graph.now.bounds start search.far.items)) }
+    {
+        let mut search = Search::new(alloc, graph.count())?;
+        if search.find(graph, start) {
             Ok(Some(search))
         } else {
             Ok(None)
@@ -96,23 +86,16 @@ impl<A: Allocator + Copy> Search<A> {
 
     // Finds the distances from an event, and answers true; false exactly where the bounds have no schedule.
     #[tactic(auto, using(crate::proofs::Searches::tables_of))]
-    pub fn find(
-        &mut self,
-        events: u16,
-        bounds: &Listed<'_>,
-        outgoing: &[Vec<Link, A>],
-        start: Event,
-    ) -> bool
-        requires tables { HasTables (events + 1) self.old }
-        requires network { IsNetwork events bounds.now }
-        requires rows { AreRows bounds.now (events + 1) outgoing.now }
-        requires start { start ≤ events }
-        ensures tables { HasTables (events + 1) self.new }
-        ensures possible { IsTrue result ↔ HasSchedule bounds.now }
-        ensures distances { IsTrue result → AreDistances bounds.now start self.new.far.items }
+    pub fn find(&mut self, graph: &Graph<'_, A>, start: Event) -> bool
+        requires tables { HasTables (graph.now.events + 1) self.old }
+        requires network { IsNetwork graph.now.events graph.now.bounds }
+        requires start { start ≤ graph.now.events }
+        ensures tables { HasTables (graph.now.events + 1) self.new }
+        ensures possible { IsTrue result ↔ HasSchedule graph.now.bounds }
+        ensures distances { IsTrue result → AreDistances graph.now.bounds start self.new.far.items }
     {
         self.begin(start);
-        self.settle(bounds, outgoing)
+        self.settle(graph)
     }
 
     // Begins again from an event, with the estimates that the horizon allows.
@@ -132,48 +115,41 @@ impl<A: Allocator + Copy> Search<A> {
     // Lowers the estimates until they are the distances, and answers true; false exactly where the bounds, of which the
     // rows have all links, have no schedule.
     #[tactic(auto, using(crate::proofs::Relaxing::all_fresh, crate::proofs::Searches::from_ok))]
-    pub fn settle(&mut self, bounds: &Listed<'_>, outgoing: &[Vec<Link, A>]) -> bool
-        requires search { IsSearch bounds.now self.old.start (length self.old.far.items) self.old }
-        requires rows { AreRows bounds.now (length self.old.far.items) outgoing.now }
-        ensures search { IsSearch bounds.now self.old.start (length self.old.far.items) self.new }
-        ensures possible { IsTrue result ↔ HasSchedule bounds.now }
-        ensures distances { IsTrue result → AreDistances bounds.now self.old.start self.new.far.items }
+    pub fn settle(&mut self, graph: &Graph<'_, A>) -> bool
+        requires search { IsSearch graph.now.bounds self.old.start (graph.now.events + 1) self.old }
+        ensures search { IsSearch graph.now.bounds self.old.start (graph.now.events + 1) self.new }
+        ensures possible { IsTrue result ↔ HasSchedule graph.now.bounds }
+        ensures distances { IsTrue result → AreDistances graph.now.bounds self.old.start self.new.far.items }
     {
         self.fresh.fill(true);
-        self.relax_until_met(bounds, outgoing).is_ok()
+        self.relax_until_met(graph).is_ok()
     }
 
     // The same, where each link from an event whose estimate is not fresh is met already.
     #[tactic(auto, using(crate::proofs::Searches::from_ok))]
-    pub fn go_on(&mut self, bounds: &Listed<'_>, outgoing: &[Vec<Link, A>]) -> bool
-        requires search { IsSearch bounds.now self.old.start (length self.old.far.items) self.old }
-        requires rows { AreRows bounds.now (length self.old.far.items) outgoing.now }
-        requires relaxed { IsRelaxedBut bounds.now self.old.far.items self.old.fresh.items }
-        ensures search { IsSearch bounds.now self.old.start (length self.old.far.items) self.new }
-        ensures possible { IsTrue result ↔ HasSchedule bounds.now }
-        ensures distances { IsTrue result → AreDistances bounds.now self.old.start self.new.far.items }
+    pub fn go_on(&mut self, graph: &Graph<'_, A>) -> bool
+        requires search { IsSearch graph.now.bounds self.old.start (graph.now.events + 1) self.old }
+        requires relaxed { IsRelaxedBut graph.now.bounds self.old.far.items self.old.fresh.items }
+        ensures search { IsSearch graph.now.bounds self.old.start (graph.now.events + 1) self.new }
+        ensures possible { IsTrue result ↔ HasSchedule graph.now.bounds }
+        ensures distances { IsTrue result → AreDistances graph.now.bounds self.old.start self.new.far.items }
     {
-        self.relax_until_met(bounds, outgoing).is_ok()
+        self.relax_until_met(graph).is_ok()
     }
 
     // Relaxes the links from events with fresh estimates, back and forth through the events, until there is none; where
     // links that lowered estimates lead round, this would never end.
     #[tactic(auto, using(crate::proofs::Searches::own, crate::proofs::Searches::goes_on, crate::proofs::Searches::tables_of))]
-    fn relax_until_met(
-        &mut self,
-        bounds: &Listed<'_>,
-        outgoing: &[Vec<Link, A>],
-    ) -> Result<(), NoSchedule>
-        requires search { IsSearch bounds.now self.old.start (length self.old.far.items) self.old }
-        requires rows { AreRows bounds.now (length self.old.far.items) outgoing.now }
-        requires relaxed { IsRelaxedBut bounds.now self.old.far.items self.old.fresh.items }
-        ensures search { IsSearch bounds.now self.old.start (length self.old.far.items) self.new }
-        ensures possible { IsOk result ↔ HasSchedule bounds.now }
-        ensures distances { OnOk result (AreDistances bounds.now self.old.start self.new.far.items) }
+    fn relax_until_met(&mut self, graph: &Graph<'_, A>) -> Result<(), NoSchedule>
+        requires search { IsSearch graph.now.bounds self.old.start (graph.now.events + 1) self.old }
+        requires relaxed { IsRelaxedBut graph.now.bounds self.old.far.items self.old.fresh.items }
+        ensures search { IsSearch graph.now.bounds self.old.start (graph.now.events + 1) self.new }
+        ensures possible { IsOk result ↔ HasSchedule graph.now.bounds }
+        ensures distances { OnOk result (AreDistances graph.now.bounds self.old.start self.new.far.items) }
     {
-        let mut onward = bounds.first_onward();
-        while let Some(event) = self.sweep(bounds, outgoing, onward)? {
-            if self.goes_round(bounds, event) {
+        let mut onward = graph.first_onward();
+        while let Some(event) = self.sweep(graph, onward)? {
+            if self.goes_round(graph, event) {
                 return Err(NoSchedule);
             }
             onward = !onward;
@@ -184,62 +160,52 @@ impl<A: Allocator + Copy> Search<A> {
     // Relaxes the links from each event with a fresh estimate, in the events' order or against it; the last event whose
     // estimate was lowered. Where there is none, each link is met.
     #[tactic(auto, using(crate::proofs::Searches::goes_on))]
-    fn sweep(
-        &mut self,
-        bounds: &Listed<'_>,
-        outgoing: &[Vec<Link, A>],
-        onward: bool,
-    ) -> Result<Option<Event>, NoSchedule>
-        requires search { IsSearch bounds.now self.old.start (length self.old.far.items) self.old }
-        requires rows { AreRows bounds.now (length self.old.far.items) outgoing.now }
-        requires relaxed { IsRelaxedBut bounds.now self.old.far.items self.old.fresh.items }
-        ensures search { IsSearch bounds.now self.old.start (length self.old.far.items) self.new }
-        ensures refused { IsErr result → ¬ HasSchedule bounds.now }
-        ensures there { IfOk result (λ last. IfSome last (λ event. event < length self.old.far.items)) }
+    fn sweep(&mut self, graph: &Graph<'_, A>, onward: bool) -> Result<Option<Event>, NoSchedule>
+        requires search { IsSearch graph.now.bounds self.old.start (graph.now.events + 1) self.old }
+        requires relaxed { IsRelaxedBut graph.now.bounds self.old.far.items self.old.fresh.items }
+        ensures search { IsSearch graph.now.bounds self.old.start (graph.now.events + 1) self.new }
+        ensures refused { IsErr result → ¬ HasSchedule graph.now.bounds }
+        ensures there { IfOk result (λ last. IfSome last (λ event. event < graph.now.events + 1)) }
         ensures less { IfOk result (λ last. IfSome last (λ event. room self.new.far.items < room self.old.far.items)) }
-        ensures relaxed { OnOk result (IsRelaxedBut bounds.now self.new.far.items self.new.fresh.items) }
-        ensures met { IfOk result (λ last. IfNone last (AreRelaxed bounds.now self.new.far.items)) }
+        ensures relaxed { OnOk result (IsRelaxedBut graph.now.bounds self.new.far.items self.new.fresh.items) }
+        ensures met { IfOk result (λ last. IfNone last (AreRelaxed graph.now.bounds self.new.far.items)) }
     {
         let mut last = None;
-        for index in 0..outgoing.len() {
-            let event = if onward {
-                index
-            } else {
-                outgoing.len() - 1 - index
-            };
+        let count = graph.count();
+        for index in 0..count {
+            let event = if onward { index } else { count - 1 - index };
             if self.fresh[event] {
                 self.fresh[event] = false;
-                let found = self.relax_from(bounds, &outgoing[event])?;
+                let found = self.relax_from(graph, event)?;
                 last = found.or(last);
             }
         }
         Ok(last)
     }
 
-    // Relaxes these links, as far as they are links of the bounds; the last event whose estimate was lowered.
-    #[tactic(auto, using(crate::proofs::Searches::goes_on, std::proofs::lemmas::List::get_or_default))]
+    // Relaxes the links from an event; the last event whose estimate was lowered.
+    #[tactic(auto, using(crate::proofs::Searches::goes_on))]
     fn relax_from(
         &mut self,
-        bounds: &Listed<'_>,
-        links: &[Link],
+        graph: &Graph<'_, A>,
+        event: usize,
     ) -> Result<Option<Event>, NoSchedule>
-        requires { IsSearch bounds.now self.old.start (length self.old.far.items) self.old }
-        ensures search { IsSearch bounds.now self.old.start (length self.old.far.items) self.new }
-        ensures refused { IsErr result → ¬ HasSchedule bounds.now }
-        ensures there { IfOk result (λ last. IfSome last (λ event. event < length self.old.far.items)) }
+        requires search { IsSearch graph.now.bounds self.old.start (graph.now.events + 1) self.old }
+        requires event { event < graph.now.events + 1 }
+        ensures search { IsSearch graph.now.bounds self.old.start (graph.now.events + 1) self.new }
+        ensures refused { IsErr result → ¬ HasSchedule graph.now.bounds }
+        ensures there { IfOk result (λ last. IfSome last (λ lowered. lowered < graph.now.events + 1)) }
         ensures most { room self.new.far.items ≤ room self.old.far.items }
-        ensures less { IfOk result (λ last. IfSome last (λ event. room self.new.far.items < room self.old.far.items)) }
+        ensures less { IfOk result (λ last. IfSome last (λ lowered. room self.new.far.items < room self.old.far.items)) }
         ensures same { IfOk result (λ last. IfNone last (self.new.fresh.items ≡ self.old.fresh.items)) }
-        ensures kept { OnOk result (KeepsRelaxed bounds.now self.old self.new) }
-        ensures relaxed { OnOk result ((link : Link) → Contains links.now link → IsRelaxedOf bounds.now self.new link) }
+        ensures kept { OnOk result (KeepsRelaxed graph.now.bounds self.old self.new) }
+        ensures relaxed { OnOk result ((link : Link) → link.place < length graph.now.bounds → (arc_of graph.now.bounds link).from ≡ event
+            → IsRelaxedOf graph.now.bounds self.new link) }
     {
         let mut last = None;
-        for link in links {
-            if link.place >= bounds.len() {
-                continue;
-            }
-            if self.relax(bounds, *link)? {
-                last = Some(bounds.arc(*link).to);
+        for look in graph.row(event) {
+            if self.relax(graph, event, look)? {
+                last = Some(look.to);
             }
         }
         Ok(last)
@@ -247,48 +213,59 @@ impl<A: Allocator + Copy> Search<A> {
 
     // Lowers the estimate at the link's end to what the link allows, where that is less; whether it was.
     #[tactic(auto, using(crate::proofs::Tightness::link_among, std::proofs::lemmas::List::get_or_read, crate::proofs::Relaxing::relaxed_estimates))]
-    fn relax(&mut self, bounds: &Listed<'_>, link: Link) -> Result<bool, NoSchedule>
-        requires search { IsSearch bounds.now self.old.start (length self.old.far.items) self.old }
-        requires there { link.place < length bounds.now }
-        ensures search { IsSearch bounds.now self.old.start (length self.old.far.items) self.new }
-        ensures refused { IsErr result → ¬ HasSchedule bounds.now }
+    fn relax(&mut self, graph: &Graph<'_, A>, event: usize, look: &Look) -> Result<bool, NoSchedule>
+        requires search { IsSearch graph.now.bounds self.old.start (graph.now.events + 1) self.old }
+        requires look { IsLookOf graph.now event look.now }
+        ensures search { IsSearch graph.now.bounds self.old.start (graph.now.events + 1) self.new }
+        ensures refused { IsErr result → ¬ HasSchedule graph.now.bounds }
         ensures less { IfOk result (λ lower. IsTrue lower → room self.new.far.items < room self.old.far.items) }
         ensures same { IfOk result (λ lower. lower ≡ false → self.new ≡ self.old) }
-        ensures kept { OnOk result (KeepsRelaxed bounds.now self.old self.new) }
-        ensures relaxed { OnOk result (IsRelaxedOf bounds.now self.new link) }
+        ensures kept { OnOk result (KeepsRelaxed graph.now.bounds self.old self.new) }
+        ensures relaxed { OnOk result (IsRelaxedOf graph.now.bounds self.new look.now.link) }
         ensures err { IsErr result → self.new.far.items ≡ self.old.far.items }
     {
-        let arc = bounds.arc(link);
-        let end = usize::from(arc.to.number());
-        let way = self.far[usize::from(arc.from.number())].get() + arc.weight.get();
+        let end = usize::from(look.to.number());
+        let way = self.far[event].get() + graph.weight(look).get();
         if self.far[end].get() <= way {
             return Ok(false);
         }
-        if arc.to == self.start {
+        if look.to == self.start {
             return Err(NoSchedule);
         }
         let Some(lower) = Ms::new(way) else {
             return Err(NoSchedule);
         };
         self.far[end] = lower;
-        self.by[end] = Some(link);
+        self.by[end] = Some(look.link);
         self.fresh[end] = true;
         Ok(true)
     }
 
     // Whether the links that lowered the estimates last lead back from an event to a cycle with a negative sum: no
     // schedule meets its bounds.
-    fn goes_round(&self, bounds: &Listed<'_>, from: Event) -> bool
+    fn goes_round(&self, graph: &Graph<'_, A>, from: Event) -> bool
         requires tables { HasTables (length self.now.far.items) self.now }
-        requires named { All (NamesAmong (length self.now.far.items)) bounds.now }
+        requires named { All (NamesAmong (length self.now.far.items)) graph.now.bounds }
         requires from { from < length self.now.far.items }
-        ensures { IsTrue result → ¬ HasSchedule bounds.now }
+        ensures { IsTrue result → ¬ HasSchedule graph.now.bounds }
     {
-        let start = self.far_back(bounds, from);
+        match self.far_back(graph, from) {
+            Some(event) => self.comes_back(graph, event),
+            None => false,
+        }
+    }
+
+    // Whether they lead from an event back to it, with a negative sum.
+    fn comes_back(&self, graph: &Graph<'_, A>, start: Event) -> bool
+        requires tables { HasTables (length self.now.far.items) self.now }
+        requires named { All (NamesAmong (length self.now.far.items)) graph.now.bounds }
+        requires start { start < length self.now.far.items }
+        ensures { IsTrue result → ¬ HasSchedule graph.now.bounds }
+    {
         let mut here = start;
         let mut sum = 0;
         for _ in 0..self.by.len() {
-            let Some(arc) = self.lowered_by(bounds, here) else {
+            let Some(arc) = self.lowered_by(graph, here) else {
                 return false;
             };
             sum += arc.weight.get();
@@ -300,33 +277,31 @@ impl<A: Allocator + Copy> Search<A> {
         false
     }
 
-    // The event from which the last links lead, after so many of them as there are events.
-    fn far_back(&self, bounds: &Listed<'_>, from: Event) -> Event
+    // The event from which the last links lead, after so many of them as there are events; none where they end before.
+    fn far_back(&self, graph: &Graph<'_, A>, from: Event) -> Option<Event>
         requires tables { HasTables (length self.now.far.items) self.now }
-        requires named { All (NamesAmong (length self.now.far.items)) bounds.now }
+        requires named { All (NamesAmong (length self.now.far.items)) graph.now.bounds }
         requires from { from < length self.now.far.items }
-        ensures { result < length self.now.far.items }
+        ensures { IfSome result (λ event. event < length self.now.far.items) }
     {
         let mut here = from;
         for _ in 0..self.by.len() {
-            if let Some(arc) = self.lowered_by(bounds, here) {
-                here = arc.from;
-            }
+            here = self.lowered_by(graph, here)?.from;
         }
-        here
+        Some(here)
     }
 
     // What the link says that lowered the event's estimate last, where it is a link of the bounds to the event.
-    fn lowered_by(&self, bounds: &Listed<'_>, event: Event) -> Option<Arc>
+    fn lowered_by(&self, graph: &Graph<'_, A>, event: Event) -> Option<Arc>
         requires tables { HasTables (length self.now.far.items) self.now }
         requires event { event < length self.now.far.items }
-        ensures arc { IfSome result (λ arc. IsArcTo bounds.now event arc.from arc.weight) }
+        ensures arc { IfSome result (λ arc. IsArcTo graph.now.bounds event arc.from arc.weight) }
     {
         let link = self.by[usize::from(event.number())]?;
-        if link.place >= bounds.len() {
+        if link.place >= graph.len() {
             return None;
         }
-        let arc = bounds.arc(link);
+        let arc = graph.arc(link);
         (arc.to == event).then_some(arc)
     }
 }

@@ -1,18 +1,12 @@
 ghost use Rattle.std.specs.Prelude.{◌≡◌, ◌+◌, ◌<◌, ◌≤◌, ◌↔◌, ◌≤ℤ◌, neg_ℤ, pos, ◌*ℤ◌, ◌++◌, length, take, All, IsNone, IfOk, IfSome, MatchOption};
 ghost use Rattle.stn_time.specs.Time.{horizon};
-ghost use Rattle.stn_net.specs.Event.{most_events};
-ghost use Rattle.stn_net.specs.Difference.{NamesEvents};
-ghost use Rattle.stn_net.specs.Schedule.{HasSchedule};
-ghost use Rattle.stn_net.specs.Horizon.{horizon_bounds};
-ghost use Rattle.stn_conflict.specs.Arcs.{arc, bound_at, weight_of, IsNegativeCycle};
-ghost use Rattle.stn_conflict.specs.Culprit.{IsRefusedSide};
-ghost use Rattle.stn_conflict.specs.Relaxation.{AreDistances, AreEstimates, AreRows, HasTables, IsNetwork};
-ghost use Rattle.stn_conflict.specs.Named.{IsNamedCycle};
-ghost use Rattle.stn_conflict.specs.Search.{IsCycleOf, IsFirstRefused};
+ghost use Rattle.stn_net.specs.{Event.most_events, Difference.NamesEvents, Schedule.HasSchedule, Horizon.horizon_bounds};
+ghost use Rattle.stn_conflict.specs.{Arcs.{arc, bound_at, weight_of, IsNegativeCycle}, Culprit.IsRefusedSide, Relaxation.{AreDistances, AreEstimates, HasTables, IsNetwork}, Named.IsNamedCycle, Search.{IsCycleOf, IsFirstRefused}};
 
+use crate::graph::{Direction, Graph};
 use crate::links::{Cycle, Link, Side};
-use crate::listed::{Direction, Listed};
-use crate::relaxation::{Search, outgoing_links};
+use crate::outgoing::Rows;
+use crate::relaxation::Search;
 use crate::ways::way_back;
 use std::alloc::Allocator;
 use stn_net::{Bound, Event};
@@ -47,26 +41,22 @@ pub fn cycle<A: Allocator + Copy>(
     ensures short { IfOk result (λ found. IfSome found
         (λ cycle. length cycle.links.items ≤ events + 1)) }
 {
-    let bounds = Listed::new(Direction::Forward, base, extra);
-    cycle_of(alloc, events, &bounds)
+    let rows = Rows::of(alloc, events, base, extra)?;
+    let graph = Graph::new(Direction::Forward, events, base, extra, &rows.outgoing);
+    cycle_of(alloc, &graph)
 }
 
 // The named cycle of the bounds, or none where they have a schedule.
-fn cycle_of<A: Allocator + Copy>(
-    alloc: A,
-    events: u16,
-    bounds: &Listed<'_>,
-) -> Result<Option<Cycle<A>>, Memory>
-    requires few { events ≤ most_events }
-    requires begins { take events bounds.now ≡ horizon_bounds events }
-    requires named { All (NamesEvents events) bounds.now }
-    ensures { IfOk result (λ found. MatchOption found (HasSchedule bounds.now)
-        (λ cycle. IsCycleOf bounds.now events cycle.links.items cycle.sum)) }
+fn cycle_of<A: Allocator + Copy>(alloc: A, graph: &Graph<'_, A>) -> Result<Option<Cycle<A>>, Memory>
+    requires few { graph.now.events ≤ most_events }
+    requires begins { take graph.now.events graph.now.bounds ≡ horizon_bounds graph.now.events }
+    requires named { All (NamesEvents graph.now.events) graph.now.bounds }
+    ensures { IfOk result (λ found. MatchOption found (HasSchedule graph.now.bounds)
+        (λ cycle. IsCycleOf graph.now.bounds graph.now.events cycle.links.items cycle.sum)) }
 {
-    let outgoing = outgoing_links(alloc, events, bounds)?;
-    let mut search = Search::new(alloc, usize::from(events) + 1)?;
-    match first_refused(alloc, events, bounds, &outgoing, &mut search)? {
-        Some(place) => Ok(Some(named(alloc, events, bounds, &outgoing, &mut search, place)?)),
+    let mut search = Search::new(alloc, graph.count())?;
+    match first_refused(alloc, graph, &mut search)? {
+        Some(place) => Ok(Some(named(alloc, graph, &mut search, place)?)),
         None => Ok(None),
     }
 }
@@ -76,52 +66,46 @@ fn cycle_of<A: Allocator + Copy>(
 #[tactic(auto, using(crate::proofs::Searches::tables_of))]
 fn first_refused<A: Allocator + Copy>(
     alloc: A,
-    events: u16,
-    bounds: &Listed<'_>,
-    outgoing: &[Vec<Link, A>],
+    graph: &Graph<'_, A>,
     search: &mut Search<A>,
 ) -> Result<Option<usize>, Memory>
-    requires begins { take events bounds.now ≡ horizon_bounds events }
-    requires named { All (NamesEvents events) bounds.now }
-    requires rows { AreRows bounds.now (events + 1) outgoing.now }
-    requires tables { HasTables (events + 1) search.old }
-    ensures found { IfOk result (λ found. MatchOption found (HasSchedule bounds.now)
-        (IsFirstRefused bounds.now events)) }
-    ensures tables { HasTables (events + 1) search.new }
+    requires begins { take graph.now.events graph.now.bounds ≡ horizon_bounds graph.now.events }
+    requires named { All (NamesEvents graph.now.events) graph.now.bounds }
+    requires tables { HasTables (graph.now.events + 1) search.old }
+    ensures found { IfOk result (λ found. MatchOption found (HasSchedule graph.now.bounds)
+        (IsFirstRefused graph.now.bounds graph.now.events)) }
+    ensures tables { HasTables (graph.now.events + 1) search.new }
 {
     search.begin(Event::origin());
     let mut known = Vec::from_slice(alloc, &search.far)?;
-    if search.settle(bounds, outgoing) {
+    if search.settle(graph) {
         return Ok(None);
     }
-    Ok(Some(first_between(events, bounds, outgoing, search, &mut known)))
+    Ok(Some(first_between(graph, search, &mut known)))
 }
 
 // The same place, where the bounds have no schedule, and `known` has estimates for the horizon bounds.
 #[tactic(auto, using(crate::proofs::Known::more_than_known))]
 fn first_between<A: Allocator + Copy>(
-    events: u16,
-    bounds: &Listed<'_>,
-    outgoing: &[Vec<Link, A>],
+    graph: &Graph<'_, A>,
     search: &mut Search<A>,
     known: &mut [Ms],
 ) -> usize
-    requires begins { take events bounds.now ≡ horizon_bounds events }
-    requires named { All (NamesEvents events) bounds.now }
-    requires rows { AreRows bounds.now (events + 1) outgoing.now }
-    requires tables { HasTables (events + 1) search.old }
-    requires known { AreEstimates (take events bounds.now) search.old.start known.old }
-    requires long { length known.old ≡ events + 1 }
-    requires none { ¬ HasSchedule bounds.now }
-    ensures first { IsFirstRefused bounds.now events result }
-    ensures tables { HasTables (events + 1) search.new }
+    requires begins { take graph.now.events graph.now.bounds ≡ horizon_bounds graph.now.events }
+    requires named { All (NamesEvents graph.now.events) graph.now.bounds }
+    requires tables { HasTables (graph.now.events + 1) search.old }
+    requires known { AreEstimates (take graph.now.events graph.now.bounds) search.old.start known.old }
+    requires long { length known.old ≡ graph.now.events + 1 }
+    requires none { ¬ HasSchedule graph.now.bounds }
+    ensures first { IsFirstRefused graph.now.bounds graph.now.events result }
+    ensures tables { HasTables (graph.now.events + 1) search.new }
 {
-    let mut low = usize::from(events);
-    let mut high = bounds.len();
+    let mut low = graph.count() - 1;
+    let mut high = graph.len();
     while high - low > 1 {
         let middle = low + (high - low) / 2;
         search.far.copy_from_slice(known);
-        if search.settle(&bounds.before(middle), outgoing) {
+        if search.settle(&graph.before(middle)) {
             known.copy_from_slice(&search.far);
             low = middle;
         } else {
@@ -134,30 +118,27 @@ fn first_between<A: Allocator + Copy>(
 // The side of the bound at a place that the bounds before it refuse; the search then has the distances over these
 // from the event at which the side's link ends.
 fn refused_side<A: Allocator + Copy>(
-    events: u16,
-    bounds: &Listed<'_>,
-    outgoing: &[Vec<Link, A>],
+    graph: &Graph<'_, A>,
     search: &mut Search<A>,
     place: usize,
 ) -> Side
-    requires network { IsNetwork events (take place bounds.now) }
-    requires rows { AreRows bounds.now (events + 1) outgoing.now }
-    requires tables { HasTables (events + 1) search.old }
-    requires there { place < length bounds.now }
-    requires named { NamesEvents events (bound_at bounds.now place) }
-    requires possible { HasSchedule (take place bounds.now) }
-    ensures side { IsRefusedSide (take place bounds.now) (bound_at bounds.now place) result }
-    ensures tables { HasTables (events + 1) search.new }
-    ensures distances { AreDistances (take place bounds.now) (arc (bound_at bounds.now place) result).to search.new.far.items }
+    requires network { IsNetwork graph.now.events (take place graph.now.bounds) }
+    requires tables { HasTables (graph.now.events + 1) search.old }
+    requires there { place < length graph.now.bounds }
+    requires named { NamesEvents graph.now.events (bound_at graph.now.bounds place) }
+    requires possible { HasSchedule (take place graph.now.bounds) }
+    ensures side { IsRefusedSide (take place graph.now.bounds) (bound_at graph.now.bounds place) result }
+    ensures tables { HasTables (graph.now.events + 1) search.new }
+    ensures distances { AreDistances (take place graph.now.bounds) (arc (bound_at graph.now.bounds place) result).to search.new.far.items }
 {
-    let before = bounds.before(place);
+    let before = graph.before(place);
     let side = Side::Upper;
-    let upper = bounds.arc(Link { place, side });
-    search.find(events, &before, outgoing, upper.to);
+    let upper = graph.arc(Link { place, side });
+    search.find(&before, upper.to);
     if search.far[usize::from(upper.from.number())].get() + upper.weight.get() < 0 {
         return side;
     }
-    search.find(events, &before, outgoing, upper.from);
+    search.find(&before, upper.from);
     Side::Lower
 }
 
@@ -165,24 +146,21 @@ fn refused_side<A: Allocator + Copy>(
 #[tactic(auto, using(crate::proofs::Tightness::link_among, crate::proofs::Relaxing::among_events))]
 fn named<A: Allocator + Copy>(
     alloc: A,
-    events: u16,
-    bounds: &Listed<'_>,
-    outgoing: &[Vec<Link, A>],
+    graph: &Graph<'_, A>,
     search: &mut Search<A>,
     place: usize,
 ) -> Result<Cycle<A>, Memory>
-    requires begins { take events bounds.now ≡ horizon_bounds events }
-    requires named { All (NamesEvents events) bounds.now }
-    requires rows { AreRows bounds.now (events + 1) outgoing.now }
-    requires tables { HasTables (events + 1) search.old }
-    requires first { IsFirstRefused bounds.now events place }
-    ensures { IfOk result (λ cycle. IsCycleOf bounds.now events cycle.links.items cycle.sum) }
+    requires begins { take graph.now.events graph.now.bounds ≡ horizon_bounds graph.now.events }
+    requires named { All (NamesEvents graph.now.events) graph.now.bounds }
+    requires tables { HasTables (graph.now.events + 1) search.old }
+    requires first { IsFirstRefused graph.now.bounds graph.now.events place }
+    ensures { IfOk result (λ cycle. IsCycleOf graph.now.bounds graph.now.events cycle.links.items cycle.sum) }
 {
-    let side = refused_side(events, bounds, outgoing, search, place);
+    let side = refused_side(graph, search, place);
     let link = Link { place, side };
-    let arc = bounds.arc(link);
-    let before = bounds.before(place);
-    let mut links = way_back(alloc, &before, outgoing, &search.far, arc.to, arc.from)?;
+    let arc = graph.arc(link);
+    let before = graph.before(place);
+    let mut links = way_back(alloc, &before, &search.far, arc.to, arc.from)?;
     links.push(link)?;
     links.reverse();
     Ok(Cycle {

@@ -1,16 +1,10 @@
 ghost use Rattle.std.specs.Prelude.{◌≡◌, ◌+◌, ◌≤◌, ◌++◌, neg_ℤ, ℤ, List, length, map, take, All, IfOk, OnOk, MatchOption};
-ghost use Rattle.stn_net.specs.Difference.{Difference, NamesEvents};
-ghost use Rattle.stn_net.specs.Event.{most_events};
-ghost use Rattle.stn_net.specs.Horizon.{horizon_bounds};
-ghost use Rattle.stn_net.specs.Schedule.{HasSchedule, times_of};
-ghost use Rattle.stn_net.specs.Windows.Dispatch.{CanWaitUntil};
-ghost use Rattle.stn_net.specs.Windows.Leading.{AreFloorsBelow};
-ghost use Rattle.stn_net.specs.Windows.Soonest.{AreEarliest, AreLatest, AreSoonest};
-ghost use Rattle.stn_conflict.specs.Distances.{AreDistancesFrom};
-ghost use Rattle.stn_conflict.specs.Relaxation.{IsNetwork};
+ghost use Rattle.stn_net.specs.{Difference.{Difference, NamesEvents}, Event.most_events, Horizon.horizon_bounds, Schedule.{HasSchedule, times_of}, Windows.{Dispatch.CanWaitUntil, Leading.AreFloorsBelow, Soonest.{AreEarliest, AreLatest, AreSoonest}}};
+ghost use Rattle.stn_conflict.specs.{Directions.facing, Distances.AreDistancesFrom, Relaxation.IsNetwork};
 
-use crate::listed::{Direction, Listed};
-use crate::relaxation::{Search, horizon, outgoing_links};
+use crate::graph::{Direction, Graph};
+use crate::outgoing::Rows;
+use crate::relaxation::{Search, horizon};
 use std::alloc::Allocator;
 use stn_net::{Bound, Event, is_left};
 use stn_time::{Memory, Ms};
@@ -32,8 +26,7 @@ pub fn earliest<A: Allocator + Copy>(
     ensures { IfOk result (λ found. MatchOption found (¬ HasSchedule (base.now ++ extra.now))
         (λ times. (length times.items ≡ events + 1) × AreEarliest (base.now ++ extra.now) events (times_of times.items))) }
 {
-    let back = Listed::new(Direction::Backward, base, extra);
-    match from_origin(alloc, events, &back)? {
+    match from_origin(alloc, Direction::Backward, events, base, extra)? {
         Some(far) => Ok(Some(opposite(alloc, &far)?)),
         None => Ok(None),
     }
@@ -53,8 +46,7 @@ pub fn latest<A: Allocator + Copy>(
     ensures { IfOk result (λ found. MatchOption found (¬ HasSchedule (base.now ++ extra.now))
         (λ times. (length times.items ≡ events + 1) × AreLatest (base.now ++ extra.now) events (times_of times.items))) }
 {
-    let onward = Listed::new(Direction::Forward, base, extra);
-    from_origin(alloc, events, &onward)
+    from_origin(alloc, Direction::Forward, events, base, extra)
 }
 
 /// The soonest times of all events from now on, where each event that is not done counts as left; none
@@ -80,20 +72,24 @@ pub fn soonest<A: Allocator + Copy>(
     earliest(alloc, events, base, &above)
 }
 
-// How long after the origin each event can come at the most; none exactly where the bounds have no
-// schedule.
+// How long after the origin each event can come at the most, by the bounds or by the bounds turned round; none exactly where
+// the bounds have no schedule.
 fn from_origin<A: Allocator + Copy>(
     alloc: A,
+    direction: Direction,
     events: u16,
-    bounds: &Listed<'_>,
+    base: &[Bound],
+    extra: &[Bound],
 ) -> Result<Option<Vec<Ms, A>>, Memory>
     requires few { events ≤ most_events }
-    requires network { IsNetwork events bounds.now }
-    ensures { IfOk result (λ found. MatchOption found (¬ HasSchedule bounds.now)
-        (λ far. AreDistancesFrom bounds.now events 0 far.items)) }
+    requires network { IsNetwork events (facing direction (base.now ++ extra.now)) }
+    requires named { All (NamesEvents events) (base.now ++ extra.now) }
+    ensures { IfOk result (λ found. MatchOption found (¬ HasSchedule (facing direction (base.now ++ extra.now)))
+        (λ far. AreDistancesFrom (facing direction (base.now ++ extra.now)) events 0 far.items)) }
 {
-    let outgoing = outgoing_links(alloc, events, bounds)?;
-    match Search::found(alloc, events, bounds, &outgoing, Event::origin())? {
+    let rows = Rows::of(alloc, events, base, extra)?;
+    let graph = Graph::new(direction, events, base, extra, &rows.outgoing);
+    match Search::found(alloc, &graph, Event::origin())? {
         Some(search) => Ok(Some(search.far)),
         None => Ok(None),
     }

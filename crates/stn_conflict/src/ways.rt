@@ -1,15 +1,12 @@
 ghost use Rattle.std.specs.Prelude.{◌≡◌, ◌+◌, ◌<◌, ◌≤◌, ◌↔◌, ◌++◌, length, take, reverse, All, IsNone, IfOk, IfSome, MatchOption};
-ghost use Rattle.stn_net.specs.Event.{most_events};
-ghost use Rattle.stn_net.specs.Difference.{NamesEvents};
-ghost use Rattle.stn_net.specs.Schedule.{HasSchedule};
-ghost use Rattle.stn_net.specs.Horizon.{horizon_bounds};
-ghost use Rattle.stn_conflict.specs.Relaxation.{AreDistances, AreRows, IsNetwork};
-ghost use Rattle.stn_conflict.specs.Named.{IsWay, IsWayOf};
+ghost use Rattle.stn_net.specs.{Event.most_events, Difference.NamesEvents, Schedule.HasSchedule, Horizon.horizon_bounds};
+ghost use Rattle.stn_conflict.specs.{Relaxation.{AreDistances, IsNetwork}, Named.{IsWay, IsWayOf}};
 
+use crate::graph::{Direction, Graph};
 use crate::levels::{first_step, levels_from};
 use crate::links::{BothWays, Link, Way};
-use crate::listed::{Direction, Listed};
-use crate::relaxation::{Search, outgoing_links};
+use crate::outgoing::Rows;
+use crate::relaxation::Search;
 use std::alloc::Allocator;
 use stn_net::{Bound, Event};
 use stn_time::{Memory, Ms};
@@ -38,12 +35,12 @@ pub fn both_ways<A: Allocator + Copy>(
     ensures back { IfOk result (λ found. IfSome found
         (λ both. IsWayOf (base.now ++ extra.now) to from (events + 1) both.back.links.items both.back.sum)) }
 {
-    let bounds = Listed::new(Direction::Forward, base, extra);
-    let outgoing = outgoing_links(alloc, events, &bounds)?;
-    let Some(onward) = way(alloc, events, &bounds, &outgoing, from, to)? else {
+    let rows = Rows::of(alloc, events, base, extra)?;
+    let graph = Graph::new(Direction::Forward, events, base, extra, &rows.outgoing);
+    let Some(onward) = way(alloc, &graph, from, to)? else {
         return Ok(None);
     };
-    let Some(back) = way(alloc, events, &bounds, &outgoing, to, from)? else {
+    let Some(back) = way(alloc, &graph, to, from)? else {
         return Ok(None);
     };
     Ok(Some(BothWays { onward, back }))
@@ -52,42 +49,38 @@ pub fn both_ways<A: Allocator + Copy>(
 // The way over the bounds, or none where they have no schedule.
 fn way<A: Allocator + Copy>(
     alloc: A,
-    events: u16,
-    bounds: &Listed<'_>,
-    outgoing: &[Vec<Link, A>],
+    graph: &Graph<'_, A>,
     from: Event,
     to: Event,
 ) -> Result<Option<Way<A>>, Memory>
-    requires few { events ≤ most_events }
-    requires network { IsNetwork events bounds.now }
-    requires rows { AreRows bounds.now (events + 1) outgoing.now }
-    requires from { from ≤ events }
-    requires to { to ≤ events }
-    ensures { IfOk result (λ found. MatchOption found (¬ HasSchedule bounds.now)
-        (λ way. IsWayOf bounds.now from to (events + 1) way.links.items way.sum)) }
+    requires few { graph.now.events ≤ most_events }
+    requires network { IsNetwork graph.now.events graph.now.bounds }
+    requires from { from ≤ graph.now.events }
+    requires to { to ≤ graph.now.events }
+    ensures { IfOk result (λ found. MatchOption found (¬ HasSchedule graph.now.bounds)
+        (λ way. IsWayOf graph.now.bounds from to (graph.now.events + 1) way.links.items way.sum)) }
 {
-    let Some(search) = Search::found(alloc, events, bounds, outgoing, from)? else {
+    let Some(search) = Search::found(alloc, graph, from)? else {
         return Ok(None);
     };
-    Ok(Some(way_to(alloc, bounds, outgoing, &search.far, from, to)?))
+    Ok(Some(way_to(alloc, graph, &search.far, from, to)?))
 }
 
 // The way from `start` to `end`, with its sum.
 fn way_to<A: Allocator + Copy>(
     alloc: A,
-    bounds: &Listed<'_>,
-    outgoing: &[Vec<Link, A>],
+    graph: &Graph<'_, A>,
     far: &[Ms],
     start: Event,
     end: Event,
 ) -> Result<Way<A>, Memory>
-    requires far { AreDistances bounds.now start far.now }
+    requires far { AreDistances graph.now.bounds start far.now }
     requires few { length far.now ≤ most_events + 1 }
-    requires rows { AreRows bounds.now (length far.now) outgoing.now }
+    requires whole { length far.now ≡ graph.now.events + 1 }
     requires end { end < length far.now }
-    ensures { IfOk result (λ way. IsWayOf bounds.now start end (length far.now) way.links.items way.sum) }
+    ensures { IfOk result (λ way. IsWayOf graph.now.bounds start end (length far.now) way.links.items way.sum) }
 {
-    let mut links = way_back(alloc, bounds, outgoing, far, start, end)?;
+    let mut links = way_back(alloc, graph, far, start, end)?;
     links.reverse();
     Ok(Way {
         links,
@@ -98,25 +91,24 @@ fn way_to<A: Allocator + Copy>(
 // The way from `start` to `end`, its last link first: each is the first step to the event to which the way has come.
 pub(crate) fn way_back<A: Allocator + Copy>(
     alloc: A,
-    bounds: &Listed<'_>,
-    outgoing: &[Vec<Link, A>],
+    graph: &Graph<'_, A>,
     far: &[Ms],
     start: Event,
     end: Event,
 ) -> Result<Vec<Link, A>, Memory>
-    requires far { AreDistances bounds.now start far.now }
+    requires far { AreDistances graph.now.bounds start far.now }
     requires few { length far.now ≤ most_events + 1 }
-    requires rows { AreRows bounds.now (length far.now) outgoing.now }
+    requires whole { length far.now ≡ graph.now.events + 1 }
     requires end { end < length far.now }
-    ensures way { IfOk result (λ links. IsWay bounds.now start end (reverse links.items)) }
+    ensures way { IfOk result (λ links. IsWay graph.now.bounds start end (reverse links.items)) }
     ensures short { IfOk result (λ links. length links.items < length far.now) }
 {
-    let levels = levels_from(alloc, bounds, outgoing, far, start)?;
+    let levels = levels_from(alloc, graph, far, start)?;
     let mut links = Vec::new(alloc);
     let mut here = end;
-    while let Some(link) = first_step(bounds, outgoing, far, start, &levels, here) {
+    while let Some(link) = first_step(graph, far, start, &levels, here) {
         links.push(link)?;
-        here = bounds.arc(link).from;
+        here = graph.arc(link).from;
     }
     Ok(links)
 }

@@ -1,32 +1,38 @@
-use Rattle.std.proofs.Common.{◌≡◌, ◌<◌, ◌≤◌, length, sym, subst, ap, ◌∙◌, arith}
-use Rattle.std.proofs.{lemmas.List.get_or_default}
-use Rattle.std.specs.Prelude.{slice_index_or}
-use Rattle.stn_conflict.specs.{declared.links.Link.Link, declared.links.Side.TheVariants.Upper, Relaxation.row_of, Named.IsStep, Search.across, Search.IsFirstStepTo}
-use Rattle.stn_conflict.proofs.{Rows.row_is, Steps.first_in_row, Steps.none_in_row}
+use Rattle.std.{proofs.{Common.{subst, sym, ◌∙◌}, lemmas.Bool.false≢true}, specs.List.Contains}
+use Rattle.stn_conflict.{specs.{declared.outgoing.Look.Look, Relaxation.IsRow, Named.IsStep, Search.{across, IsFirstStepTo}}, proofs.{Steps.{first_in_row, none_in_row, passed_more}, Rows.in_row}}
 use Rattle.stn_conflict.proofs.levels.first_step.Goals as goal
 
 pub returns-then-is_step : goal.returns-then-is_step
 returns-then-is_step g c =
-    let bounds = c.args.bounds.now in
+    let searched = c.args.graph.now in
     let start = c.args.start in
-    let rows = c.args.outgoing.now in
-    let items = c.deref-link-items.result.now in
-    let index = c.loop-link.link-index in
-    let none : Link = record { place = 0; side = Upper } in
-    let link = slice_index_or items index none in
+    let looks = c.row-look-items.result.now in
+    let index = c.loop-look.look-index in
     let place = c.from.ensures ∙ c.number.ensures.value in
-    let there : c.from.result < length rows = omega (arith, place, c.requires.event, c.requires.rows.long) in
-    let whole : row_of rows c.args.event ≡ items = ap (row_of rows) (sym place) ∙ row_is rows c.from.result c.index-outgoing-from.result there c.index-outgoing-from.is ∙ sym c.deref-link-items.ensures.value in
+    let is : IsRow searched c.args.event looks = subst (λ x. IsRow searched x looks) place c.row-look-items.ensures in
+    let look : Look = c.look-item.result in
     let into = c.across-into.ensures in
-    let step : IsStep bounds start (across link) = subst (IsStep bounds start) into (c.is_step.ensures.0 c.if-is_step.true) in
-    subst (IsFirstStepTo bounds start c.args.event) (sym into) (first_in_row bounds start (length c.args.far.now) c.args.event index rows link c.requires.rows
-    (rw whole c.loop-link-test.true) (subst (λ l. slice_index_or l index link ≡ link) (sym whole) (get_or_default items index link none c.loop-link-test.true)) c.loop-link.invariant step)
+    let step : IsStep searched.bounds start (across look.link) = subst (IsStep searched.bounds start) into (c.is_step.ensures.0 c.if-is_step.true) in
+    subst (IsFirstStepTo searched.bounds start c.args.event) (sym into) (first_in_row searched start c.args.event index looks is look c.loop-look-test.true (sym c.look-item.is) c.loop-look.invariant step)
+
+pub is_step-requires-clause-there : goal.is_step-requires-clause-there
+is_step-requires-clause-there g c =
+    let looks = c.row-look-items.result.now in
+    let index = c.loop-look.look-index in
+    let has = subst (Contains looks) (sym c.look-item.is) (in_row looks index c.look-item.result c.loop-look-test.true) in
+    rw c.across-into.ensures (c.row-look-items.ensures.each c.look-item.result has).there
+
+pub loop-look-preserved : goal.loop-look-preserved
+loop-look-preserved g c =
+    let searched = c.args.graph.now in
+    let into = c.across-into.ensures in
+    passed_more searched.bounds c.args.start c.loop-look.look-index c.row-look-items.result.now c.look-item.result c.loop-look-test.true (sym c.look-item.is)
+    (λ step. false≢true (sym c.if-is_step.false ∙ c.is_step.ensures.1 (subst (IsStep searched.bounds c.args.start) (sym into) step))) c.loop-look.invariant
 
 pub returns : goal.returns
 returns g c =
-    let rows = c.args.outgoing.now in
+    let searched = c.args.graph.now in
+    let looks = c.row-look-items.result.now in
     let place = c.from.ensures ∙ c.number.ensures.value in
-    let there : c.from.result < length rows = omega (arith, place, c.requires.event, c.requires.rows.long) in
-    let whole = ap (row_of rows) (sym place) ∙ row_is rows c.from.result c.index-outgoing-from.result there c.index-outgoing-from.is ∙ sym c.deref-link-items.ensures.value in
-    let all : length (row_of rows c.args.event) ≤ c.loop-link.link-index = rw (whole) c.loop-link-test.false in
-    none_in_row c.args.bounds.now c.args.start (length c.args.far.now) c.args.event c.loop-link.link-index rows c.requires.rows all c.loop-link.invariant
+    let is : IsRow searched c.args.event looks = subst (λ x. IsRow searched x looks) place c.row-look-items.ensures in
+    none_in_row searched c.args.start c.args.event c.loop-look.look-index looks is c.loop-look-test.false c.loop-look.invariant

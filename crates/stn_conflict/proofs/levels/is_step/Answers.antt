@@ -1,9 +1,7 @@
 use Rattle.std.proofs.Common.{◌≡◌, ◌∙◌, ℕ, suc, List, Option, Some, length, eqb-true, refl, ap, arith}
 use Rattle.stn_net.specs.Difference.{Difference}
-use Rattle.stn_conflict.specs.{declared.links.Link.Link, Arcs.arc_of, Search.level_at}
-use Rattle.stn_conflict.proofs.{Tightness.link_among, LevelTable.some_same, Steps.step_from_entries, Steps.entries_from_step}
+use Rattle.stn_conflict.{specs.{declared.links.Link.Link, Arcs.arc_of, Search.level_at}, proofs.{Tightness.link_among, LevelTable.some_same, Steps.{step_from_entries, entries_from_step}, levels.is_step.{Given.Over, Goals.After-from-2}}}
 use Rattle.stn_conflict.proofs.levels.is_step.Goals as goal
-use Rattle.stn_conflict.proofs.levels.is_step.Goals.{After-from-2}
 
 -- the events whose levels are read are those of the link's ends, and have levels
 record Ends (bounds : List Difference) (levels : List (Option ℕ)) (link : Link) (begin end : ℕ) : Type 0 where
@@ -12,9 +10,9 @@ record Ends (bounds : List Difference) (levels : List (Option ℕ)) (link : Link
   end_is : end ≡ (arc_of bounds link).to
   end_has : (level : ℕ) × (level_at levels end ≡ Some level)
 
-ends : (c : After-from-2) → Ends c.args.bounds.now c.args.levels.now c.args.link c.from.result c.from-2.result
-ends c =
-    let (begin_there, end_there) = link_among c.args.bounds.now (length c.args.far.now) c.args.link c.requires.far.named c.requires.there in
+ends : (g : Over) (c : After-from-2 g) → Ends c.args.graph.now.bounds c.args.levels.now c.args.link c.from.result c.from-2.result
+ends g c =
+    let (begin_there, end_there) = link_among c.args.graph.now.bounds (length c.args.far.now) c.args.link c.requires.far.named c.requires.there in
     let begin_is = c.from.ensures ∙ c.number.ensures.value ∙ c.arc-arc.ensures.from in
     let end_is = c.from-2.ensures ∙ c.number-2.ensures.value ∙ c.arc-arc.ensures.to in
     record {
@@ -25,31 +23,31 @@ ends c =
     }
 
 pub unwrap-begin-requires : goal.unwrap-begin-requires
-unwrap-begin-requires c =
-    let (begin_there, _) = link_among c.args.bounds.now (length c.args.far.now) c.args.link c.requires.far.named c.requires.there in
+unwrap-begin-requires g c =
+    let (begin_there, _) = link_among c.args.graph.now.bounds (length c.args.far.now) c.args.link c.requires.far.named c.requires.there in
     let (level, at) = c.requires.levels.levels.every _ begin_there in
     rw (c.from.ensures ∙ c.number.ensures.value ∙ c.arc-arc.ensures.from, at) refl
 
 pub unwrap-end-requires : goal.unwrap-end-requires
-unwrap-end-requires c =
-    let (level, at) = (ends (goal.at.unwrap-end-requires c).After-from-2).end_has in
+unwrap-end-requires g c =
+    let (level, at) = (ends g (goal.at.unwrap-end-requires g c).After-from-2).end_has in
     rw at refl
 
 pub returns-then-begin-end : goal.returns-then-begin-end
-returns-then-begin-end c =
-    let e = ends (goal.at.returns-then-begin-end c).After-from-2 in
+returns-then-begin-end g c =
+    let e = ends g (goal.at.returns-then-begin-end g c).After-from-2 in
     let next : c.unwrap-end.result ≡ suc c.unwrap-begin.result = omega (arith, c.if-begin-end.true) in (
-      λ t. step_from_entries c.args.bounds.now c.args.start (length c.args.far.now) (level_at c.args.levels.now) c.args.link _ _ c.requires.levels.levels e.begin_is e.end_is
+      λ t. step_from_entries c.args.graph.now.bounds c.args.start (length c.args.far.now) (level_at c.args.levels.now) c.args.link _ _ c.requires.levels.levels e.begin_is e.end_is
           (c.is_tight.ensures.0 t) (c.unwrap-begin.result, c.unwrap-begin.ensures, c.unwrap-end.ensures ∙ ap Some next),
       λ step. c.is_tight.ensures.1 step.tight,
     )
 
 pub returns-else-begin-end : goal.returns-else-begin-end
-returns-else-begin-end c =
-    let e = ends (goal.at.returns-else-begin-end c).After-from-2 in
+returns-else-begin-end g c =
+    let e = ends g (goal.at.returns-else-begin-end g c).After-from-2 in
     let test = c.if-begin-end.false in (
       λ t. absurd (omega (arith, test, eqb-true _ _ t)),
       λ step.
-          let (k, low, high) = entries_from_step c.args.bounds.now c.args.start (length c.args.far.now) (level_at c.args.levels.now) c.args.link _ _ c.requires.levels.levels e.begin_is e.end_is step in
+          let (k, low, high) = entries_from_step c.args.graph.now.bounds c.args.start (length c.args.far.now) (level_at c.args.levels.now) c.args.link _ _ c.requires.levels.levels e.begin_is e.end_is step in
           absurd (omega (arith, test, some_same _ k c.unwrap-begin.result low c.unwrap-begin.ensures, some_same _ (suc k) c.unwrap-end.result high c.unwrap-end.ensures)),
     )

@@ -1,14 +1,11 @@
-use Rattle.std.proofs.Common.{◌≡◌, ◌<◌, ◌∙◌, length, arith}
-use Rattle.std.specs.Prelude.{pos}
-use Rattle.std.proofs.{lemmas.Int.ints, lemmas.List.get_or_read}
+use Rattle.std.{proofs.{Common.{◌≡◌, ◌<◌, ◌∙◌, length, arith}, lemmas.{Int.ints, List.get_or_read}}, specs.Prelude.pos}
 use Rattle.stn_net.specs.Schedule.{times_of}
-use Rattle.stn_conflict.specs.Arcs.{arc_of}
-use Rattle.stn_conflict.proofs.{Tightness.link_among, Steps.sum_test, Steps.tight_decided}
+use Rattle.stn_conflict.{specs.Arcs.arc_of, proofs.{Tightness.link_among, Steps.{sum_test, tight_decided}}}
 use Rattle.stn_conflict.proofs.levels.is_tight.Goals as goal
 
 pub returns : goal.returns
-returns c =
-    let bounds = c.args.bounds.now in
+returns g c =
+    let bounds = c.args.graph.now.bounds in
     let far = c.args.far.now in
     let arc = c.arc-arc.result in
     let ends = link_among bounds (length far) c.args.link c.requires.far.named c.requires.there in

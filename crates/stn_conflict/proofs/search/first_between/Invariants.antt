@@ -5,14 +5,14 @@ use Rattle.stn_conflict.proofs.search.first_between.Given as goal
 
 abbrev pub invariant-loop-high : goal.invariant-loop-high
 invariant-loop-high g l = record {
-  known : AreEstimates (take l.low l.bounds) l.search.start l.known;
-  long : length l.known ≡ l.events + 1;
-  tables : HasTables (l.events + 1) l.search;
-  past : l.events ≤ l.low;
+  known : AreEstimates (take l.low l.graph.bounds) l.search.start l.known;
+  long : length l.known ≡ l.graph.events + 1;
+  tables : HasTables (l.graph.events + 1) l.search;
+  past : l.graph.events ≤ l.low;
   apart : l.low < l.high;
-  within : l.high ≤ length l.bounds;
-  has : HasSchedule (take l.low l.bounds);
-  none : ¬ HasSchedule (take l.high l.bounds);
+  within : l.high ≤ length l.graph.bounds;
+  has : HasSchedule (take l.low l.graph.bounds);
+  none : ¬ HasSchedule (take l.high l.graph.bounds);
 }
 
 abbrev pub decreases-loop-high : goal.decreases-loop-high

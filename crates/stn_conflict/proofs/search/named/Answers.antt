@@ -1,17 +1,13 @@
-use Rattle.std.proofs.Common.{◌≡◌, ◌+◌, ◌∷◌, [], arith, ap, length, ◌∙◌}
-use Rattle.std.specs.Prelude.{pos, reverse}
-use Rattle.std.proofs.{lemmas.Int.ints, lemmas.List.reverse-append, lemmas.List.length-reverse, lemmas.List.get_or_read}
+use Rattle.std.{proofs.{Common.{◌≡◌, ◌∷◌, [], arith, ap, length, ◌∙◌}, lemmas.{Int.ints, List.{reverse-append, length-reverse, get_or_read}}}, specs.Prelude.{pos, reverse}}
 use Rattle.stn_net.specs.Schedule.{times_of}
-use Rattle.stn_conflict.specs.{declared.links.Link.Link, Arcs.arc_of, Culprit.IsCulprit}
-use Rattle.stn_conflict.proofs.{CycleSums.cycle_of_way, Tightness.link_among, Relaxing.among_events, Relaxing.network_before, Rows.rows_before}
+use Rattle.stn_conflict.{specs.{declared.links.Link.Link, Arcs.arc_of, Culprit.IsCulprit}, proofs.{CycleSums.cycle_of_way, Tightness.link_among, Relaxing.{among_events, network_before}}}
 use Rattle.stn_conflict.proofs.search.named.Goals as goal
 
 pub refused_side-side-requires : goal.refused_side-side-requires
 refused_side-side-requires g c =
     let first = c.requires.first in
     record {
-      network = network_before c.args.events c.args.place c.args.bounds.now first.past c.requires.begins c.requires.named;
-      rows = c.requires.rows;
+      network = network_before c.args.graph.now.events c.args.place c.args.graph.now.bounds first.past c.requires.begins c.requires.named;
       tables = c.requires.tables;
       there = first.there;
       named = c.requires.named c.args.place _ first.there;
@@ -20,21 +16,21 @@ refused_side-side-requires g c =
 
 pub way_back-requires : goal.way_back-requires
 way_back-requires g c =
-    let bounds = c.args.bounds.now in
+    let bounds = c.args.graph.now.bounds in
     let side = c.refused_side-side in
     let link : Link = record { place = c.args.place; side = side.result } in
     let long = side.ensures.tables.far in
-    let ends = link_among bounds (length side.new.search.far.items) link (among_events bounds c.args.events _ long c.requires.named) c.requires.first.there in
+    let ends = link_among bounds (length side.new.search.far.items) link (among_events bounds c.args.graph.now.events _ long c.requires.named) c.requires.first.there in
     rw (c.before-before.ensures, c.deref.ensures.value, c.arc-arc.ensures.to, c.arc-arc.ensures.from) (record {
       far = side.ensures.distances;
       few = omega (arith, side.ensures.tables.few, long);
-      rows = rw long (rows_before bounds (c.args.events + 1) c.args.place c.args.outgoing.now c.requires.rows);
+      whole = long;
       end = ends.0;
     })
 
 pub returns : goal.returns
 returns g c =
-    let bounds = c.args.bounds.now in
+    let bounds = c.args.graph.now.bounds in
     let first = c.requires.first in
     let side = c.refused_side-side in
     let link : Link = record { place = c.args.place; side = side.result } in
@@ -42,7 +38,7 @@ returns g c =
     let far = side.new.search.far.items in
     let arc = c.arc-arc.ensures in
     let exact = side.ensures.distances in
-    let below = (link_among bounds (length far) link (among_events bounds c.args.events _ side.ensures.tables.far c.requires.named) first.there).0 in
+    let below = (link_among bounds (length far) link (among_events bounds c.args.graph.now.events _ side.ensures.tables.far c.requires.named) first.there).0 in
     let place : c.from.result ≡ (arc_of bounds link).from = c.from.ensures ∙ c.number.ensures.value ∙ arc.from in
     let read : c.index.result.now ≡ times_of far (arc_of bounds link).from = get_or_read far _ _ (rw place below) c.index.ensures (pos 0) ∙ ap (times_of far) place in
     let (wl, wh) = c.get.ensures.within in
@@ -51,7 +47,7 @@ returns g c =
     let back = c.get-2.ensures.value ∙ read in
     let reversed = c.reverse.ensures.items ∙ ap reverse c.in_ok-push.ensures.items ∙ reverse-append links (link ∷ []) in
     let culprit : IsCulprit bounds link = record { there = first.there; before = first.before; refused = first.refused; side = side.ensures.side } in
-    rw reversed (cycle_of_way bounds c.args.events link (reverse links) _ (times_of far (arc_of bounds link).from) _ culprit arc.ordered
+    rw reversed (cycle_of_way bounds c.args.graph.now.events link (reverse links) _ (times_of far (arc_of bounds link).from) _ culprit arc.ordered
     (exact.tightest (arc_of bounds link).to exact.start_named)
     (exact.tightest (arc_of bounds link).from below)
     (omega (arith, ints))

@@ -1,29 +1,14 @@
-use Rattle.std.proofs.Common.{◌≡◌, ◌+◌, ◌<◌, ◌∙◌, List, ap, length, take, arith}
-use Rattle.std.specs.Prelude.{ℤ, pos, ◌+ℤ◌, ◌≤ℤ◌, ◌<ℤ◌}
-use Rattle.std.proofs.{lemmas.Int.ints, lemmas.List.get_or_read}
-use Rattle.stn_net.specs.{Difference.Difference, Schedule.HasSchedule, Schedule.times_of}
-use Rattle.stn_conflict.specs.{Arcs.bound_at, Relaxation.AreDistances, Relaxation.AreRows, Relaxation.IsNetwork}
-use Rattle.stn_conflict.proofs.{Rows.rows_before, search.refused_side.Given.Over}
+use Rattle.std.{proofs.{Common.{◌≡◌, ◌<◌, ◌∙◌, List, ap, length, take, arith}, lemmas.{Int.ints, List.get_or_read}}, specs.Prelude.{ℤ, pos, ◌+ℤ◌, ◌≤ℤ◌, ◌<ℤ◌}}
+use Rattle.stn_net.specs.{Difference.Difference, Schedule.{HasSchedule, times_of}}
+use Rattle.stn_conflict.{specs.{Arcs.bound_at, Relaxation.{AreDistances, Searched}}, proofs.search.refused_side.{Given.Over, Goals.After-get}}
 use Rattle.stn_conflict.proofs.search.refused_side.Goals as goal
-use Rattle.stn_conflict.proofs.search.refused_side.Goals.{After-before-before, After-get}
-
--- the bounds before the place can be searched
-among_before : (g : Over) (c : After-before-before g)
-    → IsNetwork c.args.events c.before-before.result × AreRows c.before-before.result (c.args.events + 1) c.args.outgoing.now
-among_before g c = (
-  rw c.before-before.ensures c.requires.network,
-  rw c.before-before.ensures (rows_before c.args.bounds.now (c.args.events + 1) c.args.place c.args.outgoing.now c.requires.rows),
-)
 
 pub find-requires : goal.find-requires
-find-requires g c =
-    let (network, rows) = among_before g (goal.at.find-requires g c).After-before-before in
-    record { tables = c.requires.tables; network = network; rows = rows; start = rw c.arc-upper.ensures.to c.requires.named.to }
+find-requires g c = rw c.before-before.ensures (record { tables = c.requires.tables; network = c.requires.network; start = rw c.arc-upper.ensures.to c.requires.named.to })
 
 pub find-requires-2 : goal.find-requires-2
 find-requires-2 g c =
-    let (network, rows) = among_before g (goal.at.find-requires-2 g c).After-before-before in
-    record { tables = c.find.ensures.tables; network = network; rows = rows; start = rw c.arc-upper.ensures.from c.requires.named.from }
+    rw c.before-before.ensures (record { tables = rw c.before-before.ensures at c.find.ensures.tables; network = c.requires.network; start = rw c.arc-upper.ensures.from c.requires.named.from })
 
 -- the distance that is read is that to the event at which the upper side's link begins
 record Found (bounds : List Difference) (bound : Difference) (far : List ℤ) (read : ℤ) : Type 0 where
@@ -31,13 +16,13 @@ record Found (bounds : List Difference) (bound : Difference) (far : List ℤ) (r
   read_is : read ≡ times_of far bound.from
   below : bound.from < length far
 
-found : (g : Over) (c : After-get g) → Found (take c.args.place c.args.bounds.now) (bound_at c.args.bounds.now c.args.place) c.find.new.self.far.items c.get.result
+found : (g : Over) (c : After-get g) → Found (take c.args.place c.args.graph.now.bounds) (bound_at c.args.graph.now.bounds c.args.place) c.find.new.self.far.items c.get.result
 found g c =
-    let bound = bound_at c.args.bounds.now c.args.place in
+    let bound = bound_at c.args.graph.now.bounds c.args.place in
     let far = c.find.new.self.far.items in
-    let has : HasSchedule c.before-before.result = rw c.before-before.ensures c.requires.possible in
+    let has : HasSchedule c.before-before.result.bounds = rw c.before-before.ensures c.requires.possible in
     let place : c.from.result ≡ bound.from = c.from.ensures ∙ c.number.ensures.value ∙ c.arc-upper.ensures.from in
-    let below : bound.from < length far = omega (arith, c.find.ensures.tables.far, c.requires.named.from) in
+    let below : bound.from < length far = omega (arith, c.find.ensures.tables.far, c.requires.named.from, ap (λ (v : Searched). v.events) c.before-before.ensures) in
     record {
       exact = rw (c.before-before.ensures, c.arc-upper.ensures.to) at (c.find.ensures.distances (c.find.ensures.possible.1 has));
       read_is = c.get.ensures.value ∙ get_or_read far _ _ (rw place below) c.index.ensures (pos 0) ∙ ap (times_of far) place;
@@ -47,24 +32,24 @@ found g c =
 pub returns-then-get-lt0 : goal.returns-then-get-lt0
 returns-then-get-lt0 g c =
     let f = found g (goal.at.returns-then-get-lt0 g c).After-get in
-    let bound = bound_at c.args.bounds.now c.args.place in
+    let bound = bound_at c.args.graph.now.bounds c.args.place in
     let test = c.if-get-lt0.true in
     let (fl, fh) = c.get.ensures.within in
     let (wl, wh) = c.get-2.ensures.within in
     let less : (times_of c.find.new.self.far.items bound.from +ℤ bound.hi) <ℤ pos 0 = omega (arith, ints, f.read_is, c.get-2.ensures.value, c.arc-upper.ensures.weight) in
-    record { side = (_, f.exact.tightest bound.from f.below, less); tables = c.find.ensures.tables; distances = f.exact }
+    record { side = (_, f.exact.tightest bound.from f.below, less); tables = rw c.before-before.ensures at c.find.ensures.tables; distances = f.exact }
 
 pub returns : goal.returns
 returns g c =
     let f = found g (goal.at.returns g c).After-get in
-    let bound = bound_at c.args.bounds.now c.args.place in
+    let bound = bound_at c.args.graph.now.bounds c.args.place in
     let test = c.if-get-lt0.false in
     let (fl, fh) = c.get.ensures.within in
     let (wl, wh) = c.get-2.ensures.within in
     let more : pos 0 ≤ℤ (times_of c.find.new.self.far.items bound.from +ℤ bound.hi) = omega (arith, ints, f.read_is, c.get-2.ensures.value, c.arc-upper.ensures.weight) in
-    let has : HasSchedule c.before-before.result = rw c.before-before.ensures c.requires.possible in
+    let has : HasSchedule c.before-before.result.bounds = rw c.before-before.ensures c.requires.possible in
     record {
       side = (_, f.exact.tightest bound.from f.below, more);
-      tables = c.find-2.ensures.tables;
+      tables = rw c.before-before.ensures at c.find-2.ensures.tables;
       distances = rw (c.before-before.ensures, c.arc-upper.ensures.from) at (c.find-2.ensures.distances (c.find-2.ensures.possible.1 has));
     }

@@ -1,6 +1,5 @@
-use Rattle.std.proofs.Common.{◌≡◌, List, ◌++◌}
-use Rattle.std.specs.Prelude.{All}
-use Rattle.stn_net.specs.{Difference.Difference, Difference.NamesEvents, Windows.Leading.AreFloorsBelow}
+use Rattle.std.{proofs.Common.{◌≡◌, List, ◌++◌}, specs.Prelude.All}
+use Rattle.stn_net.specs.{Difference.{Difference, NamesEvents}, Windows.Leading.AreFloorsBelow}
 use Rattle.stn_conflict.proofs.times.append_floors.Given as goal
 
 abbrev pub invariant-loop-number : goal.invariant-loop-number

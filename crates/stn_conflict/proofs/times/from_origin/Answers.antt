@@ -1,9 +1,11 @@
-use Rattle.stn_conflict.proofs.SoonestTimes.{distances_of}
-use Rattle.stn_conflict.specs.Distances.{AreDistancesFrom}
-use Rattle.std.proofs.Common.{subst}
+use Rattle.std.proofs.Common.{◌+◌, ◌++◌, refl}
+use Rattle.stn_conflict.{specs.Directions.facing, proofs.{Relaxing.among_events, SoonestTimes.distances_of}}
 use Rattle.stn_conflict.proofs.times.from_origin.Goals as goal
+
+pub of-requires : goal.of-requires
+of-requires g c = among_events (c.args.base.now ++ c.args.extra.now) c.args.events (c.args.events + 1) refl c.requires.named
 
 pub returns-in-Some : goal.returns-in-Some
 returns-in-Some g c =
-    subst (λ event. AreDistancesFrom c.args.bounds.now c.args.events event c.in-Some.search.far.items) c.origin.ensures
-    (distances_of c.args.bounds.now c.args.events c.origin.result c.in-Some.search (rw c.in-Some.is at c.in_ok-search.ensures))
+    rw (← c.origin.ensures) (distances_of (facing c.args.direction (c.args.base.now ++ c.args.extra.now)) c.args.events c.origin.result c.in-Some.search
+    (rw (c.in-Some.is, c.new-graph.ensures) at c.in_ok-search.ensures))

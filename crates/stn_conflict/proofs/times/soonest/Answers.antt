@@ -1,5 +1,4 @@
-use Rattle.std.proofs.Common.{◌≡◌, ◌++◌, ap, ◌∙◌}
-use Rattle.std.proofs.lemmas.Result.{IfOk-weaker}
+use Rattle.std.proofs.{Common.{◌≡◌, ◌++◌, ap, ◌∙◌}, lemmas.Result.IfOk-weaker}
 use Rattle.stn_conflict.proofs.{Relaxing.network_of, SoonestTimes.found_soonest}
 use Rattle.stn_conflict.proofs.times.soonest.Goals as goal
 

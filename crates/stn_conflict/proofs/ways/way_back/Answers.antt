@@ -1,21 +1,18 @@
-use Rattle.std.proofs.Common.{◌≡◌, ℕ, suc, Some, length, sym, subst, arith, ap, ◌∙◌}
-use Rattle.std.specs.Prelude.{reverse, unwrap_or}
-use Rattle.std.proofs.{lemmas.List.length_push, lemmas.Option.MatchOption-at_some, lemmas.Option.MatchOption-at_none}
-use Rattle.stn_conflict.specs.{Arcs.arc_of, Arcs.IsChain, Search.level_at, Search.HasNoStep, Search.IsFirstStepTo}
-use Rattle.stn_conflict.proofs.{Tightness.link_among, OneCycle.level_of_start, LevelTable.some_same, Steps.lower_by_one, Steps.at_start, Steps.chain_before_way, ways.way_back.Given.Over}
+use Rattle.std.{proofs.{Common.{◌≡◌, ℕ, suc, Some, length, sym, subst, arith, ap, ◌∙◌}, lemmas.{List.length_push, Option.{MatchOption-at_some, MatchOption-at_none}}}, specs.Prelude.{reverse, unwrap_or}}
+use Rattle.stn_conflict.{specs.{Arcs.{arc_of, IsChain}, Search.{level_at, HasNoStep, IsFirstStepTo}}, proofs.{Tightness.link_among, OneCycle.level_of_start, LevelTable.some_same, Steps.{lower_by_one, at_start, chain_before_way}, ways.way_back.Given.Over}}
 use Rattle.stn_conflict.proofs.ways.way_back.Goals as goal
 
 -- the link that is taken is the first step to the event
-taken : (g : Over) (c : goal.In_ok-push g) → IsFirstStepTo c.args.bounds.now c.args.start c.loop-link.here c.in-Some.link
+taken : (g : Over) (c : goal.In_ok-push g) → IsFirstStepTo c.args.graph.now.bounds c.args.start c.loop-link.here c.in-Some.link
 taken g c =
-    MatchOption-at_some (HasNoStep c.args.bounds.now c.args.start c.loop-link.here) (IsFirstStepTo c.args.bounds.now c.args.start c.loop-link.here)
+    MatchOption-at_some (HasNoStep c.args.graph.now.bounds c.args.start c.loop-link.here) (IsFirstStepTo c.args.graph.now.bounds c.args.start c.loop-link.here)
     c.in-Some.link c.in-Some.is c.first_step.ensures
 
 -- and begins one level lower
-lower : (g : Over) (c : goal.In_ok-push g) → (level : ℕ) × (level_at c.in_ok-levels.levels.items (arc_of c.args.bounds.now c.in-Some.link).from ≡ Some level)
+lower : (g : Over) (c : goal.In_ok-push g) → (level : ℕ) × (level_at c.in_ok-levels.levels.items (arc_of c.args.graph.now.bounds c.in-Some.link).from ≡ Some level)
     × (level_at c.in_ok-levels.levels.items c.loop-link.here ≡ Some (suc level))
 lower g c =
-    lower_by_one c.args.bounds.now c.args.start (length c.args.far.now) c.loop-link.here (level_at c.in_ok-levels.levels.items) c.in-Some.link
+    lower_by_one c.args.graph.now.bounds c.args.start (length c.args.far.now) c.loop-link.here (level_at c.in_ok-levels.levels.items) c.in-Some.link
     c.in_ok-levels.ensures.levels (taken g c)
 
 pub arc-here-requires : goal.arc-here-requires
@@ -30,7 +27,7 @@ loop-link-smaller g c =
 
 pub loop-link-preserved : goal.loop-link-preserved
 loop-link-preserved g c =
-    let bounds = c.args.bounds.now in
+    let bounds = c.args.graph.now.bounds in
     let levels = c.in_ok-levels.levels.items in
     let links = c.loop-link.links.items in
     let link = c.in-Some.link in
@@ -49,7 +46,7 @@ loop-link-preserved g c =
 
 pub returns : goal.returns
 returns g c =
-    let bounds = c.args.bounds.now in
+    let bounds = c.args.graph.now.bounds in
     let levels = c.in_ok-levels.levels.items in
     let h = c.loop-link.invariant in
     let none = MatchOption-at_none (HasNoStep bounds c.args.start c.loop-link.here) (IsFirstStepTo bounds c.args.start c.loop-link.here) c.in_default.is c.first_step.ensures in

@@ -1,13 +1,11 @@
-use Rattle.std.proofs.Common.{◌≡◌, ◌<◌, ◌∙◌, length, ap, arith}
-use Rattle.std.specs.Prelude.{pos, reverse}
-use Rattle.std.proofs.{lemmas.Int.ints, lemmas.List.length-reverse, lemmas.List.get_or_read}
+use Rattle.std.{proofs.{Common.{◌≡◌, ◌<◌, ◌∙◌, length, ap, arith}, lemmas.{Int.ints, List.{length-reverse, get_or_read}}}, specs.Prelude.{pos, reverse}}
 use Rattle.stn_net.specs.Schedule.{times_of}
 use Rattle.stn_conflict.proofs.CycleSums.{told_of_way}
 use Rattle.stn_conflict.proofs.ways.way_to.Goals as goal
 
 pub returns : goal.returns
 returns g c =
-    let bounds = c.args.bounds.now in
+    let bounds = c.args.graph.now.bounds in
     let far = c.args.far.now in
     let links = c.in_ok-links.links.items in
     let h = c.requires.far in

@@ -1,20 +1,18 @@
-use Rattle.std.proofs.Common.{◌≡◌, ◌<◌, pos, get_or, length, append-nil, sym, ap, subst, ◌∙◌, arith}
-use Rattle.std.proofs.{lemmas.List.get_or_default}
-use Rattle.stn_net.specs.Schedule.{times_of}
-use Rattle.stn_net.specs.Matrix.Tightest.{IsTightest}
-use Rattle.stn_conflict.specs.{Listing.Listing, Relaxation.AreDistances}
+use Rattle.std.proofs.{Common.{◌≡◌, ◌<◌, pos, get_or, length, append-nil, sym, ap, subst, ◌∙◌, arith}, lemmas.List.get_or_default}
+use Rattle.stn_net.specs.{Schedule.times_of, Matrix.Tightest.IsTightest}
+use Rattle.stn_conflict.specs.{Listing.Listing, Relaxation.{AreDistances, Searched}}
 use Rattle.stn_conflict.proofs.network.Network.distance.Goals as goal
 
 pub returns-clause-found : goal.returns-clause-found
 returns-clause-found g c =
     let far = c.find.new.self.far.items in
-    let whole : c.new-bounds.result ≡ c.args.self.now.bounds =
-    c.new-bounds.ensures ∙ append-nil c.deref.result.now ∙ c.deref.ensures.value ∙ ap (λ (l : Listing). l.bounds) c.self.view_is in
-    let exact : AreDistances c.new-bounds.result c.args.from c.find.new.self.far.items = c.find.ensures.distances c.if-not-find.false in
+    let whole : c.new-graph.result.bounds ≡ c.args.self.now.bounds =
+    ap (λ (v : Searched). v.bounds) c.new-graph.ensures ∙ append-nil c.deref-2.result.now ∙ c.deref-2.ensures.value ∙ ap (λ (l : Listing). l.bounds) c.self.view_is in
+    let exact : AreDistances c.new-graph.result.bounds c.args.from c.find.new.self.far.items = c.find.ensures.distances c.if-not-find.false in
     let long = c.find.ensures.tables.far in
-    let events = ap (λ (l : Listing). l.events) c.self.view_is in
+    let events = ap (λ (v : Searched). v.events) c.new-graph.ensures ∙ ap (λ (l : Listing). l.events) c.self.view_is in
     let there : c.args.to < length c.find.new.self.far.items = omega (arith, long, events, c.requires.to) in
     let at : c.from.result ≡ c.args.to = c.from.ensures ∙ c.number.ensures.value in
     let is : c.index.result.now ≡ times_of c.find.new.self.far.items c.args.to =
     c.index.ensures ∙ ap (λ k. get_or c.find.new.self.far.items k c.index.result.now) at ∙ get_or_default c.find.new.self.far.items c.args.to c.index.result.now (pos 0) there in
-    subst (λ l. IsTightest l c.args.from c.args.to c.index.result.now) whole (subst (λ m. IsTightest c.new-bounds.result c.args.from c.args.to m) (sym is) (exact.tightest c.args.to there))
+    subst (λ l. IsTightest l c.args.from c.args.to c.index.result.now) whole (subst (λ m. IsTightest c.new-graph.result.bounds c.args.from c.args.to m) (sym is) (exact.tightest c.args.to there))

@@ -1,5 +1,4 @@
-use Rattle.std.proofs.Common.{subst, to_z, of_z, w64, ◌≤ℤ◌, arith}
-use Rattle.std.proofs.lemmas.Int.{ints}
+use Rattle.std.proofs.{Common.{subst, to_z, of_z, w64, ◌≤ℤ◌, arith}, lemmas.Int.ints}
 use Rattle.stn_net.specs.Matrix.Tightest.{IsTightest}
 use Rattle.stn_conflict.specs.Listing.{Listing}
 use Rattle.stn_conflict.proofs.network.Network.is_within.Goals as goal

@@ -1,7 +1,5 @@
-use Rattle.std.proofs.Common.{◌≡◌, ◌+◌, ◌++◌, true, length, replicate, refl, rules, subst, ap, ◌∙◌, arith}
-use Rattle.std.proofs.lemmas.List.{length-replicate}
-use Rattle.stn_conflict.specs.Relaxation.{AreEstimates, IsNetwork}
-use Rattle.stn_conflict.proofs.{Relaxing.network_of, Relaxing.all_fresh, Relaxing.among_events}
+use Rattle.std.proofs.{Common.{◌≡◌, ◌+◌, ◌++◌, true, length, replicate, refl, rules, subst, ap, ◌∙◌, arith}, lemmas.List.length-replicate}
+use Rattle.stn_conflict.{specs.Relaxation.{AreEstimates, IsNetwork}, proofs.Relaxing.{network_of, all_fresh, among_events}}
 use Rattle.stn_conflict.proofs.network.Network.new.Goals as goal
 
 pub invariant_of-result : goal.invariant_of-result

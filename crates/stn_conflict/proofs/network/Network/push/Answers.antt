@@ -1,8 +1,6 @@
-use Rattle.std.proofs.Common.{◌≡◌, ◌+◌, [], ◌∷◌, ◌++◌, true, set, sym, subst, ◌∙◌, arith}
-use Rattle.std.proofs.lemmas.List.{length-set}
+use Rattle.std.proofs.{Common.{◌≡◌, ◌+◌, [], ◌∷◌, ◌++◌, true, set, sym, subst, ◌∙◌, arith}, lemmas.List.length-set}
 use Rattle.stn_net.specs.Difference.{NamesEvents}
-use Rattle.stn_conflict.specs.{Listing.Listing, Relaxation.IsRelaxedBut}
-use Rattle.stn_conflict.proofs.{Relaxing.network_more, Relaxing.estimates_push, Relaxing.relaxed_push, Rows.rows_longer}
+use Rattle.stn_conflict.{specs.{Listing.Listing, Relaxation.IsRelaxedBut}, proofs.{Relaxing.{network_more, estimates_push, relaxed_push}, Rows.rows_longer}}
 use Rattle.stn_conflict.proofs.network.Network.push.Goals as goal
 
 pub invariant_of-self-2 : goal.invariant_of-self-2

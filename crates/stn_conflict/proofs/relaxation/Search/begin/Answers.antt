@@ -1,5 +1,4 @@
-use Rattle.std.proofs.Common.{◌≡◌, ◌+◌, ◌∙◌, replicate, refl, rules, arith}
-use Rattle.std.specs.Prelude.{pos}
+use Rattle.std.{proofs.Common.{◌≡◌, ◌+◌, ◌∙◌, replicate, refl, rules, arith}, specs.Prelude.pos}
 use Rattle.stn_time.specs.Time.{horizon}
 use Rattle.stn_conflict.proofs.Relaxing.{network_estimates}
 use Rattle.stn_conflict.proofs.relaxation.Search.begin.Goals as goal

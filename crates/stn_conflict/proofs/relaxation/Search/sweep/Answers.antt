@@ -1,18 +1,13 @@
-use Rattle.std.proofs.Common.{◌≡◌, ℕ, ◌<◌, true, All, length, refl, sym, subst, ◌∙◌, arith}
-use Rattle.std.specs.List.{Contains}
-use Rattle.std.proofs.{lemmas.List.get_or_read, lemmas.Bool.false≢true, lemmas.Option.IfSome_then}
-use Rattle.stn_conflict.specs.Relaxation.{NamesAmong, room, row_of}
-use Rattle.stn_conflict.proofs.Rows.{row_is}
-use Rattle.stn_conflict.proofs.Searches.{AreSwept, all_swept, goes_on, none_or, none_then, row_relaxed, some_or, swept_more, swept_over, turn_of}
+use Rattle.std.proofs.{Common.{◌≡◌, ℕ, ◌+◌, ◌<◌, true, All, length, refl, sym, subst, ◌∙◌, arith}, lemmas.{List.get_or_read, Bool.false≢true, Option.IfSome_then}}
+use Rattle.stn_conflict.{specs.Relaxation.{NamesAmong, room}, proofs.{Searches.{AreSwept, all_swept, goes_on, none_or, none_then, row_relaxed, some_or, swept_more, swept_over, turn_of}, relaxation.Search.sweep.Goals.{then-onward, else-onward, then-index+in_ok-found, else-index}}}
 use Rattle.stn_conflict.proofs.relaxation.Search.sweep.Goals as goal
-use Rattle.stn_conflict.proofs.relaxation.Search.sweep.Goals.{then-onward, else-onward, then-index+in_ok-found, else-index}
 
 pub loop-index-preserved : goal.loop-index-preserved
 loop-index-preserved g c =
     let h = c.loop-index.invariant in
     let old = c.args.self.now.far.items in
     let fresh = c.loop-index.self.fresh.items in
-    let count = length c.args.outgoing.now in
+    let count = c.count-count.result in
     let index = c.loop-index.index in
     let event = c.if-onward.event in
     let turn : event ≡ turn_of c.args.onward count index = elim c.if-onward.branch [
@@ -23,23 +18,21 @@ loop-index-preserved g c =
       | then-onward w ↦ omega (arith, w.event-is, c.loop-index-test.true)
       | else-onward w ↦ omega (arith, w.event-is, c.loop-index-test.true)
     ] in
-    let there : event < length fresh = omega (arith, within, c.requires.rows.long, h.search.tables.fresh) in
+    let there : event < length fresh = omega (arith, within, c.count-count.ensures, h.search.tables.fresh) in
     elim c.if-index.branch [
       | then-index+in_ok-found w ↦
           let far = w.relax_from.new.self.far.items in
           let found = w.in_ok-found.found in
           let most = w.relax_from.ensures.most in
           let e = w.in_ok-found.ensures in
-          let whole : row_of c.args.outgoing.now event ≡ w.deref.result.now = row_is c.args.outgoing.now event w.index-outgoing-event.result within w.index-outgoing-event.is ∙ sym w.deref.ensures.value in
           rw (w.self-is, w.last-is, w.or-last.ensures) (record {
             search = goes_on _ _ _ c.loop-index.self _ h.search w.relax_from.ensures.search;
             most = omega (arith, h.most, most);
-            there = some_or (λ (event : ℕ). event < length old) found c.loop-index.last (rw h.search.tables.far at e.there) h.there;
+            there = some_or (λ (event : ℕ). event < c.args.graph.now.events + 1) found c.loop-index.last e.there h.there;
             less = some_or (λ (event : ℕ). room far < room old) found c.loop-index.last
                 (IfSome_then found e.less (λ event less. omega (arith, h.most, less)))
                 (IfSome_then c.loop-index.last h.less (λ event less. omega (arith, most, less)));
-            relaxed = row_relaxed c.args.bounds.now (length old) event c.args.outgoing.now c.loop-index.self.far.items fresh _ w.relax_from.new.self c.requires.rows h.relaxed refl refl e.kept
-                (λ link has. e.relaxed link (subst (λ l. Contains l link) whole has));
+            relaxed = row_relaxed c.args.graph.now.bounds event c.loop-index.self.far.items fresh _ w.relax_from.new.self h.relaxed refl refl e.kept e.relaxed;
             swept = none_or _ _ _ found c.loop-index.last e.same h.swept (λ same before. rw same (swept_more c.args.onward count index event fresh turn there before));
           })
       | else-index w ↦
@@ -57,12 +50,12 @@ loop-index-preserved g c =
 pub returns : goal.returns
 returns g c =
     let h = c.loop-index.invariant in
-    let bounds = c.args.bounds.now in
+    let bounds = c.args.graph.now.bounds in
     let far = c.loop-index.self.far.items in
     let fresh = c.loop-index.self.fresh.items in
-    let count = length c.args.outgoing.now in
+    let count = c.count-count.result in
     let all : c.loop-index.index ≡ count = omega (arith, c.loop-index.auto.index-end, c.loop-index-test.false) in
-    let named : All (NamesAmong count) bounds = rw (c.requires.rows.long, ← h.search.tables.far) h.search.estimates.named in
+    let named : All (NamesAmong count) bounds = rw (c.count-count.ensures, ← h.search.tables.far) h.search.estimates.named in
     record {
       search = h.search;
       refused = λ e. absurd (false≢true e);

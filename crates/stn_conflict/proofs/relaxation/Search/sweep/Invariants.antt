@@ -1,15 +1,13 @@
-use Rattle.std.proofs.Common.{◌<◌, ◌≤◌, length}
-use Rattle.std.specs.Prelude.{IfSome, IfNone}
-use Rattle.stn_conflict.specs.Relaxation.{IsRelaxedBut, IsSearch, room}
-use Rattle.stn_conflict.proofs.Searches.{AreSwept}
+use Rattle.std.{proofs.Common.{◌+◌, ◌<◌, ◌≤◌}, specs.Prelude.{IfSome, IfNone}}
+use Rattle.stn_conflict.{specs.Relaxation.{IsRelaxedBut, IsSearch, room}, proofs.Searches.AreSwept}
 use Rattle.stn_conflict.proofs.relaxation.Search.sweep.Given as goal
 
 abbrev pub invariant-loop-index : goal.invariant-loop-index
 invariant-loop-index g l = record {
-  search : IsSearch l.bounds l.fn.self.start (length l.fn.self.far.items) l.self;
+  search : IsSearch l.graph.bounds l.fn.self.start (l.graph.events + 1) l.self;
   most : room l.self.far.items ≤ room l.fn.self.far.items;
-  there : IfSome l.last (λ event. event < length l.fn.self.far.items);
+  there : IfSome l.last (λ event. event < l.graph.events + 1);
   less : IfSome l.last (λ event. room l.self.far.items < room l.fn.self.far.items);
-  relaxed : IsRelaxedBut l.bounds l.self.far.items l.self.fresh.items;
-  swept : IfNone l.last (AreSwept l.onward (length l.outgoing) l.index l.self.fresh.items);
+  relaxed : IsRelaxedBut l.graph.bounds l.self.far.items l.self.fresh.items;
+  swept : IfNone l.last (AreSwept l.onward l.count l.index l.self.fresh.items);
 }

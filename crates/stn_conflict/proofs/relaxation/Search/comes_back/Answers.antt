@@ -1,18 +1,14 @@
-use Rattle.std.proofs.Common.{ℕ, to_z, w64, ◌<◌, sym, ap, length, eqb-true, refl, arith}
-use Rattle.std.specs.Prelude.{ℤ, ◌+ℤ◌, ◌-ℤ◌, ◌≤ℤ◌}
-use Rattle.std.proofs.lemmas.Int.{ints}
+use Rattle.std.{proofs.{Common.{ℕ, to_z, w64, ◌<◌, sym, ap, length, eqb-true, refl, arith}, lemmas.Int.ints}, specs.Prelude.{ℤ, ◌+ℤ◌, ◌-ℤ◌, ◌≤ℤ◌}}
 use Rattle.stn_net.specs.Schedule.{IsSchedule}
-use Rattle.stn_conflict.specs.Arcs.{Arc}
-use Rattle.stn_conflict.proofs.{Relaxing.back_over, relaxation.Search.goes_round.Given.Over}
-use Rattle.stn_conflict.proofs.relaxation.Search.goes_round.Goals as goal
-use Rattle.stn_conflict.proofs.relaxation.Search.goes_round.Goals.{In-Some}
+use Rattle.stn_conflict.{specs.Arcs.Arc, proofs.{Relaxing.back_over, relaxation.Search.comes_back.{Given.Over, Goals.In-Some}}}
+use Rattle.stn_conflict.proofs.relaxation.Search.comes_back.Goals as goal
 
 -- one link further back
 further : (g : Over) (c : In-Some g) → (c.in-Some.arc.from < length c.args.self.now.far.items)
-    × ((time : ℕ → ℤ) → IsSchedule c.args.bounds.now time → (time c.far_back-start.result -ℤ time c.in-Some.arc.from) ≤ℤ (to_z w64 c.loop.sum-bits +ℤ c.in-Some.arc.weight))
+    × ((time : ℕ → ℤ) → IsSchedule c.args.graph.now.bounds time → (time c.args.start -ℤ time c.in-Some.arc.from) ≤ℤ (to_z w64 c.loop.sum-bits +ℤ c.in-Some.arc.weight))
 further g c =
     let (link, there, is) = c.in-Some.ensures.arc in
-    back_over c.args.bounds.now _ c.far_back-start.result c.loop.here c.in-Some.arc.from c.loop.here c.in-Some.arc.weight _ link
+    back_over c.args.graph.now.bounds _ c.args.start c.loop.here c.in-Some.arc.from c.loop.here c.in-Some.arc.weight _ link
     c.requires.named there (sym (ap (λ (a : Arc). a.from) is)) (sym (ap (λ (a : Arc). a.to) is)) (sym (ap (λ (a : Arc). a.weight) is)) refl c.loop.invariant.kept
 
 pub returns-then-eq : goal.returns-then-eq
@@ -20,7 +16,7 @@ returns-then-eq g c = λ t (time, s).
     let back = (further g (goal.at.returns-then-eq g c).In-Some).1 time s in
     let (low, high) = c.get-sum.ensures.within in
     let weight = c.get-sum.ensures.value in
-    let now = ap time (eqb-true c.in-Some.arc.from c.far_back-start.result (sym c.if-eq.ensures)) in
+    let now = ap time (eqb-true c.in-Some.arc.from c.args.start (sym c.if-eq.ensures)) in
     let least = c.loop.invariant.least in
     let most = c.loop.invariant.most in
     let few = c.requires.tables.few in

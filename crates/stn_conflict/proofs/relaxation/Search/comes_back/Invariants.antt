@@ -1,13 +1,12 @@
-use Rattle.std.proofs.Common.{◌<◌, ℕ, length}
-use Rattle.std.specs.Prelude.{ℤ, pos, neg_ℤ, ◌-ℤ◌, ◌*ℤ◌, ◌≤ℤ◌}
+use Rattle.std.{proofs.Common.{◌<◌, ℕ, length}, specs.Prelude.{ℤ, pos, neg_ℤ, ◌-ℤ◌, ◌*ℤ◌, ◌≤ℤ◌}}
 use Rattle.stn_time.specs.Time.{horizon}
 use Rattle.stn_net.specs.Schedule.{IsSchedule}
-use Rattle.stn_conflict.proofs.relaxation.Search.goes_round.Given as goal
+use Rattle.stn_conflict.proofs.relaxation.Search.comes_back.Given as goal
 
 abbrev pub invariant-loop : goal.invariant-loop
 invariant-loop g l = record {
   here : l.here < length l.self.far.items;
   least : neg_ℤ (horizon *ℤ pos l.counter) ≤ℤ l.sum;
   most : l.sum ≤ℤ (horizon *ℤ pos l.counter);
-  kept : (time : ℕ → ℤ) → IsSchedule l.bounds time → (time l.start -ℤ time l.here) ≤ℤ l.sum;
+  kept : (time : ℕ → ℤ) → IsSchedule l.graph.bounds time → (time l.start -ℤ time l.here) ≤ℤ l.sum;
 }

@@ -1,0 +1,46 @@
+use Rattle.std.proofs.{Common.{◌≡◌, inl, inr, ◌*◌, ◌<◌, length, set, take, sym, subst, ap, ◌∙◌, arith}, lemmas.{Bool.cases_eq, List.length-set}}
+use Rattle.stn_conflict.{specs.Relaxation.{row_of, IsCutAt}, proofs.Rows.{AreCut, replaced_here, replaced_other, row_is, rows_cut}}
+use Rattle.stn_conflict.proofs.outgoing.Rows.cut.Goals as goal
+
+pub loop-event-preserved : goal.loop-event-preserved
+loop-event-preserved g c =
+    let rows = c.loop-event.self.outgoing.items in
+    let initial = c.args.self.now.outgoing.items in
+    let event = c.loop-event.event in
+    let new = c.truncate.new.self in
+    let kept = c.looks_before-kept.result in
+    let h = c.loop-event.invariant in
+    let there : event < length rows = omega (arith, c.loop-event-test.true, c.len-event-end.ensures, h.long) in
+    let was : row_of rows event ≡ row_of initial event = h.rest event (omega arith) in
+    let read : c.deref.result.now ≡ row_of initial event = c.deref.ensures.value ∙ sym (row_is rows event c.index.result.now there c.index.ensures) ∙ was in
+    let at : IsCutAt (row_of initial event) c.args.place kept = subst (λ l. IsCutAt l c.args.place kept) read c.looks_before-kept.ensures in
+    let here : row_of (set rows event new) event ≡ take kept (row_of initial event) =
+    replaced_here rows event new there ∙ c.truncate.ensures.items ∙ ap (take kept) (sym (row_is rows event c.index_mut.result.now there c.index_mut.ensures.value) ∙ was) in
+    record {
+      long = length-set rows event new ∙ h.long;
+      added = h.added;
+      cut = λ x below. elim (cases_eq x event) [
+        | inl same ↦ subst (λ z. AreCut (row_of initial z) c.args.place (row_of (set rows event new) z)) (sym same) (kept, at, here)
+        | inr apart ↦ (let (n, front, is) = h.cut x (omega arith) in (n, front, replaced_other rows event new x apart ∙ is))
+      ];
+      rest = λ x past. replaced_other rows event new x (λ same. omega arith) ∙ h.rest x (omega arith);
+    }
+
+pub returns-then-place-self : goal.returns-then-place-self
+returns-then-place-self g c =
+    let h = c.loop-event.invariant in
+    record {
+      rows = λ bounds more is first.
+          rows_cut bounds more (length c.args.self.now.outgoing.items) c.args.place c.args.self.now (record { outgoing = c.loop-event.self.outgoing; added = 2 * c.args.place }) is first h.long
+          (λ x below. h.cut x (omega (arith, below, c.loop-event-test.false, c.len-event-end.ensures))) (omega arith) (λ rank before front. front) (omega (arith, c.if-place-self.true, h.added));
+    }
+
+pub returns-else-place-self : goal.returns-else-place-self
+returns-else-place-self g c =
+    let h = c.loop-event.invariant in
+    record {
+      rows = λ bounds more is first.
+          rows_cut bounds more (length c.args.self.now.outgoing.items) c.args.place c.args.self.now c.loop-event.self is first h.long
+          (λ x below. h.cut x (omega (arith, below, c.loop-event-test.false, c.len-event-end.ensures))) (omega (arith, c.if-place-self.false)) (λ rank before front. omega (arith, before, h.added))
+          (omega (arith, h.added));
+    }
