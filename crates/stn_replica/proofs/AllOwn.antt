@@ -1,13 +1,9 @@
 -- Where all steps are a site's own, those events count as left that are not done.
-use Rattle.std.proofs.Common.{[], ◌≡◌, ℕ, ◌+◌, ◌*◌, ◌≤◌, true, false, ◌||◌, ◌&&◌, not, leb, ◌∷◌, ap, ◌∙◌, arith}
-use Rattle.std.proofs.lemmas.Bool.Decides.{nat_tests}
-use Rattle.std.proofs.lemmas.List.FromFn.{fill_by_all, get_or-map-range_with_len, length-map-range_with_len}
-use Rattle.std.specs.List.{list_any}
-use Rattle.std.proofs.Math.Bool.{or-false}
-use Rattle.stn_lift.specs.{BaseBounds.step_of, PlanSource.PlanSource, PlanSource.steps_of, PlanSource.events_of}
+use Rattle.std.{proofs.{Common.{[], ◌≡◌, ℕ, ◌+◌, ◌*◌, ◌≤◌, true, false, ◌||◌, ◌&&◌, not, leb, ◌∷◌, ap, ◌∙◌, arith}, lemmas.{Bool.Decides.nat_tests, List.FromFn.{fill_by_all, get_or-map-range_with_len, length-map-range_with_len}}, Math.Bool.or-false}, specs.List.list_any}
+use Rattle.stn_lift.specs.{BaseBounds.step_of, PlanSource.{PlanSource, steps_of, events_of}}
 use Rattle.stn_records.specs.Content.{Content}
 use Rattle.stn_site.specs.Report.{is_done, done_events}
-use Rattle.stn_replica.specs.{declared.own.StepRange.StepRange, declared.own.Own.Own, Own.has, Own.is_end, Own.is_own, Own.done_or_others}
+use Rattle.stn_replica.specs.{declared.own.{StepRange.StepRange, Own.Own}, Own.{has, is_end, is_own, done_or_others}}
 
 -- each event is one of all steps'
 pub has_all : (steps event : ℕ) → event ≤ 2 * steps → (leb 0 (step_of event) && leb (step_of event) steps) ≡ true

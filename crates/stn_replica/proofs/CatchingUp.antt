@@ -1,16 +1,10 @@
 -- What a change of a site's plan makes of its live records, and a matrix that has caught up with it.
-use Rattle.std.proofs.Common.{◌≡◌, ◌≤◌, Bool, true, false, List, [], ◌∷◌, ◌++◌, Some, inl, refl, sym, ap, subst, ◌∙◌}
-use Rattle.std.specs.FinMap.{get}
-use Rattle.std.proofs.lemmas.Option.{same_Some}
-use Rattle.stn_net.specs.Difference.{Difference}
-use Rattle.stn_net.specs.{Matrix.Table.Table, Matrix.Tightest.IsExact}
+use Rattle.std.{proofs.{Common.{◌≡◌, ◌≤◌, Bool, true, false, List, [], ◌∷◌, ◌++◌, Some, inl, refl, sym, ap, subst, ◌∙◌}, lemmas.Option.same_Some}, specs.FinMap.get}
+use Rattle.stn_net.specs.{Difference.Difference, Matrix.{Table.Table, Tightest.IsExact}}
 use Rattle.stn_lift.specs.PlanSource.{events_of}
-use Rattle.stn_records.specs.{Id.SiteCounter, declared.record.Record.Record, ContentLaws.contents_join}
-use Rattle.stn_records.specs.Content.{Content, is_known, is_live, replacement, plain, one_amendment, next_counter}
-use Rattle.stn_records.proofs.{Counters.next_is_new, OneItem.inserted_here}
-use Rattle.stn_site.specs.{Bounds.live_bounds, Bounds.RecordsName, Held.Held, Held.next_id, Calls.added, Calls.amended, Calls.Leaves}
-use Rattle.stn_replica.specs.{Invariant.IsSettled, Invariant.IsSoundReplica, Work.KeepsLive}
-use Rattle.stn_replica.proofs.{Changes.IsGrown, Changes.grown_with_record, Changes.grown_with_amendment, Changes.falls_with_amendment, Sound.sound_added, Sound.sound_rebuilt}
+use Rattle.stn_records.{specs.{Id.SiteCounter, declared.record.Record.Record, ContentLaws.contents_join, Content.{Content, is_known, is_live, replacement, plain, one_amendment, next_counter}}, proofs.{Counters.next_is_new, OneItem.inserted_here}}
+use Rattle.stn_site.specs.{Bounds.{live_bounds, RecordsName}, Held.{Held, next_id}, Calls.{added, amended, Leaves}}
+use Rattle.stn_replica.{specs.{Invariant.{IsSettled, IsSoundReplica}, Work.KeepsLive}, proofs.{Changes.{IsGrown, grown_with_record, grown_with_amendment, falls_with_amendment}, Sound.{sound_added, sound_rebuilt}}}
 
 -- the site's next id is not known
 next_unknown : (held : Held) (id : SiteCounter) → id ≡ next_id held → is_known held.state id ≡ false

@@ -1,19 +1,9 @@
 -- What an addition, an amendment, a withdrawal and a take make of a state.
-use Rattle.std.proofs.Common.{◌≡◌, ◌<◌, ◌≤◌, Bool, true, false, not, ◌&&◌, ◌||◌, List, [], ◌∷◌, ◌++◌, length, Option, Some, None, is_some, inl, ⊎_elim, refl, sym, ap, subst, ◌∙◌, arith, All}
-use Rattle.std.proofs.lemmas.Bool.{false≢true, false_from_ne_true, cases_lt, or_cases, not-true, and_parts, or_right}
-use Rattle.std.proofs.lemmas.List.Elements.{All-nil, All-push}
-use Rattle.std.specs.{Ordering.eq_by_cmp, FinMap.get, FinMap.insert, FinMap.contains_key}
-use Rattle.std.proofs.lemmas.Option.{same_Some}
-use Rattle.std.proofs.Math.Bool.{and-false, and-not_self}
-use Rattle.stn_net.specs.{Difference.Difference, Difference.NamesEvents, Schedule.Meets, Matrix.Table.Table}
-use Rattle.stn_records.specs.{Id.SiteCounter, Id.id_cmp, declared.record.Record.Record, ContentLaws.contents_join}
-use Rattle.stn_records.specs.Content.{Content, addition, is_live, is_replaced, is_known, plain, replaced_set, with_amendment, with_record, with_tombstone, join_contents}
-use Rattle.stn_records.proofs.Replaced.{replaced_by_withdrawal, inserted_key, replaced_withdrawn, replaced_amended}
-use Rattle.stn_site.specs.Bounds.{bounds_of, live_bounds}
-use Rattle.stn_replica.specs.{Invariant.IsSettled, Work.is_risen, Work.risen, Work.KeepsLive, Work.Extends}
-use Rattle.stn_site.proofs.{Counts.unknown_absent, Counts.unknown_unreplaced, Named.same_id, Named.itself, Named.get_added}
-use Rattle.stn_replica.proofs.Live.{RisenHold, keeps_unless_replaced, falls_where_replaced, live_from_bounds, bounds_from_live, risen_from_bounds, old_hold, risen_hold, new_hold}
-use Rattle.stn_replica.proofs.Schedules.{schedule_before, met_behind, schedule_with, settled_same_schedules}
+use Rattle.std.{proofs.{Common.{◌≡◌, ◌<◌, ◌≤◌, Bool, true, false, not, ◌&&◌, ◌||◌, List, [], ◌∷◌, ◌++◌, length, Option, Some, None, is_some, inl, ⊎_elim, refl, sym, ap, subst, ◌∙◌, arith, All}, lemmas.{Bool.{false≢true, false_from_ne_true, cases_lt, or_cases, not-true, and_parts, or_right}, List.Elements.{All-nil, All-push}, Option.same_Some}, Math.Bool.{and-false, and-not_self}}, specs.{Ordering.eq_by_cmp, FinMap.{get, insert, contains_key}}}
+use Rattle.stn_net.specs.{Difference.{Difference, NamesEvents}, Schedule.Meets, Matrix.Table.Table}
+use Rattle.stn_records.{specs.{Id.{SiteCounter, id_cmp}, declared.record.Record.Record, ContentLaws.contents_join, Content.{Content, addition, is_live, is_replaced, is_known, plain, replaced_set, with_amendment, with_record, with_tombstone, join_contents}}, proofs.Replaced.{replaced_by_withdrawal, inserted_key, replaced_withdrawn, replaced_amended}}
+use Rattle.stn_site.{specs.Bounds.{bounds_of, live_bounds}, proofs.{Counts.{unknown_absent, unknown_unreplaced}, Named.{same_id, itself, get_added}}}
+use Rattle.stn_replica.{specs.{Invariant.IsSettled, Work.{is_risen, risen, KeepsLive, Extends}}, proofs.{Live.{RisenHold, keeps_unless_replaced, falls_where_replaced, live_from_bounds, bounds_from_live, risen_from_bounds, old_hold, risen_hold, new_hold}, Schedules.{schedule_before, met_behind, schedule_with, settled_same_schedules}}}
 
 -- ---- an id that is replaced is not live
 pub replaced_dead : (s : Content) (id : SiteCounter) → is_replaced s id ≡ true → is_live s id ≡ false

@@ -1,19 +1,9 @@
 -- The live records of a state, and those that become live from one state to the next.
-use Rattle.std.proofs.Common.{◌≡◌, Bool, true, false, cond, not, ◌&&◌, List, [], ◌∷◌, ◌++◌, filter, Option, Some, None, is_some, refl, sym, ap, subst, ◌∙◌, All}
-use Rattle.std.specs.{List.AllByRecursion, FinMap.entries, FinMap.get, FinMap.contains_key}
-use Rattle.std.proofs.{lemmas.Bool.false≢true, lemmas.List.Elements.All-from_recursion, lemmas.List.Elements.recursion_from_All}
-use Rattle.std.proofs.lemmas.Bool.{and_parts}
-use Rattle.std.proofs.lemmas.Option.{same_Some}
-use Rattle.std.proofs.Math.Bool.{and-false}
-use Rattle.stn_net.specs.{Difference.Difference, Difference.NamesEvents, Schedule.HasSchedule, Schedule.Meets}
-use Rattle.stn_net.specs.Matrix.Table.{Table}
-use Rattle.stn_records.specs.{Id.SiteCounter, declared.record.Record.Record, ContentLaws.ids_total, ContentLaws.ids_exact}
-use Rattle.stn_records.specs.Content.{Content, addition, IsPart, is_live, is_replaced, live_of}
-use Rattle.stn_site.proofs.Named.{records_from_bounds, bounds_from_records}
-use Rattle.stn_site.specs.Bounds.{bounds_of, live_bounds}
-use Rattle.stn_replica.specs.{Invariant.IsSettled, Work.is_risen, Work.risen, Work.KeepsLive, Work.Extends}
-use Rattle.stn_records.proofs.Gets.{entries_from_get, get_from_entries}
-use Rattle.stn_replica.proofs.Schedules.{schedule_before, met_behind, schedule_with, settled_same_schedules}
+use Rattle.std.{proofs.{Common.{◌≡◌, Bool, true, false, cond, not, ◌&&◌, List, [], ◌∷◌, ◌++◌, filter, Option, Some, None, is_some, refl, sym, ap, subst, ◌∙◌, All}, lemmas.{Bool.{false≢true, and_parts}, List.Elements.{All-from_recursion, recursion_from_All}, Option.same_Some}, Math.Bool.and-false}, specs.{List.AllByRecursion, FinMap.{entries, get, contains_key}}}
+use Rattle.stn_net.specs.{Difference.{Difference, NamesEvents}, Schedule.{HasSchedule, Meets}, Matrix.Table.Table}
+use Rattle.stn_records.{specs.{Id.SiteCounter, declared.record.Record.Record, ContentLaws.{ids_total, ids_exact}, Content.{Content, addition, IsPart, is_live, is_replaced, live_of}}, proofs.Gets.{entries_from_get, get_from_entries}}
+use Rattle.stn_site.{proofs.Named.{records_from_bounds, bounds_from_records}, specs.Bounds.{bounds_of, live_bounds}}
+use Rattle.stn_replica.{specs.{Invariant.IsSettled, Work.{is_risen, risen, KeepsLive, Extends}}, proofs.Schedules.{schedule_before, met_behind, schedule_with, settled_same_schedules}}
 
 abbrev pub Entry : Type 0
 Entry = SiteCounter × Record
@@ -137,11 +127,6 @@ keeps_unless_replaced old new extends dead id live =
       | true ↦ λ e. absurd (false≢true (sym (dead id e) ∙ live))
       | false ↦ λ e. ap (λ o. is_some o && true) (extends id there.0 there.1)
     ] refl
-
--- a state has the records of its parts
-pub extends_part : (part whole old new : Content) → old ≡ part → new ≡ whole → IsPart part whole → Extends old new
-extends_part part whole old new was is within =
-    subst (λ (s : Content). Extends s new) (sym was) (subst (λ (s : Content). Extends part s) (sym is) (λ id r. within (addition id r)))
 
 -- where an id that is replaced now was live, it no longer is
 pub falls_where_replaced : (old new : Content) (id : SiteCounter) → is_replaced new id ≡ true → is_live old id ≡ true → ¬ KeepsLive old new

@@ -1,12 +1,8 @@
 -- The matrix of the plan's own bounds.
-use Rattle.std.proofs.Common.{◌≡◌, ℕ, ◌+◌, ◌-◌, ◌<◌, ◌≤◌, ◌↔◌, Bool, IsTrue, List, [], ◌∷◌, ◌++◌, length, take, drop, get_or, sym, ap, subst, ◌∙◌, arith, length-take, length-drop, append_assoc, append-nil}
-use Rattle.std.specs.{Prelude.All, List.Sorted.IsPermutation}
-use Rattle.std.proofs.lemmas.List.{take_more, take_all, take-append-drop}
-use Rattle.std.proofs.lemmas.List.Sorted.{All-permutation, IsPermutation-sym, IsPermutation-append_right}
+use Rattle.std.{proofs.{Common.{◌≡◌, ℕ, ◌+◌, ◌-◌, ◌<◌, ◌≤◌, ◌↔◌, Bool, IsTrue, List, [], ◌∷◌, ◌++◌, length, take, drop, get_or, sym, ap, subst, ◌∙◌, arith, length-take, length-drop, append_assoc, append-nil}, lemmas.List.{take_more, take_all, take-append-drop, Sorted.{All-permutation, IsPermutation-sym, IsPermutation-append_right}}}, specs.{Prelude.All, List.Sorted.IsPermutation}}
 use Rattle.stn_time.proofs.Each.{All-right}
-use Rattle.stn_net.specs.{Difference.Difference, Difference.NamesEvents, Horizon.horizon_bounds, Schedule.HasSchedule, Schedule.IsSchedule, Matrix.Table.Table, Matrix.Tightest.IsExact}
+use Rattle.stn_net.{specs.{Difference.{Difference, NamesEvents}, Horizon.horizon_bounds, Schedule.{HasSchedule, IsSchedule}, Matrix.{Table.Table, Tightest.IsExact}}, proofs.Horizons.length-horizon_bounds}
 use Rattle.stn_lift.specs.PlanSource.{PlanSource, base_bounds, events_of, planned_of, IsSoundSource}
-use Rattle.stn_net.proofs.Horizons.{length-horizon_bounds}
 use Rattle.stn_replica.proofs.Schedules.{schedule_before, schedule_permuted, exact_permuted}
 
 -- the bounds are no fewer than the events

@@ -1,16 +1,10 @@
 -- What a rehearsal of all bounds says of a replica's plan.
-use Rattle.std.proofs.Common.{◌≡◌, ℕ, ℤ, true, false, ◌+◌, ◌≤◌, Bool, List, length, get_or, take, map, not, ap, ◌∙◌, arith, get_or-take}
-use Rattle.std.proofs.{lemmas.Bool.false≢true, lemmas.Int.ints, lemmas.List.Elements.All-filter, lemmas.List.FromFn.fill_by_all}
-use Rattle.std.specs.{List.range_with_len, FinMap.entries}
-use Rattle.stn_net.specs.{Difference.Difference, Schedule.IsSchedule, Schedule.Meets, Windows.Dispatch.CanWaitUntil, Windows.Rehearsal.IsRehearsal, Windows.Rehearsal.NeverFalls, Windows.Rehearsal.RunsEachOnce, Windows.Rehearsal.HasScheduleThrough}
+use Rattle.std.{proofs.{Common.{◌≡◌, ℕ, ℤ, true, false, ◌+◌, ◌≤◌, Bool, List, length, get_or, take, map, not, ap, ◌∙◌, arith, get_or-take}, lemmas.{Bool.false≢true, Int.ints, List.{Elements.All-filter, FromFn.fill_by_all}}}, specs.{List.range_with_len, FinMap.entries}}
+use Rattle.stn_net.specs.{Difference.Difference, Schedule.{IsSchedule, Meets}, Windows.{Dispatch.CanWaitUntil, Rehearsal.{IsRehearsal, NeverFalls, RunsEachOnce, HasScheduleThrough}}}
 use Rattle.stn_lift.specs.PlanSource.{PlanSource, base_bounds, events_of}
-use Rattle.stn_records.specs.{Id.SiteCounter, Record.IsProper, Record.is_done as marks_done, declared.record.Mark.Mark, declared.record.Record.Record, Content.Content, Content.AllProper, Content.live_of, Content.is_replaced, ContentLaws.ids_total, ContentLaws.ids_exact}
-use Rattle.stn_records.specs.declared.record.Mark.TheVariants.{Plain, Done}
-use Rattle.stn_site.specs.Bounds.{all_bounds, live_bounds}
-use Rattle.stn_replica.specs.Dispatch.{KeepsRecorded, IsRestWith}
-use Rattle.stn_records.proofs.Gets.{entries_from_get}
-use Rattle.stn_site.proofs.Named.{records_from_bounds}
-use Rattle.stn_replica.proofs.Schedules.{met_behind}
+use Rattle.stn_records.{specs.{Id.SiteCounter, Record.{IsProper, is_done as marks_done}, declared.record.{Mark.{Mark, TheVariants.{Plain, Done}}, Record.Record}, Content.{Content, AllProper, live_of, is_replaced}, ContentLaws.{ids_total, ids_exact}}, proofs.Gets.entries_from_get}
+use Rattle.stn_site.{specs.Bounds.{all_bounds, live_bounds}, proofs.Named.records_from_bounds}
+use Rattle.stn_replica.{specs.Dispatch.{KeepsRecorded, IsRestWith}, proofs.Schedules.met_behind}
 
 -- the flags of the plan's events say which of them pass a test
 pub flags_are : (test : ℕ → Bool) (source : PlanSource) (events : ℕ) (flags given : List Bool) → events ≡ events_of source → given ≡ take (events + 1) flags → length given ≡ events + 1

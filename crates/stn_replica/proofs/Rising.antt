@@ -1,13 +1,8 @@
 -- The walk over the records that have become live.
-use Rattle.std.proofs.Common.{◌≡◌, Bool, true, false, cond, not, ◌&&◌, List, [], ◌∷◌, filter, Option, Some, None, is_some, ◌↔◌, refl, sym, ap, subst, ◌∙◌, All}
-use Rattle.std.proofs.lemmas.Bool.{false≢true, and_parts}
-use Rattle.std.proofs.lemmas.List.Elements.{All-head, All-nil, filter_passes, recursion_from_All}
-use Rattle.std.specs.{List.AllByRecursion, Map.Iter.TakesFirst, FinMap.entries, FinMap.find, FinMap.get}
-use Rattle.stn_records.specs.{Id.SiteCounter, Id.id_cmp, declared.record.Record.Record, Content.Content, Content.is_live, Content.is_replaced, Content.live_of, Sorted.without_ids, ContentLaws.ids_total, ContentLaws.ids_exact}
-use Rattle.stn_records.proofs.{Gets.entries_from_get, Live.found_where_live}
+use Rattle.std.{proofs.{Common.{◌≡◌, Bool, true, false, cond, not, ◌&&◌, List, [], ◌∷◌, filter, Option, Some, None, is_some, ◌↔◌, refl, sym, ap, subst, ◌∙◌, All}, lemmas.{Bool.{false≢true, and_parts}, List.Elements.{All-head, All-nil, filter_passes, recursion_from_All}}}, specs.{List.AllByRecursion, Map.Iter.TakesFirst, FinMap.{entries, find, get}}}
+use Rattle.stn_records.{specs.{Id.{SiteCounter, id_cmp}, declared.record.Record.Record, Content.{Content, is_live, is_replaced, live_of}, Sorted.without_ids, ContentLaws.{ids_total, ids_exact}}, proofs.{Gets.entries_from_get, Live.found_where_live}}
 use Rattle.stn_site.specs.Bounds.{bounds_of}
-use Rattle.stn_replica.specs.{Walk.from_next, Work.is_risen, Work.risen, Work.GainsLive, Work.KeepsLive}
-use Rattle.stn_replica.proofs.Live.{there_where_live, risen_from_bounds}
+use Rattle.stn_replica.{specs.{Walk.from_next, Work.{is_risen, risen, GainsLive, KeepsLive}}, proofs.Live.{there_where_live, risen_from_bounds}}
 
 -- an entry that is taken out is still ahead
 pub next_taken : {X : Type 0} (s t : List X) (r : Option X) → TakesFirst (λ (entry : X). entry) s r t → from_next r t ≡ s

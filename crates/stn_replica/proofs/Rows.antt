@@ -1,8 +1,5 @@
 -- Rows of bounds, one after the other.
-use Rattle.std.proofs.Common.{◌≡◌, ℕ, suc, ◌+◌, ◌<◌, List, [], ◌∷◌, ◌++◌, length, take, drop, set, get_or, sym, ap, subst, ◌∙◌, append_assoc, append-nil}
-use Rattle.std.specs.{Prelude.All, Prelude.Vec, List.Sorted.IsPermutation}
-use Rattle.std.proofs.{Math.Seq.split_at, lemmas.List.set_split, lemmas.List.take_more, lemmas.List.Concat.flat_map-append}
-use Rattle.std.proofs.lemmas.List.Sorted.{All-permutation, IsPermutation-append_comm, IsPermutation-append_left, IsPermutation-append_right, IsPermutation-trans}
+use Rattle.std.{proofs.{Common.{◌≡◌, ℕ, suc, ◌+◌, ◌<◌, List, [], ◌∷◌, ◌++◌, length, take, drop, set, get_or, sym, ap, subst, ◌∙◌, append_assoc, append-nil}, Math.Seq.split_at, lemmas.List.{set_split, take_more, Concat.flat_map-append, Sorted.{All-permutation, IsPermutation-append_comm, IsPermutation-append_left, IsPermutation-append_right, IsPermutation-trans}}}, specs.{Prelude.{All, Vec}, List.Sorted.IsPermutation}}
 use Rattle.stn_net.specs.Difference.{Difference, NamesEvents}
 use Rattle.stn_replica.specs.Rows.{in_turn}
 

@@ -1,11 +1,8 @@
 -- What is settled of bounds depends on their schedules alone.
-use Rattle.std.proofs.Common.{ℕ, ℤ, Bool, true, false, ◌↔◌, List, [], ◌∷◌, ◌++◌, All, IsTrue, refl}
-use Rattle.std.proofs.{lemmas.Bool.false≢true, lemmas.List.Elements.All-append, lemmas.List.Sorted.All-permutation, lemmas.List.Sorted.IsPermutation-sym}
-use Rattle.std.specs.List.Sorted.{IsPermutation}
+use Rattle.std.{proofs.{Common.{ℕ, ℤ, Bool, true, false, ◌↔◌, List, [], ◌∷◌, ◌++◌, All, IsTrue, refl}, lemmas.{Bool.false≢true, List.{Elements.All-append, Sorted.{All-permutation, IsPermutation-sym}}}}, specs.List.Sorted.IsPermutation}
 use Rattle.stn_time.proofs.Each.{All-right}
-use Rattle.stn_net.specs.{Difference.Difference, Difference.NamesEvents, Schedule.IsSchedule, Schedule.HasSchedule, Schedule.Meets, Matrix.Table.Table, Matrix.Tightest.IsExact}
+use Rattle.stn_net.{specs.{Difference.{Difference, NamesEvents}, Schedule.{IsSchedule, HasSchedule, Meets}, Matrix.{Table.Table, Tightest.IsExact}}, proofs.Tightest.exact_same_schedules}
 pub use Rattle.stn_net.proofs.Closure.{schedule_before}
-use Rattle.stn_net.proofs.Tightest.{exact_same_schedules}
 use Rattle.stn_replica.specs.Invariant.{IsSettled}
 
 -- a schedule of bounds and more meets those after

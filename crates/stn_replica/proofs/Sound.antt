@@ -1,14 +1,10 @@
 -- That a replica stays sound, and what its work is.
-use Rattle.std.proofs.Common.{◌≡◌, ◌+◌, ◌≤◌, Bool, true, false, List, [], ◌∷◌, ◌++◌, refl, sym, ap, subst, ◌∙◌, arith, All}
-use Rattle.std.proofs.{lemmas.Bool.false≢true, lemmas.List.Elements.All-append}
-use Rattle.stn_net.specs.{Difference.Difference, Difference.NamesEvents, Schedule.HasSchedule, Matrix.Table.Table, Matrix.Tightest.IsExact}
+use Rattle.std.proofs.{Common.{◌≡◌, ◌+◌, ◌≤◌, Bool, true, false, List, [], ◌∷◌, ◌++◌, refl, sym, ap, subst, ◌∙◌, arith, All}, lemmas.{Bool.false≢true, List.Elements.All-append}}
+use Rattle.stn_net.specs.{Difference.{Difference, NamesEvents}, Schedule.HasSchedule, Matrix.{Table.Table, Tightest.IsExact}}
 use Rattle.stn_lift.specs.PlanSource.{PlanSource, base_bounds, events_of}
-use Rattle.stn_records.specs.{Id.SiteCounter, declared.record.Record.Record, Content.Content, Content.is_live, Content.with_tombstone}
-use Rattle.stn_site.specs.{Bounds.all_bounds, Bounds.live_bounds, Bounds.bounds_of, Bounds.RecordsName, Held.Held}
-use Rattle.stn_replica.specs.{Invariant.IsSettled, Invariant.IsSoundReplica, Work.Extends, Work.risen, Work.KeepsLive, Work.SparesWork}
-use Rattle.stn_site.proofs.Named.{live_named}
-use Rattle.stn_replica.proofs.Changes.{IsGrown, one_risen, settled_added, withdrawn_dead, same_live}
-use Rattle.stn_replica.proofs.Live.{settled_alike, settled_grown, conflict_stays}
+use Rattle.stn_records.specs.{Id.SiteCounter, declared.record.Record.Record, Content.{Content, is_live, with_tombstone}}
+use Rattle.stn_site.{specs.{Bounds.{all_bounds, live_bounds, bounds_of, RecordsName}, Held.Held}, proofs.Named.live_named}
+use Rattle.stn_replica.{specs.{Invariant.{IsSettled, IsSoundReplica}, Work.{Extends, risen, KeepsLive, SparesWork}}, proofs.{Changes.{IsGrown, one_risen, settled_added, withdrawn_dead, same_live}, Live.{settled_alike, settled_grown, conflict_stays}}}
 
 -- the table is exact where the bounds have a schedule
 pub settled_exact : (bounds : List Difference) (table : Table) (possible : Bool) → possible ≡ true → IsSettled bounds table possible → IsExact bounds table

@@ -1,9 +1,8 @@
 -- The rest of a replica's plan: the runs of the events that are left.
 use Rattle.std.specs.Prelude.{◌≡◌, ℕ, ℤ, true, Bool, List, All}
-use Rattle.stn_net.specs.Schedule.{IsSchedule}
-use Rattle.stn_net.specs.{Windows.Dispatch.CanWaitUntil, Windows.Rehearsal.IsRehearsal, Windows.Rehearsal.NeverFalls, Windows.Rehearsal.RunsEachOnce}
+use Rattle.stn_net.specs.{Schedule.IsSchedule, Windows.{Dispatch.CanWaitUntil, Rehearsal.{IsRehearsal, NeverFalls, RunsEachOnce}}}
 use Rattle.stn_lift.specs.PlanSource.{PlanSource}
-use Rattle.stn_records.specs.{Record.is_done as marks_done, Content.Content, Content.live_of}
+use Rattle.stn_records.specs.{Record.is_done as marks_done, Content.{Content, live_of}}
 use Rattle.stn_site.specs.{Bounds.all_bounds, Report.done_events}
 
 -- the times have each event that a live record says is done at its recorded time

@@ -1,6 +1,6 @@
 -- For proofs alone: no public clause cites these words.
 use Rattle.std.specs.Prelude.{◌≡◌, ◌≤◌, Bool, true, false, List}
-use Rattle.stn_net.specs.{Difference.Difference, Schedule.HasSchedule, Matrix.Table.Table, Matrix.Tightest.IsExact}
+use Rattle.stn_net.specs.{Difference.Difference, Schedule.HasSchedule, Matrix.{Table.Table, Tightest.IsExact}}
 use Rattle.stn_lift.specs.PlanSource.{PlanSource, base_bounds, events_of}
 use Rattle.stn_records.specs.Content.{Content}
 use Rattle.stn_site.specs.Bounds.{all_bounds, RecordsName}

@@ -1,10 +1,9 @@
 -- The events that a site chooses itself.
-use Rattle.std.specs.Prelude.{ℕ, ◌+◌, ◌*◌, ◌==◌, nat_le, Bool, not, ◌&&◌, ◌||◌, List, map}
-use Rattle.std.specs.List.{list_any, range_with_len}
-use Rattle.stn_lift.specs.{BaseBounds.step_of, PlanSource.PlanSource, PlanSource.events_of}
+use Rattle.std.specs.{Prelude.{ℕ, ◌+◌, ◌*◌, ◌==◌, nat_le, Bool, not, ◌&&◌, ◌||◌, List, map}, List.{list_any, range_with_len}}
+use Rattle.stn_lift.specs.{BaseBounds.step_of, PlanSource.{PlanSource, events_of}}
 use Rattle.stn_records.specs.Content.{Content}
 use Rattle.stn_site.specs.Report.{is_done}
-use Rattle.stn_replica.specs.{declared.own.StepRange.StepRange, declared.own.Own.Own}
+use Rattle.stn_replica.specs.declared.own.{StepRange.StepRange, Own.Own}
 
 -- a plan of so many steps has all steps of the range
 abbrev pub is_within : ℕ → StepRange → Bool

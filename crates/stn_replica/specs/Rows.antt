@@ -1,5 +1,5 @@
 -- For proofs alone: no public clause cites these words.
-use Rattle.std.specs.{Prelude.List, Prelude.Vec, List.flat_map}
+use Rattle.std.specs.{Prelude.{List, Vec}, List.flat_map}
 use Rattle.stn_net.specs.Difference.{Difference}
 
 -- the bounds of rows, row after row

@@ -1,7 +1,6 @@
-use Rattle.std.specs.Prelude.{◌≡◌, ◌+◌, ◌≤◌, Bool, true, not, ◌&&◌, List, length, filter, Some}
-use Rattle.std.specs.FinMap.{entries, get}
+use Rattle.std.specs.{Prelude.{◌≡◌, ◌+◌, ◌≤◌, Bool, true, not, ◌&&◌, List, length, filter, Some}, FinMap.{entries, get}}
 use Rattle.stn_net.specs.Schedule.{HasSchedule}
-use Rattle.stn_records.specs.{Id.SiteCounter, declared.record.Record.Record, Content.Content, Content.is_live}
+use Rattle.stn_records.specs.{Id.SiteCounter, declared.record.Record.Record, Content.{Content, is_live}}
 use Rattle.stn_site.specs.{Bounds.all_bounds, Held.Held}
 
 -- the record of the id is live in the new state, and was not in the old

@@ -1,12 +1,8 @@
 ghost use Rattle.std.specs.Prelude.{◌≡◌, IfOk, IfErr, MatchOption};
-ghost use Rattle.stn_net.specs.Schedule.{HasSchedule};
-ghost use Rattle.stn_net.specs.Windows.Dispatch.{IsNext};
-ghost use Rattle.stn_net.specs.Windows.Rehearsal.{IsRehearseFault};
+ghost use Rattle.stn_net.specs.{Schedule.HasSchedule, Windows.{Dispatch.IsNext, Rehearsal.IsRehearseFault}};
 ghost use Rattle.stn_lift.specs.PlanSource.{steps_of};
-ghost use Rattle.stn_site.specs.Bounds.{all_bounds};
-ghost use Rattle.stn_site.specs.Report.{done_events};
-ghost use Rattle.stn_replica.specs.Own.{done_or_others};
-ghost use Rattle.stn_replica.specs.Dispatch.{IsRestOfPlan, IsRestWith};
+ghost use Rattle.stn_site.specs.{Bounds.all_bounds, Report.done_events};
+ghost use Rattle.stn_replica.specs.{Own.done_or_others, Dispatch.{IsRestOfPlan, IsRestWith}};
 
 use crate::own::{Own, StepRange, flags_among, flags_of};
 use crate::replica::Replica;

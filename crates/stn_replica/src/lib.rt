@@ -14,4 +14,5 @@ mod plan_matrix;
 mod replica;
 mod report;
 mod risen;
+mod site_copy;
 mod site_matrix;

@@ -1,12 +1,9 @@
-ghost use Rattle.std.specs.Prelude.{◌≡◌, ◌+◌, ◌≤◌, ◌++◌, ◌↔◌, List, [], ◌∷◌, length, Some, IsTrue, IfOk};
-ghost use Rattle.std.specs.FinMap.{get, contains_key};
-ghost use Rattle.stn_net.specs.Difference.{Difference};
-ghost use Rattle.stn_net.specs.Matrix.Tightest.{IsExact};
+ghost use Rattle.std.specs.{Prelude.{◌≡◌, ◌+◌, ◌≤◌, ◌++◌, ◌↔◌, List, [], ◌∷◌, length, Some, IsTrue, IfOk}, FinMap.{get, contains_key}};
+ghost use Rattle.stn_net.specs.{Difference.Difference, Matrix.Tightest.IsExact};
 ghost use Rattle.stn_lift.specs.PlanSource.{PlanSource, base_bounds, events_of};
 ghost use Rattle.stn_records.specs.declared.record.Record.{Record};
 ghost use Rattle.stn_site.specs.Bounds.{bounds_of, live_bounds, RecordsName};
-ghost use Rattle.stn_replica.specs.Invariant.{IsSettled, IsSoundReplica};
-ghost use Rattle.stn_replica.specs.Work.{risen, Extends, KeepsLive, GainsLive};
+ghost use Rattle.stn_replica.specs.{Invariant.{IsSettled, IsSoundReplica}, Work.{risen, Extends, KeepsLive, GainsLive}};
 
 use crate::closest::closest_first;
 use crate::plan_matrix::PlanMatrix;

@@ -1,5 +1,4 @@
-ghost use Rattle.std.specs.Prelude.{◌≡◌, ℕ, ◌+◌, ◌≤◌, ◌||◌, not, false, length, take, slice_index_or};
-ghost use Rattle.std.specs.List.{list_any};
+ghost use Rattle.std.specs.{Prelude.{◌≡◌, ℕ, ◌+◌, ◌≤◌, ◌||◌, not, false, length, take, slice_index_or}, List.list_any};
 ghost use Rattle.stn_net.specs.Event.{most_events};
 ghost use Rattle.stn_lift.specs.BaseBounds as step;
 ghost use Rattle.stn_records.specs.Content.{AllProper};

@@ -1,16 +1,8 @@
-ghost use Rattle.std.specs.Prelude.{◌≡◌, ◌+◌, ◌≤◌, pos, true, length, None, unwrap_or, IsOk, IfOk, IfErr, IfSome, OnOk, OnErr, MatchOption};
-ghost use Rattle.std.specs.FinMap.{contains_key};
-ghost use Rattle.std.specs.Rc.{rc_value};
-ghost use Rattle.stn_net.specs.Schedule.{HasSchedule, IsSchedule, times_of};
-ghost use Rattle.stn_net.specs.Matrix.Tightest.{IsExact};
-ghost use Rattle.stn_net.specs.Windows.Window.{IsWindow};
+ghost use Rattle.std.specs.{Prelude.{◌≡◌, ◌+◌, ◌≤◌, pos, true, length, None, unwrap_or, IsOk, IfOk, IfErr, IfSome, OnOk, OnErr, MatchOption}, FinMap.contains_key, Rc.rc_value};
+ghost use Rattle.stn_net.specs.{Schedule.{HasSchedule, IsSchedule, times_of}, Matrix.Tightest.IsExact, Windows.Window.IsWindow};
 ghost use Rattle.stn_lift.specs.PlanSource.{base_bounds, events_of};
 ghost use Rattle.stn_records.specs.Content.{no_content, IsPart};
-ghost use Rattle.stn_site.specs.Bounds.{all_bounds, RecordsName};
-ghost use Rattle.stn_site.specs.Names.{broken_bound};
-ghost use Rattle.stn_site.specs.Held.{difference, plain, executed};
-ghost use Rattle.stn_site.specs.Calls.{added, amended, withdrew, took, Leaves};
-ghost use Rattle.stn_site.specs.Refusals.{add_refusal, amend_refusal, done_refusal, withdraw_refusal, take_refusal};
+ghost use Rattle.stn_site.specs.{Bounds.{all_bounds, RecordsName}, Names.broken_bound, Held.{difference, plain, executed}, Calls.{added, amended, withdrew, took, Leaves}, Refusals.{add_refusal, amend_refusal, done_refusal, withdraw_refusal, take_refusal}};
 ghost use Rattle.stn_replica.specs.Work.{SparesWork};
 
 use crate::matrices::{catch_up, rebuild, tighten_by};

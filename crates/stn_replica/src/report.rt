@@ -1,8 +1,6 @@
 ghost use Rattle.std.specs.Prelude.{◌≡◌, ◌+◌, ◌≤◌, ◌++◌, ℕ, List, length, IfOk, OnOk, OnErr};
-ghost use Rattle.stn_net.specs.Difference.{Difference};
-ghost use Rattle.stn_net.specs.Matrix.Tightest.{IsExact};
-ghost use Rattle.stn_site.specs.Report.{most_report, IsReport};
-ghost use Rattle.stn_site.specs.Windows.{AreWindows};
+ghost use Rattle.stn_net.specs.{Difference.Difference, Matrix.Tightest.IsExact};
+ghost use Rattle.stn_site.specs.{Report.{most_report, IsReport}, Windows.AreWindows};
 
 use crate::replica::Replica;
 use std::alloc::Allocator;

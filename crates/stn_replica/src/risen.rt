@@ -1,6 +1,4 @@
-ghost use Rattle.std.specs.Prelude.{◌≡◌, length};
-ghost use Rattle.std.specs.Iterator.{at_most};
-ghost use Rattle.std.specs.Map.Iter.{TakesFirst};
+ghost use Rattle.std.specs.{Prelude.{◌≡◌, length}, Iterator.at_most, Map.Iter.TakesFirst};
 ghost use Rattle.stn_replica.specs.Work.{risen};
 
 use std::alloc::Allocator;
@@ -19,13 +17,8 @@ pub struct Risen<'a> {
 }
 
 impl<'a> Model for Risen<'a> {
-    ghost use Rattle.std.specs.Prelude.{List, IsTrue};
-    ghost use Rattle.std.specs.FinMap.{is_sorted};
-    ghost use Rattle.std.specs.Coded.{coded_list, coded×};
-    ghost use Rattle.stn_records.specs.Id.{SiteCounter, id_cmp, coded_id};
-    ghost use Rattle.stn_records.specs.Record.{coded_record};
-    ghost use Rattle.stn_records.specs.declared.record.Record.{Record};
-    ghost use Rattle.stn_records.specs.Sorted.{without_ids};
+    ghost use Rattle.std.specs.{Prelude.{List, IsTrue}, FinMap.is_sorted, Coded.{coded_list, coded×}};
+    ghost use Rattle.stn_records.specs.{Id.{SiteCounter, id_cmp, coded_id}, Record.coded_record, declared.record.Record.Record, Sorted.without_ids};
     ghost use Rattle.stn_replica.specs.Walk.{from_next};
 
     ghost Value = { List (SiteCounter × Record) };

@@ -1,6 +1,5 @@
 ghost use Rattle.std.specs.Prelude.{◌≡◌, IfOk, IfSome, MatchOption};
-ghost use Rattle.stn_net.specs.Schedule.{HasSchedule};
-ghost use Rattle.stn_net.specs.Matrix.Tightest.{IsExact};
+ghost use Rattle.stn_net.specs.{Schedule.HasSchedule, Matrix.Tightest.IsExact};
 ghost use Rattle.stn_lift.specs.PlanSource.{events_of};
 ghost use Rattle.stn_site.specs.Bounds.{all_bounds};
 

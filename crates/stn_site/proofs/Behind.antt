@@ -1,6 +1,5 @@
 -- What stood in a text to which something is appended still stands there.
-use Rattle.std.proofs.Common.{◌≡◌, ℕ, List, ◌++◌, length, take, drop, sym, ap, ◌∙◌, append_assoc, take-append-drop}
-use Rattle.std.proofs.lemmas.List.{take_at}
+use Rattle.std.proofs.{Common.{◌≡◌, ℕ, List, ◌++◌, length, take, drop, sym, ap, ◌∙◌, append_assoc, take-append-drop}, lemmas.List.take_at}
 
 pub behind : (n : ℕ) (old text new : List ℕ) → length old ≡ n → new ≡ old ++ text → take n new ≡ old
 behind n old text new long is = ap (take n) is ∙ take_at old text n long

@@ -1,16 +1,9 @@
 -- The first of all bounds that times break.
-use Rattle.std.proofs.Common.{◌≡◌, ℕ, ℤ, pos, ◌-ℤ◌, ◌≤ℤ◌, ◌+◌, ◌-◌, ◌<◌, nat_lt, Bool, not, cond, List, length, get_or, take, Some, None, sym, ap, subst, ◌∙◌, arith, length-append, length-take, All}
-use Rattle.std.specs.{Prelude.int_le, Prelude.position, Prelude.option_map, List.position_or_len, Bool.Decides, List.HoldsAt}
-use Rattle.std.proofs.{lemmas.Bool.false_from_ne_true, lemmas.Int.ints, lemmas.List.Sums.position_or_len_is, lemmas.List.Elements.All-append}
-use Rattle.std.proofs.lemmas.Bool.Decides.{nat_tests, Decides-and}
-use Rattle.std.proofs.lemmas.List.{take-append-le, get_or_append_left, get_or-append-add, get_or-take, get_or_default}
-use Rattle.std.proofs.Math.Seq.{take-append-add}
-use Rattle.std.proofs.lemmas.Bool.{cond-true, cond-false, le-ltb, lt-ltb}
-use Rattle.stn_net.specs.{Difference.Difference, Schedule.IsSchedule, Schedule.Meets}
+use Rattle.std.{proofs.{Common.{◌≡◌, ℕ, ℤ, pos, ◌-ℤ◌, ◌≤ℤ◌, ◌+◌, ◌-◌, ◌<◌, nat_lt, Bool, not, cond, List, length, get_or, take, Some, None, sym, ap, subst, ◌∙◌, arith, length-append, length-take, All}, lemmas.{Bool.{false_from_ne_true, cond-true, cond-false, le-ltb, lt-ltb, Decides.{nat_tests, Decides-and}}, Int.ints, List.{take-append-le, get_or_append_left, get_or-append-add, get_or-take, get_or_default, Sums.position_or_len_is, Elements.All-append}}, Math.Seq.take-append-add}, specs.{Prelude.{int_le, position, option_map}, List.{position_or_len, HoldsAt}, Bool.Decides}}
+use Rattle.stn_net.specs.{Difference.Difference, Schedule.{IsSchedule, Meets}}
 use Rattle.stn_lift.specs.PlanSource.{PlanSource, base_bounds}
 use Rattle.stn_records.specs.{Id.SiteCounter, Content.Content}
-use Rattle.stn_site.specs.{declared.names.BoundName.BoundName, Bounds.all_bounds, Bounds.live_bounds, Names.live_ids, Names.id_at, Names.name_in, Names.is_met, Names.broken_bound, Walk.IsFirstBrokenRecord}
-use Rattle.stn_site.specs.declared.names.BoundName.TheVariants.{Plan, Record}
+use Rattle.stn_site.specs.{declared.names.BoundName.{BoundName, TheVariants.{Plan, Record}}, Bounds.{all_bounds, live_bounds}, Names.{live_ids, id_at, name_in, is_met, broken_bound}, Walk.IsFirstBrokenRecord}
 
 -- the first of all bounds that the times break, and its name
 pub record IsFirstBroken (source : PlanSource) (state : Content) (time : ℕ → ℤ) (first : BoundName) : Type 0 where

@@ -1,11 +1,6 @@
 -- How many records and replaced ids a state has.
-use Rattle.std.proofs.Common.{◌≡◌, sym, ◌≤◌, Bool, not, length, map, arith, refl}
-use Rattle.std.proofs.lemmas.List.{length-map}
-use Rattle.std.specs.FinMap.{entries}
-use Rattle.std.proofs.lemmas.List.Filters.{length-filter_both}
-use Rattle.stn_records.specs.{Id.SiteCounter, declared.record.Record.Record}
-use Rattle.stn_records.specs.Content.{Content, known_count, is_replaced, live_of, listed, replaced_count, replaced_set}
-use Rattle.stn_records.proofs.Limits.{additions_within, replaced_within}
+use Rattle.std.{proofs.{Common.{◌≡◌, sym, ◌≤◌, Bool, not, length, map, arith, refl}, lemmas.List.{length-map, Filters.length-filter_both}}, specs.FinMap.entries}
+use Rattle.stn_records.{specs.{Id.SiteCounter, declared.record.Record.Record, Content.{Content, known_count, is_replaced, live_of, listed, replaced_count, replaced_set}}, proofs.Limits.{additions_within, replaced_within}}
 
 -- as many ids are replaced as the set has entries
 pub replaced_counted : (s : Content) → length (entries (replaced_set s)) ≡ replaced_count s

@@ -1,10 +1,6 @@
 -- What counts of a state: its additions, and the ids that are replaced.
-use Rattle.std.proofs.Common.{◌≡◌, ◌↔◌, true, false, Option, Some, None, is_some, inl, inr, ⊎_elim, refl, sym, ap, ◌∙◌}
-use Rattle.std.proofs.lemmas.Bool.{false≢true, or_parts}
-use Rattle.std.specs.FinMap.{get}
-use Rattle.stn_records.specs.{Id.SiteCounter, ContentLaws.records_join, ContentLaws.ids_join}
-use Rattle.stn_records.specs.Content.{Content, AllAmend, Item, addition, withdrawal, replacement, HasItem, CountsSame, is_known, is_replaced, replaced_set}
-use Rattle.stn_records.proofs.Replaced.{replaced_cases, replaced_by_withdrawal, replaced_by_entry}
+use Rattle.std.{proofs.{Common.{◌≡◌, ◌↔◌, true, false, Option, Some, None, is_some, inl, inr, ⊎_elim, refl, sym, ap, ◌∙◌}, lemmas.Bool.{false≢true, or_parts}}, specs.FinMap.get}
+use Rattle.stn_records.{specs.{Id.SiteCounter, ContentLaws.{records_join, ids_join}, Content.{Content, AllAmend, Item, addition, withdrawal, replacement, HasItem, CountsSame, is_known, is_replaced, replaced_set}}, proofs.Replaced.{replaced_cases, replaced_by_withdrawal, replaced_by_entry}}
 use Rattle.stn_site.specs.Calls.{Replaces, CountAlike}
 
 not_there : {X : Type 0} (o : Option X) → is_some o ≡ false → o ≡ None

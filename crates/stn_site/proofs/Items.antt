@@ -1,15 +1,9 @@
 -- The items of the state that calls leave.
-use Rattle.std.proofs.Common.{◌≡◌, ◌↔◌, ◌⊎◌, ℕ, inl, inr, ⊎_elim, true, false, cond, is_some, is_eq, Some, List, [], ◌∷◌, refl, ap, sym, subst, ◌∙◌}
-use Rattle.std.proofs.lemmas.Bool.{false≢true}
-use Rattle.std.specs.{Cmp.Equal-is, FinMap.get-empty, FinMap.get-insert}
+use Rattle.std.{proofs.{Common.{◌≡◌, ◌↔◌, ◌⊎◌, ℕ, inl, inr, ⊎_elim, true, false, cond, is_some, is_eq, Some, List, [], ◌∷◌, refl, ap, sym, subst, ◌∙◌}, lemmas.Bool.false≢true}, specs.{Cmp.Equal-is, FinMap.{get-empty, get-insert}}}
 use Rattle.std.specs.FinMap as fin
 use Rattle.stn_net.specs.Difference.{Difference}
-use Rattle.stn_records.specs.{declared.record.Record.Record, Id.SiteCounter, Id.id_cmp, ContentLaws.ids_total, ContentLaws.ids_exact, ContentLaws.contents_join}
-use Rattle.stn_records.specs.Content.{Content, Item, AllAmend, addition, withdrawal, replacement, HasItem, CountsSame, is_known, join_contents, no_content, one_amendment, one_record, one_tombstone, plain, with_amendment, with_record, with_tombstone, next_counter}
-use Rattle.stn_records.proofs.{OneItem.inserted_here, OneItem.record_joins, OneItem.amendment_joins, OneItem.tombstone_joins, Counters.next_is_new}
-use Rattle.stn_site.specs.Held.{Held}
-use Rattle.stn_site.specs.Calls.{Accepted, added, amended, withdrew, took, LeavesState, AllLeave, CameBy, Brought, Took, TookSame, TookSameItems}
-use Rattle.stn_site.proofs.Counts.{unknown_absent, replaces_nothing, counts_alike, alike_unions}
+use Rattle.stn_records.{specs.{declared.record.Record.Record, Id.{SiteCounter, id_cmp}, ContentLaws.{ids_total, ids_exact, contents_join}, Content.{Content, Item, AllAmend, addition, withdrawal, replacement, HasItem, CountsSame, is_known, join_contents, no_content, one_amendment, one_record, one_tombstone, plain, with_amendment, with_record, with_tombstone, next_counter}}, proofs.{OneItem.{inserted_here, record_joins, amendment_joins, tombstone_joins}, Counters.next_is_new}}
+use Rattle.stn_site.{specs.{Held.Held, Calls.{Accepted, added, amended, withdrew, took, LeavesState, AllLeave, CameBy, Brought, Took, TookSame, TookSameItems}}, proofs.Counts.{unknown_absent, replaces_nothing, counts_alike, alike_unions}}
 
 nothing_at : {X : Type 0} (q : SiteCounter) (y : X) {P : Type 0} → fin.get {R = id_cmp} fin.empty q ≡ Some y → P
 nothing_at q y none = absurd (false≢true (ap is_some (sym (get-empty id_cmp q) ∙ none)))

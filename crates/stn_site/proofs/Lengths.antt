@@ -1,10 +1,7 @@
 -- How long the parts of a report's lines are.
-use Rattle.std.proofs.Common.{◌≡◌, ℕ, ◌+◌, ◌/◌, ◌%◌, ◌^◌, ◌<◌, ◌≤◌, Bool, true, false, cond, eqb, List, ◌++◌, length, ℤ, pos, negsuc, Result, Ok, Err, OnOk, refl, ap, subst, ◌∙◌, arith, codes, length-append}
-use Rattle.std.proofs.{lemmas.Int.ints, lemmas.Fmt.length-decimal-le_wide}
-use Rattle.std.specs.{Prelude.unsigned_abs, Int.is_negative, Int.RustNames.FitsSigned, Fmt.decimal, Fmt.sign_text}
+use Rattle.std.{proofs.{Common.{◌≡◌, ℕ, ◌+◌, ◌/◌, ◌%◌, ◌^◌, ◌<◌, ◌≤◌, Bool, true, false, cond, eqb, List, ◌++◌, length, ℤ, pos, negsuc, Result, Ok, Err, OnOk, refl, ap, subst, ◌∙◌, arith, codes, length-append}, lemmas.{Int.ints, Fmt.length-decimal-le_wide}}, specs.{Prelude.unsigned_abs, Int.{is_negative, RustNames.FitsSigned}, Fmt.{decimal, sign_text}}}
 use mir.Syntax.{w64}
-use Rattle.stn_time.specs.{Text.whole_text, Text.three_digits, Text.printed, Time.IsWithinHorizon, TimeOf.time_of}
-use Rattle.stn_time.proofs.{Forms.read-time, Prints.decimal-whole_text}
+use Rattle.stn_time.{specs.{Text.{whole_text, three_digits, printed}, Time.IsWithinHorizon, TimeOf.time_of}, proofs.{Forms.read-time, Prints.decimal-whole_text}}
 use Rattle.stn_net.specs.Event.{event_text}
 use Rattle.stn_records.specs.Id.{SiteCounter, id_text}
 

@@ -1,14 +1,7 @@
 -- Records that name the events of a plan, and what they are after a change.
-use Rattle.std.proofs.Common.{◌≡◌, ℕ, Bool, true, false, cond, not, List, [], ◌∷◌, Some, is_some, ⊎_elim, inr, refl, sym, ap, subst, ◌∙◌, All}
-use Rattle.std.proofs.lemmas.Bool.{false≢true}
-use Rattle.std.proofs.lemmas.List.Elements.{All-from_recursion, recursion_from_All, All-map, All-filter}
-use Rattle.std.specs.{List.AllByRecursion, Ordering.eq_by_cmp, Cmp.Equal-is, Cmp.tied_itself}
-use Rattle.std.specs.FinMap.{entries, get, insert, get-insert, get-empty}
-use Rattle.std.proofs.lemmas.Option.{same_Some}
+use Rattle.std.{proofs.{Common.{◌≡◌, ℕ, Bool, true, false, cond, not, List, [], ◌∷◌, Some, is_some, ⊎_elim, inr, refl, sym, ap, subst, ◌∙◌, All}, lemmas.{Bool.false≢true, List.Elements.{All-from_recursion, recursion_from_All, All-map, All-filter}, Option.same_Some}}, specs.{List.AllByRecursion, Ordering.eq_by_cmp, Cmp.{Equal-is, tied_itself}, FinMap.{entries, get, insert, get-insert, get-empty}}}
 use Rattle.stn_net.specs.Difference.{Difference, NamesEvents}
-use Rattle.stn_records.specs.{Id.SiteCounter, Id.id_cmp, declared.record.Record.Record, ContentLaws.ids_total, ContentLaws.ids_exact, ContentLaws.contents_join}
-use Rattle.stn_records.specs.Content.{Content, RecordMap, addition, is_known, is_replaced, live_of, no_content, join_contents, taken}
-use Rattle.stn_records.proofs.{Gets.entries_from_get, Gets.get_from_entries, Holding.joined_is}
+use Rattle.stn_records.{specs.{Id.{SiteCounter, id_cmp}, declared.record.Record.Record, ContentLaws.{ids_total, ids_exact, contents_join}, Content.{Content, RecordMap, addition, is_known, is_replaced, live_of, no_content, join_contents, content_taken}}, proofs.{Gets.{entries_from_get, get_from_entries}, Holding.joined_is}}
 use Rattle.stn_site.specs.Bounds.{bounds_of, live_bounds, RecordsName}
 
 -- what holds of the bound of each record holds of each of the bounds
@@ -50,7 +43,7 @@ module _ (s new : Content) (id : SiteCounter) (r : Record) (unknown : is_known s
       ] refl)
 
 -- records of another state that are all held name what the records of this one do
-pub named_held : (events : ℕ) (a b : Content) → taken a b ≡ Some a → RecordsName events a → RecordsName events b
+pub named_held : (events : ℕ) (a b : Content) → content_taken a b ≡ Some a → RecordsName events a → RecordsName events b
 named_held events a b is named =
     entries_from_get ids_total ids_exact b.additions (λ entry. NamesEvents events entry.1.bound) (λ id r there.
     get_from_entries ids_total ids_exact a.additions (λ entry. NamesEvents events entry.1.bound) named id r

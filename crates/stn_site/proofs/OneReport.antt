@@ -1,15 +1,10 @@
 -- A plan and a state have one report.
-use Rattle.std.proofs.Common.{◌≡◌, ℕ, zero, suc, ◌+◌, ◌⊎◌, List, [], ◌∷◌, ◌++◌, codes, Bool, Some, length, map, inl, inr, sym, ap, subst, ◌∙◌, ⊎_elim}
-use Rattle.std.proofs.lemmas.List.Elements.{All-take}
-use Rattle.std.specs.List.{flat_map}
-use Rattle.stn_net.specs.{Difference.Difference, Schedule.HasSchedule, Schedule.Meets}
-use Rattle.stn_net.proofs.WindowEnds.{one_window}
+use Rattle.std.{proofs.{Common.{◌≡◌, ℕ, zero, suc, ◌+◌, ◌⊎◌, List, [], ◌∷◌, ◌++◌, codes, Bool, Some, length, map, inl, inr, sym, ap, subst, ◌∙◌, ⊎_elim}, lemmas.List.Elements.All-take}, specs.List.flat_map}
+use Rattle.stn_net.{specs.{Difference.Difference, Schedule.{HasSchedule, Meets}}, proofs.WindowEnds.one_window}
 use Rattle.stn_lift.specs.PlanSource.{PlanSource, base_bounds, events_of, steps_of}
-use Rattle.stn_records.specs.{Id.SiteCounter, declared.record.Record.Record, Content.Content, Content.live_of, Content.replaced_count}
-use Rattle.stn_conflict.specs.{declared.links.Link.Link, Arcs.weight_of, Arcs.IsNegativeCycle, Named.IsNamedCycle}
-use Rattle.stn_site.specs.{Bounds.all_bounds, Bounds.bounds_of, Bounds.live_bounds, Names.live_ids}
-use Rattle.stn_site.specs.Lines.{line, plan_line, records_line, window_line, conflict_line, link_line}
-use Rattle.stn_site.specs.Report.{is_done, says_done, IsWindowLines, IsWindowsPart, IsConflictPart, IsReport, heading}
+use Rattle.stn_records.specs.{Id.SiteCounter, declared.record.Record.Record, Content.{Content, live_of, replaced_count}}
+use Rattle.stn_conflict.specs.{declared.links.Link.Link, Arcs.{weight_of, IsNegativeCycle}, Named.IsNamedCycle}
+use Rattle.stn_site.specs.{Bounds.{all_bounds, bounds_of, live_bounds}, Names.live_ids, Lines.{line, plan_line, records_line, window_line, conflict_line, link_line}, Report.{is_done, says_done, IsWindowLines, IsWindowsPart, IsConflictPart, IsReport, heading}}
 
 abbrev Entries : Type 0
 Entries = List (SiteCounter × Record)

@@ -1,9 +1,6 @@
 -- A walk over the records of a state, one after another.
-use Rattle.std.proofs.Common.{◌≡◌, ℕ, ◌+◌, ◌<◌, ◌≤◌, List, [], ◌∷◌, ◌++◌, length, get_or, take, sym, ap, subst, ◌∙◌, All}
-use Rattle.std.proofs.lemmas.List.{take_all, take_more}
-use Rattle.std.proofs.lemmas.List.Elements.{All-push, All-same, All-get_or}
-use Rattle.std.specs.FinMap.{entries}
-use Rattle.stn_records.specs.{Id.SiteCounter, declared.record.Record.Record, Content.Content, Content.RecordMap}
+use Rattle.std.{proofs.{Common.{◌≡◌, ℕ, ◌+◌, ◌<◌, ◌≤◌, List, [], ◌∷◌, ◌++◌, length, get_or, take, sym, ap, subst, ◌∙◌, All}, lemmas.List.{take_all, take_more, Elements.{All-push, All-same, All-get_or}}}, specs.FinMap.entries}
+use Rattle.stn_records.specs.{Id.SiteCounter, declared.record.Record.Record, Content.{Content, RecordMap}}
 
 -- the records that are walked are those of the state
 pub walked_are : (s held : Content) (additions : RecordMap) (items : List (SiteCounter × Record)) → items ≡ entries additions → additions ≡ held.additions → held ≡ s → items ≡ entries s.additions

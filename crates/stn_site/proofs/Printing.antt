@@ -1,15 +1,10 @@
 -- The parts of a report, from what was appended.
-use Rattle.std.proofs.Common.{◌≡◌, ℕ, ℤ, suc, ◌+◌, Bool, List, [], ◌∷◌, ◌++◌, length, map, Option, Some, IfSome, refl, sym, ap, subst, ◌∙◌, add-one, All}
-use Rattle.std.specs.Prelude.{Result, Ok, Err, is_ok, OnOk, OnErr, if◌then◌else◌}
-use Rattle.std.proofs.lemmas.List.{length-map}
-use Rattle.std.specs.List.{flat_map}
-use Rattle.stn_net.specs.Difference.{Difference, NamesEvents}
-use Rattle.stn_net.specs.Windows.Window.{IsWindow}
+use Rattle.std.{proofs.{Common.{◌≡◌, ℕ, ℤ, suc, ◌+◌, Bool, List, [], ◌∷◌, ◌++◌, length, map, Option, Some, IfSome, refl, sym, ap, subst, ◌∙◌, add-one, All}, lemmas.List.length-map}, specs.{Prelude.{Result, Ok, Err, is_ok, OnOk, OnErr, if◌then◌else◌}, List.flat_map}}
+use Rattle.stn_net.specs.{Difference.{Difference, NamesEvents}, Windows.Window.IsWindow}
 use Rattle.stn_lift.specs.PlanSource.{PlanSource, base_bounds}
-use Rattle.stn_records.specs.{Id.SiteCounter, declared.record.Mark.Mark, declared.record.Record.Record, Content.Content, Content.live_of, Content.listed}
-use Rattle.stn_conflict.specs.{declared.links.Link.Link, Arcs.weight_of, Arcs.IsNegativeCycle, Named.IsNamedCycle}
-use Rattle.stn_site.specs.{Bounds.all_bounds, Bounds.live_bounds, Bounds.RecordsName, Names.live_ids, Lines.window_line, Lines.conflict_line, Lines.link_line, Report.IsWindowLines, Report.IsConflictPart}
-use Rattle.stn_site.proofs.Named.{live_named}
+use Rattle.stn_records.specs.{Id.SiteCounter, declared.record.{Mark.Mark, Record.Record}, Content.{Content, live_of, listed}}
+use Rattle.stn_conflict.specs.{declared.links.Link.Link, Arcs.{weight_of, IsNegativeCycle}, Named.IsNamedCycle}
+use Rattle.stn_site.{specs.{Bounds.{all_bounds, live_bounds, RecordsName}, Names.live_ids, Lines.{window_line, conflict_line, link_line}, Report.{IsWindowLines, IsConflictPart}}, proofs.Named.live_named}
 
 abbrev pub Listed : Type 0
 Listed = SiteCounter × Mark × Difference

@@ -1,22 +1,10 @@
 -- The first cause that refuses each call, from what its parts answer.
-use Rattle.std.proofs.Common.{◌≡◌, ◌≢◌, ℕ, ℤ, ◌<◌, ◌≤◌, ◌<ℤ◌, ◌≤ℤ◌, int_lt, inl, inr, ⊎_elim, Bool, true, false, not, ◌&&◌, leb, ltb, Option, Some, None, is_some, refl, sym, ap, ◌∙◌, arith}
-use Rattle.std.specs.{Prelude.unwrap_or, Prelude.◌==◌, Prelude.option_map, Bool.Decides, Bool.then_some, Option.option_or, List.list_all, FinMap.entries}
-use Rattle.std.proofs.{lemmas.Bool.false≢true, lemmas.Bool.cases_lt, lemmas.Bool.false_from_ne_true, lemmas.Bool.Decides.nat_tests, lemmas.Bool.Decides.Decides-by_and, lemmas.Int.ints}
-use Rattle.std.proofs.lemmas.Bool.{true_from_ne_false, and_parts, and_from, leb-true, le-leb, eq-eqb, ne_eqb, le-ltb}
-use Rattle.stn_net.specs.Difference.{Difference, NamesEvents, IsBoundWithin, IsFaultOf}
-use Rattle.stn_net.specs.declared.bound.BoundFault.{BoundFault}
-use Rattle.stn_net.specs.declared.bound.BoundFault.TheVariants.{NoEvent, SameEvent, Crossed}
-use Rattle.stn_net.specs.Windows.Rehearsal.{fixed_at}
+use Rattle.std.{proofs.{Common.{◌≡◌, ◌≢◌, ℕ, ℤ, ◌<◌, ◌≤◌, ◌<ℤ◌, ◌≤ℤ◌, int_lt, inl, inr, ⊎_elim, Bool, true, false, not, ◌&&◌, leb, ltb, Option, Some, None, is_some, refl, sym, ap, ◌∙◌, arith}, lemmas.{Bool.{false≢true, cases_lt, false_from_ne_true, true_from_ne_false, and_parts, and_from, leb-true, le-leb, eq-eqb, ne_eqb, le-ltb, Decides.{nat_tests, Decides-by_and}}, Int.ints}}, specs.{Prelude.{unwrap_or, ◌==◌, option_map}, Bool.{Decides, then_some}, Option.option_or, List.list_all, FinMap.entries}}
+use Rattle.stn_net.specs.{Difference.{Difference, NamesEvents, IsBoundWithin, IsFaultOf}, declared.bound.BoundFault.{BoundFault, TheVariants.{NoEvent, SameEvent, Crossed}}, Windows.Rehearsal.fixed_at}
 use Rattle.stn_lift.specs.PlanSource.{events_of}
-use Rattle.stn_records.specs.{Id.most_counter, Id.SiteCounter, declared.record.Record.Record, declared.faults.RecordsFault.RecordsFault}
+use Rattle.stn_records.{specs.{Id.{most_counter, SiteCounter}, declared.{record.Record.Record, faults.RecordsFault.RecordsFault}, Refusals.{addition_refusal as records_add, join_refusal as records_take, withdrawal_refusal as records_withdraw}, Content.{most_known, Content, is_known, known_count, known_in_either, next_counter, dispute_contents, content_taken}}, proofs.{Outcomes.too_many, FirstCauses.{add_new, take_free}, Holding.held_agrees}}
 use Rattle.stn_records.specs.declared.faults.RecordsFault.TheVariants as records
-use Rattle.stn_records.specs.Refusals.{add_refusal as records_add, take_refusal as records_take, withdraw_refusal as records_withdraw}
-use Rattle.stn_records.specs.Content.{most_known, Content, is_known, known_count, known_in_either, next_counter, dispute_contents, taken}
-use Rattle.stn_site.specs.declared.faults.ReplicaFault.TheVariants.{Bound, CounterSpent, Full, Unknown, Clash, Memory}
-use Rattle.stn_site.specs.{Bounds.RecordsName, FaultsOf.of_records_fault, declared.faults.ReplicaFault.ReplicaFault, Held.Held, Held.difference}
-use Rattle.stn_site.specs.Refusals.{names_events, bound_refusal, next_refusal, add_refusal, amend_refusal, done_refusal, withdraw_refusal, records_name, take_refusal}
-use Rattle.stn_records.proofs.{Outcomes.too_many, FirstCauses.add_new, FirstCauses.take_free, Holding.held_agrees}
-use Rattle.stn_site.proofs.Counts.{unknown_absent}
+use Rattle.stn_site.{specs.{declared.faults.ReplicaFault.{ReplicaFault, TheVariants.{Bound, CounterSpent, Full, Unknown, Clash, Memory}}, Bounds.RecordsName, FaultsOf.of_records_fault, Held.{Held, difference}, Refusals.{names_events, bound_refusal, next_refusal, add_refusal, amend_refusal, done_refusal, withdraw_refusal, records_name, take_refusal}}, proofs.Counts.unknown_absent}
 
 -- the first of several causes stands, or another is asked for
 first_stands : {X : Type 0} (stands : Bool) (cause : X) (others : Option X) → stands ≡ true → option_or (then_some stands cause) others ≡ Some cause
@@ -165,7 +153,7 @@ taken_in held other named =
     alike (Some id) b = refl
 
 -- where all is held already, nothing stands against a take
-pub can_hold : (held : Held) (other : Content) → RecordsName (events_of held.source) other → taken held.state other ≡ Some held.state → take_refusal held other ≡ None
+pub can_hold : (held : Held) (other : Content) → RecordsName (events_of held.source) other → content_taken held.state other ≡ Some held.state → take_refusal held other ≡ None
 can_hold held other named is =
     let agreed = held_agrees held.state other is in
     let few : known_in_either held.state other ≤ most_known = elim (cases_lt most_known (known_in_either held.state other)) [

@@ -1,6 +1,5 @@
 -- What an option, a result and a counter hold.
-use Rattle.std.proofs.Common.{◌≡◌, ◌≢◌, ℕ, ◌<◌, ◌≤◌, true, false, Option, Some, Ok, Err, IfSome, ⊎_elim, subst}
-use Rattle.std.proofs.lemmas.Bool.{false≢true, cases_lt}
+use Rattle.std.proofs.{Common.{◌≡◌, ◌≢◌, ℕ, ◌<◌, ◌≤◌, true, false, Option, Some, Ok, Err, IfSome, ⊎_elim, subst}, lemmas.Bool.{false≢true, cases_lt}}
 
 -- what an option holds, from what it is
 pub held_is : {X : Type 0} (o : Option X) (x y : X) → o ≡ Some x → IfSome o (λ v. v ≡ y) → x ≡ y

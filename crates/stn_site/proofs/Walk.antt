@@ -1,12 +1,9 @@
 -- A walk over the live records of a state.
-use Rattle.std.proofs.Common.{◌≡◌, ℕ, ℤ, not, List, [], ◌∷◌, ◌++◌, length, get_or, take, map, refl, sym, ap, subst, ◌∙◌, arith, length-append, All}
-use Rattle.std.proofs.lemmas.List.{map-append, length-map, get_or_at, take_at}
-use Rattle.std.proofs.lemmas.List.Elements.{All-same, All-push, All-head, All-filter}
-use Rattle.std.specs.FinMap.{entries}
+use Rattle.std.{proofs.{Common.{◌≡◌, ℕ, ℤ, not, List, [], ◌∷◌, ◌++◌, length, get_or, take, map, refl, sym, ap, subst, ◌∙◌, arith, length-append, All}, lemmas.List.{map-append, length-map, get_or_at, take_at, Elements.{All-same, All-push, All-head, All-filter}}}, specs.FinMap.entries}
 use Rattle.stn_time.proofs.Each.{All-right}
-use Rattle.stn_net.specs.{Difference.Difference, Schedule.Meets, Schedule.NamesTimes}
-use Rattle.stn_records.specs.{Id.SiteCounter, declared.record.Record.Record, Content.Content, Content.live_of, Content.is_replaced}
-use Rattle.stn_site.specs.{Names.live_ids, Walk.IsFirstBrokenRecord, Walk.RecordsTimed, Bounds.bounds_of, Bounds.live_bounds}
+use Rattle.stn_net.specs.{Difference.Difference, Schedule.{Meets, NamesTimes}}
+use Rattle.stn_records.specs.{Id.SiteCounter, declared.record.Record.Record, Content.{Content, live_of, is_replaced}}
+use Rattle.stn_site.specs.{Names.live_ids, Walk.{IsFirstBrokenRecord, RecordsTimed}, Bounds.{bounds_of, live_bounds}}
 
 -- what holds of all holds of the next
 pub next_has : {X : Type 0} (P : X → Type 0) (all seen ahead : List X) (e : X) → all ≡ seen ++ e ∷ ahead → All P all → P e

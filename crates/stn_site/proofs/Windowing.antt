@@ -1,8 +1,6 @@
 -- The windows of the first events, the origin first, one after another.
-use Rattle.std.proofs.Common.{◌≡◌, ℕ, ℤ, pos, ◌+◌, ◌<◌, List, [], ◌∷◌, ◌++◌, length, length-append, ⊎_elim, refl, sym, ap, subst, ◌∙◌, arith}
-use Rattle.std.proofs.{lemmas.Bool.cases_lt, lemmas.List.get_or_append_left, lemmas.List.get_or-append-add}
-use Rattle.stn_net.specs.{Difference.Difference, Schedule.HasSchedule}
-use Rattle.stn_net.specs.Windows.Window.{IsWindow}
+use Rattle.std.proofs.{Common.{◌≡◌, ℕ, ℤ, pos, ◌+◌, ◌<◌, List, [], ◌∷◌, ◌++◌, length, length-append, ⊎_elim, refl, sym, ap, subst, ◌∙◌, arith}, lemmas.{Bool.cases_lt, List.{get_or_append_left, get_or-append-add}}}
+use Rattle.stn_net.specs.{Difference.Difference, Schedule.HasSchedule, Windows.Window.IsWindow}
 use Rattle.stn_site.specs.Windows.{window_at, AreWindows}
 
 pub record AreFirst (bounds : List Difference) (count : ℕ) (windows : List (ℤ × ℤ)) : Type 0 where

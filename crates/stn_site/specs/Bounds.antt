@@ -1,8 +1,7 @@
-use Rattle.std.specs.Prelude.{ℕ, List, ◌++◌, map, All}
-use Rattle.std.specs.FinMap.{entries}
+use Rattle.std.specs.{Prelude.{ℕ, List, ◌++◌, map, All}, FinMap.entries}
 use Rattle.stn_net.specs.Difference.{Difference, NamesEvents}
 use Rattle.stn_lift.specs.PlanSource.{PlanSource, base_bounds}
-use Rattle.stn_records.specs.{Id.SiteCounter, declared.record.Record.Record, Content.Content, Content.live_of}
+use Rattle.stn_records.specs.{Id.SiteCounter, declared.record.Record.Record, Content.{Content, live_of}}
 
 -- the bounds of records
 abbrev pub bounds_of : List (SiteCounter × Record) → List Difference

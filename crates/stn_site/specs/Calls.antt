@@ -1,8 +1,7 @@
 -- The calls that a replica accepted, the items that they brought, and what a report depends on.
 use Rattle.std.specs.Prelude.{◌≡◌, ◌⊎◌, ◌↔◌, List, [], ◌∷◌, Some}
 use Rattle.stn_net.specs.Difference.{Difference}
-use Rattle.stn_records.specs.{declared.record.Record.Record, Id.SiteCounter}
-use Rattle.stn_records.specs.Content.{Content, Item, addition, withdrawal, replacement, HasItem, no_content, plain, one_amendment, with_record, with_amendment, with_tombstone, join_contents}
+use Rattle.stn_records.specs.{declared.record.Record.Record, Id.SiteCounter, Content.{Content, Item, addition, withdrawal, replacement, HasItem, no_content, plain, one_amendment, with_record, with_amendment, with_tombstone, join_contents}}
 use Rattle.stn_site.specs.Held.{Held, next_id}
 
 -- a call that was accepted: it added a record under an id, amended an old id by a bound under an id, withdrew an id, or took in a

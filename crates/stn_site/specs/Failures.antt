@@ -1,6 +1,6 @@
 -- What is printed where a replica refuses a change.
 use Rattle.stn_refusal.specs.declared.code.Code.TheVariants as code
-use Rattle.stn_refusal.specs.{declared.failure.Failure.Failure, Refusals.refused, Refusals.refused_for, Refusals.out_of_memory}
+use Rattle.stn_refusal.specs.{declared.failure.Failure.Failure, Refusals.{refused, refused_for, out_of_memory}}
 use Rattle.stn_net.specs.Failures.{bound_failure}
 use Rattle.stn_site.specs.declared.faults.ReplicaFault.{ReplicaFault}
 use Rattle.stn_site.specs.declared.faults.ReplicaFault.TheVariants as replica

@@ -1,8 +1,7 @@
-use Rattle.std.specs.{Prelude.ℕ, Prelude.ℤ, Prelude.refl, Coded.Coded, Coded.code_by, Coded.coded×, Coded.coded_ℕ}
-use Rattle.stn_net.specs.Difference.{Difference}
-use Rattle.stn_net.specs.Windows.Rehearsal.{fixed_at}
+use Rattle.std.specs.{Prelude.{ℕ, ℤ, refl}, Coded.{Coded, code_by, coded×, coded_ℕ}}
+use Rattle.stn_net.specs.{Difference.Difference, Windows.Rehearsal.fixed_at}
 use Rattle.stn_lift.specs.PlanSource.{PlanSource, coded_source}
-use Rattle.stn_records.specs.{Content.Content, Content.coded_content, Content.next_counter, Id.SiteCounter, declared.record.Mark.TheVariants.Done, declared.record.Record.Record}
+use Rattle.stn_records.specs.{Content.{Content, coded_content, next_counter}, Id.SiteCounter, declared.record.{Mark.TheVariants.Done, Record.Record}}
 pub use Rattle.stn_records.specs.Content.{plain}
 
 -- what a replica holds: its site, what its plan is made from, its state, and by how many bounds its matrix was tightened; a site

@@ -2,7 +2,7 @@ use Rattle.std.specs.Prelude.{ℕ, ℤ, Bool, List, [], ◌∷◌, ◌++◌, cod
 use Rattle.stn_time.specs.Text.{printed}
 use Rattle.stn_net.specs.{Difference.Difference, Event.event_text}
 use Rattle.stn_records.specs.Id.{SiteCounter}
-use Rattle.stn_conflict.specs.{declared.links.Link.Link, declared.links.Side.Side, declared.links.Side.TheVariants.Upper, declared.links.Side.TheVariants.Lower, Arcs.bound_at}
+use Rattle.stn_conflict.specs.{declared.links.{Link.Link, Side.{Side, TheVariants.{Upper, Lower}}}, Arcs.bound_at}
 use Rattle.stn_site.specs.Names.{name_in, name_text}
 
 -- the text and a line feed
@@ -38,13 +38,13 @@ side_text Upper = codes "upper"
 side_text Lower = codes "lower"
 
 -- the side of the bound itself
-abbrev pub limit_of : Difference → Side → ℤ
-limit_of bound Upper = bound.hi
-limit_of bound Lower = bound.lo
+abbrev pub side_limit : Difference → Side → ℤ
+side_limit bound Upper = bound.hi
+side_limit bound Lower = bound.lo
 
 -- `<from> <to> <limit>`: the bound's own events, and the side that is named
 abbrev pub limit_text : Difference → Side → List ℕ
-limit_text bound side = event_text bound.from ++ codes " " ++ event_text bound.to ++ codes " " ++ printed (limit_of bound side)
+limit_text bound side = event_text bound.from ++ codes " " ++ event_text bound.to ++ codes " " ++ printed (side_limit bound side)
 
 -- `<name> <upper|lower> <from> <to> <limit>`
 abbrev pub bound_line : List ℕ → Side → Difference → List ℕ

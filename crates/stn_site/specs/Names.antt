@@ -1,9 +1,8 @@
 use Rattle.std.specs.Prelude.{ℕ, ℤ, ◌+◌, ◌-◌, ◌-ℤ◌, nat_lt, int_le, Bool, not, ◌&&◌, List, ◌++◌, length, slice_index_or, position, if◌then◌else◌, codes, decimal, map, Option, option_map}
 use Rattle.stn_net.specs.Difference.{Difference}
 use Rattle.stn_lift.specs.PlanSource.{PlanSource, base_bounds}
-use Rattle.stn_records.specs.{Id.SiteCounter, Id.id_text, Content.Content, Content.live_of}
-use Rattle.stn_site.specs.{declared.names.BoundName.BoundName, Bounds.all_bounds}
-use Rattle.stn_site.specs.declared.names.BoundName.TheVariants.{Plan, Record}
+use Rattle.stn_records.specs.{Id.{SiteCounter, id_text}, Content.{Content, live_of}}
+use Rattle.stn_site.specs.{declared.names.BoundName.{BoundName, TheVariants.{Plan, Record}}, Bounds.all_bounds}
 
 -- the ids of the live records, in order
 abbrev pub live_ids : Content → List SiteCounter

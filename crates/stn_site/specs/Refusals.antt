@@ -1,13 +1,9 @@
 -- Why a replica refuses a call: the first cause that stands against it. Where there is none, nothing but lack of memory can stop it.
-use Rattle.std.specs.Prelude.{ℕ, Bool, not, ◌==◌, ◌&&◌, nat_lt, nat_le, int_lt, Option, option_map}
-use Rattle.std.specs.{Bool.then_some, Option.option_or, List.list_all, FinMap.entries}
-use Rattle.stn_net.specs.{Difference.Difference, declared.bound.BoundFault.BoundFault}
-use Rattle.stn_net.specs.declared.bound.BoundFault.TheVariants.{NoEvent, SameEvent, Crossed}
+use Rattle.std.specs.{Prelude.{ℕ, Bool, not, ◌==◌, ◌&&◌, nat_lt, nat_le, int_lt, Option, option_map}, Bool.then_some, Option.option_or, List.list_all, FinMap.entries}
+use Rattle.stn_net.specs.{Difference.Difference, declared.bound.BoundFault.{BoundFault, TheVariants.{NoEvent, SameEvent, Crossed}}}
 use Rattle.stn_lift.specs.PlanSource.{events_of}
-use Rattle.stn_records.specs.Id.{most_counter, SiteCounter}
-use Rattle.stn_records.specs.Content.{most_known, Content, is_known, known_count, known_in_either, next_counter, dispute_contents}
-use Rattle.stn_site.specs.{declared.faults.ReplicaFault.ReplicaFault, Held.Held}
-use Rattle.stn_site.specs.declared.faults.ReplicaFault.TheVariants.{Bound, CounterSpent, Full, Unknown, Clash}
+use Rattle.stn_records.specs.{Id.{most_counter, SiteCounter}, Content.{most_known, Content, is_known, known_count, known_in_either, next_counter, dispute_contents}}
+use Rattle.stn_site.specs.{declared.faults.ReplicaFault.{ReplicaFault, TheVariants.{Bound, CounterSpent, Full, Unknown, Clash}}, Held.Held}
 
 -- both events of the difference are the origin or one of so many others
 abbrev pub names_events : ℕ → Difference → Bool

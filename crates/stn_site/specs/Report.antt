@@ -1,12 +1,9 @@
-use Rattle.std.specs.Prelude.{◌≡◌, ℕ, ℤ, zero, suc, ◌+◌, Bool, ◌==◌, ◌&&◌, ◌⊎◌, List, [], ◌++◌, length, map, codes}
-use Rattle.std.specs.List.{list_any, flat_map, range_with_len}
-use Rattle.stn_net.specs.{Difference.Difference, Schedule.HasSchedule}
-use Rattle.stn_net.specs.Windows.Window.{IsWindow}
+use Rattle.std.specs.{Prelude.{◌≡◌, ℕ, ℤ, zero, suc, ◌+◌, Bool, ◌==◌, ◌&&◌, ◌⊎◌, List, [], ◌++◌, length, map, codes}, List.{list_any, flat_map, range_with_len}}
+use Rattle.stn_net.specs.{Difference.Difference, Schedule.HasSchedule, Windows.Window.IsWindow}
 use Rattle.stn_lift.specs.PlanSource.{PlanSource, steps_of, events_of, base_bounds}
-use Rattle.stn_records.specs.{declared.record.Record.Record, Record.is_done as marks_done, Content.Content, Content.live_of, Content.replaced_count, Id.SiteCounter}
-use Rattle.stn_conflict.specs.{declared.links.Link.Link, Arcs.weight_of, Arcs.IsNegativeCycle, Named.IsNamedCycle}
-use Rattle.stn_site.specs.{Bounds.all_bounds, Bounds.live_bounds, Names.live_ids}
-use Rattle.stn_site.specs.Lines.{line, plan_line, records_line, window_line, conflict_line, link_line}
+use Rattle.stn_records.specs.{declared.record.Record.Record, Record.is_done as marks_done, Content.{Content, live_of, replaced_count}, Id.SiteCounter}
+use Rattle.stn_conflict.specs.{declared.links.Link.Link, Arcs.{weight_of, IsNegativeCycle}, Named.IsNamedCycle}
+use Rattle.stn_site.specs.{Bounds.{all_bounds, live_bounds}, Names.live_ids, Lines.{line, plan_line, records_line, window_line, conflict_line, link_line}}
 
 -- a report has at most so many bytes
 abbrev pub most_report : ℕ

@@ -1,10 +1,9 @@
 -- For proofs alone: no public clause cites these words.
 -- What a walk over the records of a state, in order of id, finds.
-use Rattle.std.specs.Prelude.{◌≡◌, ℕ, ℤ, ◌<◌, List, length, take, All}
-use Rattle.std.specs.{FinMap.entries, List.HoldsAt}
+use Rattle.std.specs.{Prelude.{◌≡◌, ℕ, ℤ, ◌<◌, List, length, take, All}, FinMap.entries, List.HoldsAt}
 use Rattle.stn_net.specs.Schedule.{Meets, NamesTimes}
 use Rattle.stn_records.specs.{Content.Content, Id.SiteCounter}
-use Rattle.stn_site.specs.{Bounds.live_bounds, Names.id_at, Names.live_ids}
+use Rattle.stn_site.specs.{Bounds.live_bounds, Names.{id_at, live_ids}}
 
 -- `first` is the id of the first live record whose bound the times break
 pub record IsFirstBrokenRecord (state : Content) (time : ℕ → ℤ) (first : SiteCounter) : Type 0 where

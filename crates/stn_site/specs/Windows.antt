@@ -1,6 +1,5 @@
 use Rattle.std.specs.Prelude.{◌≡◌, ℕ, ℤ, pos, ◌+◌, ◌≤◌, List, length, slice_index_or}
-use Rattle.stn_net.specs.{Difference.Difference, Schedule.HasSchedule}
-use Rattle.stn_net.specs.Windows.Window.{IsWindow}
+use Rattle.stn_net.specs.{Difference.Difference, Schedule.HasSchedule, Windows.Window.IsWindow}
 
 -- the earliest and the latest time at an event's place
 abbrev pub window_at : List (ℤ × ℤ) → ℕ → ℤ × ℤ

@@ -1,7 +1,6 @@
 ghost use Rattle.std.specs.Prelude.{◌≡◌};
-ghost use Rattle.stn_site.specs.FaultsOf.{of_records_fault};
+ghost use Rattle.stn_site.specs.{FaultsOf.of_records_fault, Failures.replica_failure};
 ghost use Rattle.stn_site.specs.declared.faults.ReplicaFault.TheVariants as replica;
-ghost use Rattle.stn_site.specs.Failures.{replica_failure};
 
 use stn_net::BoundFault;
 use stn_records::{CounterSpent, Id, RecordsFault};

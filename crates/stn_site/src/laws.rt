@@ -1,10 +1,7 @@
 ghost use Rattle.std.specs.Prelude.{◌≡◌, ◌↔◌, ℕ, List, ◌∷◌, Some};
 ghost use Rattle.stn_lift.specs.PlanSource.{PlanSource};
-ghost use Rattle.stn_records.specs.Content.{Content, Item, HasItem, CountsSame, join_contents};
-ghost use Rattle.stn_records.specs.Join.{join_all, SameItems};
-ghost use Rattle.stn_site.specs.Held.{Held};
-ghost use Rattle.stn_site.specs.Calls.{Accepted, CameBy, CountAlike, Took, TookSame, TookSameItems};
-ghost use Rattle.stn_site.specs.Report.{IsReport};
+ghost use Rattle.stn_records.specs.{Content.{Content, Item, HasItem, CountsSame, join_contents}, Join.{join_all, SameItems}};
+ghost use Rattle.stn_site.specs.{Held.Held, Calls.{Accepted, CameBy, CountAlike, Took, TookSame, TookSameItems}, Report.IsReport};
 
 use stn_conflict::one_named_cycle;
 use stn_records::{counts_same, states_by_items_alone};

@@ -9,6 +9,7 @@ pub use laws::{
 pub use lines::{append_window_line, bound_at, bound_name};
 pub use names::BoundName;
 pub use report::append_link_lines;
+pub use site_copy::SiteCopy;
 pub use site_plan::SitePlan;
 
 mod done;
@@ -18,5 +19,6 @@ mod lines;
 mod names;
 mod parts;
 mod report;
+mod site_copy;
 mod site_plan;
 mod windows;

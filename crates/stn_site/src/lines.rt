@@ -1,17 +1,5 @@
 ghost use Rattle.std.specs.Prelude.{◌≡◌, ◌+◌, ◌^◌, ◌<◌, ◌≤◌, ◌++◌, codes, length, take, vec_len, OnOk, OnErr};
-ghost use Rattle.stn_site.specs.Lines.{
-  plan_line,
-  records_line,
-  done_text,
-  times_text,
-  window_line,
-  conflict_line,
-  side_text,
-  limit_of,
-  limit_text,
-  link_line,
-};
-ghost use Rattle.stn_site.specs.Names.{name_in};
+ghost use Rattle.stn_site.specs.{Lines.{plan_line, records_line, done_text, times_text, window_line, conflict_line, side_text, side_limit, limit_text, link_line}, Names.name_in};
 ghost use Rattle.stn_net.specs.Event.{event_text};
 ghost use Rattle.stn_conflict.specs.Arcs.{bound_at};
 
@@ -198,7 +186,7 @@ fn append_limit<B: Allocator>(out: &mut Vec<u8, B>, bound: Bound, side: Side) ->
 }
 
 fn limit_of(bound: Bound, side: Side) -> Ms
-    ensures { result ≡ limit_of bound side }
+    ensures { result ≡ side_limit bound side }
 {
     match side {
         Side::Upper => bound.hi(),

@@ -1,11 +1,8 @@
 // The live records, and what other answers than the report say of the bounds.
 ghost use Rattle.std.specs.Prelude.{◌≡◌, ℕ, ◌++◌, List, All, IfOk, OnOk, OnErr};
-ghost use Rattle.stn_net.specs.Difference.{NamesEvents};
-ghost use Rattle.stn_net.specs.Schedule.{HasSchedule};
+ghost use Rattle.stn_net.specs.{Difference.NamesEvents, Schedule.HasSchedule};
 ghost use Rattle.stn_lift.specs.PlanSource.{events_of};
-ghost use Rattle.stn_site.specs.Bounds.{all_bounds, live_bounds};
-ghost use Rattle.stn_site.specs.Names.{live_ids};
-ghost use Rattle.stn_site.specs.Report.{IsConflictPart};
+ghost use Rattle.stn_site.specs.{Bounds.{all_bounds, live_bounds}, Names.live_ids, Report.IsConflictPart};
 
 use crate::report::{bounds_of, ids_of};
 use crate::site_plan::SitePlan;

@@ -1,14 +1,8 @@
-ghost use Rattle.std.specs.Prelude.{◌≡◌, ℕ, ◌+◌, ◌*◌, ◌<◌, ◌≤◌, ◌++◌, ◌^◌, ◌⊎◌, List, length, map, take, vec_len, All, IfOk, OnOk, OnErr, MatchOption};
-ghost use Rattle.std.specs.List.{flat_map};
-ghost use Rattle.stn_net.specs.Event.{most_events};
-ghost use Rattle.stn_net.specs.Schedule.{HasSchedule};
+ghost use Rattle.std.specs.{Prelude.{◌≡◌, ℕ, ◌+◌, ◌*◌, ◌<◌, ◌≤◌, ◌++◌, ◌^◌, ◌⊎◌, List, length, map, take, vec_len, All, IfOk, OnOk, OnErr, MatchOption}, List.flat_map};
+ghost use Rattle.stn_net.specs.{Event.most_events, Schedule.HasSchedule};
 ghost use Rattle.stn_lift.specs.PlanSource.{events_of};
 ghost use Rattle.stn_records.specs.Content.{most_known, known_count, live_of, listed, replaced_count as replaced_count_of};
-ghost use Rattle.stn_site.specs.Bounds.{all_bounds, live_bounds, RecordsName};
-ghost use Rattle.stn_site.specs.Names.{live_ids};
-ghost use Rattle.stn_site.specs.Lines.{conflict_line, link_line};
-ghost use Rattle.stn_site.specs.Windows.{AreWindows};
-ghost use Rattle.stn_site.specs.Report.{most_report, IsWindowsPart, IsReport, IsConflictPart, heading};
+ghost use Rattle.stn_site.specs.{Bounds.{all_bounds, live_bounds, RecordsName}, Names.live_ids, Lines.{conflict_line, link_line}, Windows.AreWindows, Report.{most_report, IsWindowsPart, IsReport, IsConflictPart, heading}};
 
 use crate::lines::{
     MOST_LINE, append_conflict_line, append_link_line, append_plan_line, append_records_line,

@@ -1,18 +1,8 @@
-ghost use Rattle.std.specs.Prelude.{◌≡◌, ◌+◌, ◌≤◌, ◌↔◌, pos, true, false, length, All, Some, None, unwrap_or, IsOk, IsNone, IsTrue, IfOk, IfErr, IfSome, IfNone, OnOk, OnErr, MatchOption};
-ghost use Rattle.std.specs.FinMap.{contains_key};
-ghost use Rattle.std.specs.Rc.{rc_value};
-ghost use Rattle.stn_net.specs.Schedule.{IsSchedule, Meets, NamesTimes, times_of};
-ghost use Rattle.stn_net.specs.Difference.{NamesEvents, IsBoundWithin, IsFaultOf};
+ghost use Rattle.std.specs.{Prelude.{◌≡◌, ◌+◌, ◌≤◌, ◌↔◌, pos, true, false, length, All, Some, None, unwrap_or, IsOk, IsNone, IsTrue, IfOk, IfErr, IfSome, IfNone, OnOk, OnErr, MatchOption}, FinMap.contains_key, Rc.rc_value};
+ghost use Rattle.stn_net.specs.{Schedule.{IsSchedule, Meets, NamesTimes, times_of}, Difference.{NamesEvents, IsBoundWithin, IsFaultOf}};
 ghost use Rattle.stn_lift.specs.PlanSource.{events_of};
-ghost use Rattle.stn_records.specs.Record.{IsProper};
-ghost use Rattle.stn_records.specs.Content.{no_content, is_known, next_counter, IsPart};
-ghost use Rattle.stn_records.specs.Id.{most_counter};
-ghost use Rattle.stn_site.specs.Bounds.{all_bounds, live_bounds, RecordsName};
-ghost use Rattle.stn_site.specs.Names.{broken_bound};
-ghost use Rattle.stn_site.specs.Walk.{IsFirstBrokenRecord, RecordsTimed};
-ghost use Rattle.stn_site.specs.Held.{next_id, difference, plain, executed};
-ghost use Rattle.stn_site.specs.Calls.{added, amended, withdrew, took, Leaves};
-ghost use Rattle.stn_site.specs.Refusals.{next_refusal, add_refusal, amend_refusal, done_refusal, withdraw_refusal, take_refusal};
+ghost use Rattle.stn_records.specs.{Record.IsProper, Content.{no_content, is_known, next_counter, IsPart}, Id.most_counter};
+ghost use Rattle.stn_site.specs.{Bounds.{all_bounds, live_bounds, RecordsName}, Names.broken_bound, Walk.{IsFirstBrokenRecord, RecordsTimed}, Held.{next_id, difference, plain, executed}, Calls.{added, amended, withdrew, took, Leaves}, Refusals.{next_refusal, add_refusal, amend_refusal, done_refusal, withdraw_refusal, take_refusal}};
 
 use crate::faults::ReplicaFault;
 use crate::names::BoundName;
@@ -37,8 +27,7 @@ pub struct SitePlan<A: Allocator> {
 impl<A: Allocator> Model for SitePlan<A> {
     ghost use Rattle.std.specs.Rc.{rc_value};
     ghost use Rattle.stn_lift.specs.PlanSource.{events_of};
-    ghost use Rattle.stn_site.specs.Bounds.{RecordsName};
-    ghost use Rattle.stn_site.specs.Held.{Held, coded_held};
+    ghost use Rattle.stn_site.specs.{Bounds.RecordsName, Held.{Held, coded_held}};
 
     ghost Value = { Held };
 

@@ -1,11 +1,8 @@
 ghost use Rattle.std.specs.Prelude.{◌≡◌, ℕ, ◌+◌, ◌≤◌, ◌++◌, List, length, IfOk, OnOk, OnErr, MatchOption};
-ghost use Rattle.stn_net.specs.Difference.{Difference};
-ghost use Rattle.stn_net.specs.Schedule.{HasSchedule};
+ghost use Rattle.stn_net.specs.{Difference.Difference, Schedule.HasSchedule};
 ghost use Rattle.stn_lift.specs.PlanSource.{events_of};
 ghost use Rattle.stn_conflict.specs.Distances.{AreDistancesFrom, AreDistancesTo};
-ghost use Rattle.stn_site.specs.Bounds.{all_bounds};
-ghost use Rattle.stn_site.specs.Report.{most_report, IsReport};
-ghost use Rattle.stn_site.specs.Windows.{AreWindows};
+ghost use Rattle.stn_site.specs.{Bounds.all_bounds, Report.{most_report, IsReport}, Windows.AreWindows};
 
 use crate::site_plan::SitePlan;
 use std::alloc::Allocator;

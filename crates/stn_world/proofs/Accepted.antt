@@ -1,19 +1,10 @@
 -- What refuses a step, and what an accepted step tells.
-use Rattle.std.proofs.Common.{◌≡◌, ◌≢◌, ℕ, ℤ, ◌<◌, ◌≤◌, Bool, true, not, ◌&&◌, cond, leb, Option, Some, None, length, ap, sym, ◌∙◌, arith}
-use Rattle.std.specs.{Prelude.◌==◌, Prelude.unwrap_or, Prelude.option_map, Bool.Decides, Bool.then_some, Option.option_or}
-use Rattle.std.proofs.{lemmas.Bool.false_from_ne_true, lemmas.Bool.Decides.nat_tests}
-use Rattle.std.proofs.lemmas.Bool.{eq-eqb, ne_eqb, lt-leb}
+use Rattle.std.{proofs.{Common.{◌≡◌, ◌≢◌, ℕ, ℤ, ◌<◌, ◌≤◌, Bool, true, not, ◌&&◌, cond, leb, Option, Some, None, length, ap, sym, ◌∙◌, arith}, lemmas.Bool.{false_from_ne_true, eq-eqb, ne_eqb, lt-leb, Decides.nat_tests}}, specs.{Prelude.{◌==◌, unwrap_or, option_map}, Bool.{Decides, then_some}, Option.option_or}}
 use Rattle.stn_net.specs.Difference.{Difference}
 use Rattle.stn_records.specs.{Id.SiteCounter, Content.Content}
-use Rattle.stn_site.specs.declared.faults.ReplicaFault.{ReplicaFault}
+use Rattle.stn_site.{specs.{declared.faults.ReplicaFault.ReplicaFault, Refusals.{add_refusal, done_refusal, amend_refusal, withdraw_refusal, take_refusal}}, proofs.Refused.{or_none, mapped_none, untested}}
 use Rattle.stn_site.specs.declared.faults.ReplicaFault.TheVariants as replica_fault
-use Rattle.stn_site.specs.Refusals.{add_refusal, done_refusal, amend_refusal, withdraw_refusal, take_refusal}
-use Rattle.stn_site.proofs.Refused.{or_none, mapped_none, untested}
-use Rattle.stn_world.specs.{declared.faults.WorldFault.WorldFault, Faults.of_replica_fault, Parts.is_part}
-use Rattle.stn_world.specs.declared.faults.WorldFault.TheVariants.{NoSite, TooManyPackets, NoPacket, Replica, Memory}
-use Rattle.stn_world.specs.World.{World, most_packets, HasSite, has_site, HasPacket, has_packet, held_at, content_at, packet_at}
-use Rattle.stn_world.specs.Steps.{added, finished, amended, withdrew, merged, sent, delivered, missing, step_refusal, IsAccepted, send_refusal}
-use Rattle.stn_world.proofs.Parts.{IsSentOf, part_decides}
+use Rattle.stn_world.{specs.{declared.faults.WorldFault.{WorldFault, TheVariants.{NoSite, TooManyPackets, NoPacket, Replica, Memory}}, Faults.of_replica_fault, Parts.is_part, World.{World, most_packets, HasSite, has_site, HasPacket, has_packet, held_at, content_at, packet_at}, Steps.{added, finished, amended, withdrew, merged, sent, delivered, missing, step_refusal, IsAccepted, send_refusal}}, proofs.Parts.{IsSentOf, part_decides}}
 
 both : (a b n : ℕ) → (leb a b && leb b n) ≡ true → (a ≤ b) × (b ≤ n)
 both a b n e = (grind (arith, nat_tests), grind (arith, nat_tests))

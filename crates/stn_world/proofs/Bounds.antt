@@ -1,13 +1,9 @@
 -- What a step that is accepted makes is a record of a bound of the plan.
-use Rattle.std.proofs.Common.{◌≡◌, ℕ, ℤ, None, sym, ◌∙◌, arith}
-use Rattle.std.proofs.{lemmas.Int.ints, lemmas.Int.by_lt_z, lemmas.Option.none-some}
-use Rattle.stn_net.specs.{Difference.Difference, Difference.NamesEvents, Difference.IsBoundWithin, Difference.IsFaultOf, declared.bound.BoundFault.BoundFault}
-use Rattle.stn_net.specs.declared.bound.BoundFault.TheVariants.{SameEvent, Crossed}
-use Rattle.stn_net.specs.Windows.Rehearsal.{fixed_at}
+use Rattle.std.proofs.{Common.{◌≡◌, ℕ, ℤ, None, sym, ◌∙◌, arith}, lemmas.{Int.{ints, by_lt_z}, Option.none-some}}
+use Rattle.stn_net.specs.{Difference.{Difference, NamesEvents, IsBoundWithin, IsFaultOf}, declared.bound.BoundFault.{BoundFault, TheVariants.{SameEvent, Crossed}}, Windows.Rehearsal.fixed_at}
 use Rattle.stn_lift.specs.PlanSource.{events_of}
 use Rattle.stn_records.specs.Id.{SiteCounter}
-use Rattle.stn_site.specs.{Held.Held, Refusals.add_refusal, Refusals.amend_refusal, Refusals.done_refusal}
-use Rattle.stn_site.proofs.Refused.{accepted_named, done_origin, executed_named, amended_named, add_refused, amend_refused}
+use Rattle.stn_site.{specs.{Held.Held, Refusals.{add_refusal, amend_refusal, done_refusal}}, proofs.Refused.{accepted_named, done_origin, executed_named, amended_named, add_refused, amend_refused}}
 
 -- a difference that names the plan's events, and has no other fault
 without_fault : (events : ℕ) (bound : Difference) → NamesEvents events bound → ((fault : BoundFault) → ¬ IsFaultOf events bound fault) → IsBoundWithin events bound

@@ -1,22 +1,12 @@
 -- A call of a site's replica, as a step of the world.
-use Rattle.std.proofs.Common.{◌≡◌, ℕ, ℤ, ◌+◌, ◌-◌, ◌<◌, Bool, true, List, [], ◌∷◌, ◌++◌, length, Option, None, Result, Ok, Err, get_or, set, ap, sym, subst, ◌∙◌, arith, length-append}
-use Rattle.std.specs.Prelude.{option_map, unwrap_or, ⊤, MatchResult, IfOk, IfErr, OnOk, OnErr}
-use Rattle.std.specs.{Option.option_or, Result.IsErrAnd}
-use Rattle.std.proofs.{lemmas.List.set-get_or, lemmas.Result.err_from_is_err_and}
+use Rattle.std.{proofs.{Common.{◌≡◌, ℕ, ℤ, ◌+◌, ◌-◌, ◌<◌, Bool, true, List, [], ◌∷◌, ◌++◌, length, Option, None, Result, Ok, Err, get_or, set, ap, sym, subst, ◌∙◌, arith, length-append}, lemmas.{List.set-get_or, Result.err_from_is_err_and}}, specs.{Prelude.{option_map, unwrap_or, ⊤, MatchResult, IfOk, IfErr, OnOk, OnErr}, Option.option_or, Result.IsErrAnd}}
 use Rattle.stn_net.specs.Difference.{Difference}
 use Rattle.stn_lift.specs.PlanSource.{PlanSource}
-use Rattle.stn_records.specs.{Id.SiteCounter, declared.record.Record.Record}
-use Rattle.stn_records.specs.Content.{Content, plain, with_record, with_amendment, with_tombstone, joined_contents}
-use Rattle.stn_site.specs.{Held.Held, Held.executed, declared.faults.ReplicaFault.ReplicaFault}
+use Rattle.stn_records.specs.{Id.SiteCounter, declared.record.Record.Record, Content.{Content, plain, with_record, with_amendment, with_tombstone, joined_contents}}
+use Rattle.stn_site.specs.{Held.{Held, executed}, declared.faults.ReplicaFault.ReplicaFault, Refusals.{add_refusal, done_refusal, amend_refusal, withdraw_refusal, take_refusal}, Calls.{Accepted, Leaves}}
 use Rattle.stn_site.specs.declared.faults.ReplicaFault.TheVariants as replica_fault
-use Rattle.stn_site.specs.Refusals.{add_refusal, done_refusal, amend_refusal, withdraw_refusal, take_refusal}
-use Rattle.stn_site.specs.Calls.{Accepted, Leaves}
 use Rattle.stn_site.specs.Calls as call
-use Rattle.stn_world.specs.{declared.faults.WorldFault.WorldFault, declared.faults.WorldFault.TheVariants.Memory, Faults.of_replica_fault, Sites.world_of, Whole.IsCoherent, Whole.IsSoundWorld}
-use Rattle.stn_world.specs.World.{World, most_packets, HasSite, HasPacket, content_at, packet_at, held_at, next_id_at, make, send}
-use Rattle.stn_world.specs.Steps.{Step, added, finished, amended, withdrew, sent, delivered, missing, step_refusal, IsAccepted, after, IsStep, send_refusal, IsSending, IsDeliveryFault}
-use Rattle.stn_world.proofs.{Accepted.at_site, Accepted.refused_by, Accepted.delivery_refusal, Merges.delivery_agrees, Sendings.send_free, Whole.coherent_after}
-use Rattle.stn_world.proofs.Sites.{IsHeldAt, held_is, held_there, next_id_at-held, take_refusal_at, join_is_joined, world_set, sites_set}
+use Rattle.stn_world.{specs.{declared.faults.WorldFault.{WorldFault, TheVariants.Memory}, Faults.of_replica_fault, Sites.world_of, Whole.{IsCoherent, IsSoundWorld}, World.{World, most_packets, HasSite, HasPacket, content_at, packet_at, held_at, next_id_at, make, send}, Steps.{Step, added, finished, amended, withdrew, sent, delivered, missing, step_refusal, IsAccepted, after, IsStep, send_refusal, IsSending, IsDeliveryFault}}, proofs.{Accepted.{at_site, refused_by, delivery_refusal}, Merges.delivery_agrees, Sendings.send_free, Whole.coherent_after, Sites.{IsHeldAt, held_is, held_there, next_id_at-held, take_refusal_at, join_is_joined, world_set, sites_set}}}
 
 -- what a replica answers to a call that one thing refuses, what it becomes, and the same as the world's answer
 pub record IsAnswer {T : Type 0} (one : Held) (refusal : Option ReplicaFault) (accepted : T → Accepted) (answer : Result T ReplicaFault) (new : Held) (result : Result T WorldFault) : Type 0 where

@@ -1,16 +1,9 @@
 -- The law over all runs of a world.
-use Rattle.std.proofs.Common.{◌≡◌, inr, ⊎_elim, ℕ, ◌≤◌, Bool, true, false, not, ◌&&◌, ltb, None, List, refl, ap, subst, ◌∙◌, arith}
-use Rattle.std.specs.{Prelude.option_map, Bool.then_some, List.Contains}
+use Rattle.std.{proofs.{Common.{◌≡◌, inr, ⊎_elim, ℕ, ◌≤◌, Bool, true, false, not, ◌&&◌, ltb, None, List, refl, ap, subst, ◌∙◌, arith}, lemmas.Bool.{cases_eq, Decides.nat_tests}}, specs.{Prelude.option_map, Bool.then_some, List.Contains}}
 use Rattle.std.specs.FinMap as fin
-use Rattle.std.proofs.{lemmas.Bool.cases_eq, lemmas.Bool.Decides.nat_tests}
-use Rattle.stn_records.specs.Id.{SiteCounter}
-use Rattle.stn_records.specs.Content.{most_known, Content, Item, HasItem, is_known, is_replaced, is_live, known_in_either, dispute_contents, IsPart}
-use Rattle.stn_site.specs.{declared.faults.ReplicaFault.TheVariants.Full, Calls.Replaces, Refusals.take_refusal}
-use Rattle.stn_site.proofs.Refused.{agreed_take}
-use Rattle.stn_world.specs.{Faults.of_replica_fault, World.World, World.HasSite, World.HasPacket, World.content_at, World.packet_at, World.held_at, Whole.IsCoherent, Runs.Making, Runs.records_made, Runs.states_of}
-use Rattle.stn_world.specs.Steps.{Step, added, finished, amended, withdrew, merged, sent, delivered, IsAccepted, stepped, run, Brings}
-use Rattle.stn_world.proofs.Accepted.{accepted_addition, accepted_execution, accepted_amendment, accepted_withdrawal, accepted_merge, accepted_delivery, merge_itself, merge_free, delivery_refusal}
-use Rattle.stn_world.proofs.{Whole.parts_agree, Whole.part_named, Whole.held_record, Whole.items_known, Alike.replaces_more, Alike.replaced_by, Runs.this_step, Runs.coherent_stepped, Runs.grows_run, Entries.each_state, Lawful.IsLawful, Lawful.known_made}
+use Rattle.stn_records.specs.{Id.SiteCounter, Content.{most_known, Content, Item, HasItem, is_known, is_replaced, is_live, known_in_either, dispute_contents, IsPart}}
+use Rattle.stn_site.{specs.{declared.faults.ReplicaFault.TheVariants.Full, Calls.Replaces, Refusals.take_refusal}, proofs.Refused.agreed_take}
+use Rattle.stn_world.{specs.{Faults.of_replica_fault, World.{World, HasSite, HasPacket, content_at, packet_at, held_at}, Whole.IsCoherent, Runs.{Making, records_made, states_of}, Steps.{Step, added, finished, amended, withdrew, merged, sent, delivered, IsAccepted, stepped, run, Brings}}, proofs.{Accepted.{accepted_addition, accepted_execution, accepted_amendment, accepted_withdrawal, accepted_merge, accepted_delivery, merge_itself, merge_free, delivery_refusal}, Whole.{parts_agree, part_named, held_record, items_known}, Alike.{replaces_more, replaced_by}, Runs.{this_step, coherent_stepped, grows_run}, Entries.each_state, Lawful.{IsLawful, known_made}}}
 
 module _ (world : World) (items : List Making) (now : IsLawful world items) where
   coherent : IsCoherent world

@@ -1,19 +1,10 @@
 -- Amendments are whole: whoever has a record has the entry by which it replaces another.
-use Rattle.std.proofs.Common.{◌≡◌, ◌↔◌, ◌⊎◌, inl, inr, ⊎_elim, ℕ, suc, ◌-◌, cond, is_some, Option, Some, None, List, [], ◌∷◌, get_or, refl, ap, sym, subst, ◌∙◌, arith}
-use Rattle.std.specs.List.{Contains}
-use Rattle.std.proofs.{lemmas.Bool.false≢true, lemmas.List.get_or_default, lemmas.List.Elements.Contains-append_cases}
+use Rattle.std.{proofs.{Common.{◌≡◌, ◌↔◌, ◌⊎◌, inl, inr, ⊎_elim, ℕ, suc, ◌-◌, cond, is_some, Option, Some, None, List, [], ◌∷◌, get_or, refl, ap, sym, subst, ◌∙◌, arith}, lemmas.{Bool.false≢true, List.{get_or_default, Elements.Contains-append_cases}}}, specs.List.Contains}
 use Rattle.stn_net.specs.Difference.{Difference}
 use Rattle.stn_lift.specs.PlanSource.{PlanSource}
-use Rattle.stn_records.specs.{Id.SiteCounter, declared.record.Record.Record, ContentLaws.contents_join, ContentLaws.contents_undisputed}
-use Rattle.stn_records.specs.Content.{Content, Item, addition, replacement, HasItem, no_content, plain, with_record, with_amendment, with_tombstone, joined_contents, IsPart}
-use Rattle.stn_records.proofs.Counters.{next_is_new}
-use Rattle.stn_site.specs.Held.{executed}
-use Rattle.stn_site.proofs.Items.{nothing_there, addition_items, withdrawal_brought}
-use Rattle.stn_world.specs.{declared.faults.WorldFault.WorldFault, Runs.HasEntries, Runs.states_of, Whole.IsWhole, Whole.IsCoherent}
-use Rattle.stn_world.specs.World.{World, HasSite, opening_world, content_at, packet_at, next_id_at, with_content, make, amend, withdraw, send}
-use Rattle.stn_world.specs.Steps.{Step, added, finished, amended, withdrew, merged, sent, delivered, step_refusal, IsAccepted, after, stepped, run}
-use Rattle.stn_world.proofs.{Parts.IsSentOf, Parts.sent_inside, Accepted.accepted_amendment, Accepted.accepted_sending, Runs.coherent_stepped}
-use Rattle.stn_world.proofs.Whole.{each_site, each_packet, kept, items_known, next_unknown, content_here, amended_items, parts_agree, same_id, same_new, same_old, nothing_at_first, coherent_at_first}
+use Rattle.stn_records.{specs.{Id.SiteCounter, declared.record.Record.Record, ContentLaws.{contents_join, contents_undisputed}, Content.{Content, Item, addition, replacement, HasItem, no_content, plain, with_record, with_amendment, with_tombstone, joined_contents, IsPart}}, proofs.Counters.next_is_new}
+use Rattle.stn_site.{specs.Held.executed, proofs.Items.{nothing_there, addition_items, withdrawal_brought}}
+use Rattle.stn_world.{specs.{declared.faults.WorldFault.WorldFault, Runs.{HasEntries, states_of}, Whole.{IsWhole, IsCoherent}, World.{World, HasSite, opening_world, content_at, packet_at, next_id_at, with_content, make, amend, withdraw, send}, Steps.{Step, added, finished, amended, withdrew, merged, sent, delivered, step_refusal, IsAccepted, after, stepped, run}}, proofs.{Parts.{IsSentOf, sent_inside}, Accepted.{accepted_amendment, accepted_sending}, Runs.coherent_stepped, Whole.{each_site, each_packet, kept, items_known, next_unknown, content_here, amended_items, parts_agree, same_id, same_new, same_old, nothing_at_first, coherent_at_first}}}
 
 -- the site that made it has each entry of the state
 abbrev OwnEntries : World → Content → Type 0

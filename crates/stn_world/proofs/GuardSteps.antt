@@ -1,18 +1,12 @@
 -- A guard that a site of a world adds.
-use Rattle.std.proofs.Common.{◌≡◌, inl, ℕ, ◌-◌, ◌≤◌, List, [], ◌∷◌, ◌++◌, length, map, take, refl, sym, ap, subst, ◌∙◌, All}
-use Rattle.std.proofs.lemmas.List.{length-set, take-append-le}
-use Rattle.std.proofs.lemmas.List.Elements.{All-append, All-weaker}
-use Rattle.stn_net.specs.{Difference.Difference, Difference.NamesEvents, Difference.IsBoundWithin, Horizon.horizon_bounds}
+use Rattle.std.proofs.{Common.{◌≡◌, inl, ℕ, ◌-◌, ◌≤◌, List, [], ◌∷◌, ◌++◌, map, take, refl, sym, ap, subst, ◌∙◌, All}, lemmas.List.{length-set, take-append-le, Elements.{All-append, All-weaker}}}
+use Rattle.stn_net.specs.{Difference.{Difference, NamesEvents, IsBoundWithin}, Horizon.horizon_bounds}
 use Rattle.stn_lift.specs.PlanSource.{PlanSource, base_bounds, events_of, IsSoundSource}
-use Rattle.stn_records.specs.{Id.SiteCounter, Content.Content, Content.with_record, Content.plain}
-use Rattle.stn_site.specs.{Bounds.live_bounds, Bounds.all_bounds, Held.Held, Held.next_id, Calls.AllLeave, Calls.added as added_call}
+use Rattle.stn_records.specs.{Id.SiteCounter, Content.{with_record, plain}}
+use Rattle.stn_site.specs.{Bounds.{live_bounds, all_bounds}, Held.{Held, next_id}, Calls.{AllLeave, added as added_call}}
 use Rattle.stn_replica.proofs.Opening.{horizon_within}
-use Rattle.stn_guard.specs.{declared.owners.OwnedSteps.OwnedSteps, Guard.Guards, Adding.owner_by, Adding.AddsGuard}
-use Rattle.stn_guard.proofs.{Made.made_guard, Put.added_guards}
-use Rattle.stn_world.specs.World.{World, HasSite, content_at, held_at, next_id_at, with_content, make}
-use Rattle.stn_world.specs.Steps.{Step, added, IsAccepted, after, stepped, run}
-use Rattle.stn_world.specs.{Whole.IsCoherent, Guarded.AllAccepted, Guarded.HoldsAlone, Guarded.HoldsGuarded}
-use Rattle.stn_world.proofs.{Whole.content_here, Whole.site_bounds}
+use Rattle.stn_guard.{specs.{declared.owners.OwnedSteps.OwnedSteps, Guard.Guards, Adding.{owner_by, AddsGuard}}, proofs.{Made.made_guard, Put.added_guards}}
+use Rattle.stn_world.{specs.{World.{World, HasSite, content_at, held_at, next_id_at, make}, Steps.{Step, added, stepped, run}, Whole.IsCoherent, Guarded.{AllAccepted, HoldsAlone, HoldsGuarded}}, proofs.Whole.{content_here, site_bounds}}
 
 -- records that a site adds, one after the other
 each_added : (records : List (SiteCounter × Difference)) (world : World) (site : ℕ) (old new : Held) → HasSite world site → old.site ≡ site → old.state ≡ content_at world site

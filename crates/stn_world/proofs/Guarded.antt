@@ -1,25 +1,13 @@
 -- Sites that keep to what is their own keep a schedule of all that they hold.
-use Rattle.std.proofs.Common.{◌≡◌, inl, inr, ⊎_elim, ℕ, ℤ, ◌+◌, ◌-◌, ◌<◌, ◌≤◌, Bool, true, false, cond, not, ◌&&◌, eqb, is_some, List, [], ◌∷◌, ◌++◌, length, get_or, refl, sym, subst, ◌∙◌, arith}
-use Rattle.std.specs.{Prelude.All, Prelude.filter, Prelude.flat_map, List.range_with_len}
-use Rattle.std.proofs.{lemmas.Bool.false≢true, lemmas.Bool.and_parts, lemmas.Bool.Decides.nat_tests, lemmas.List.length-set, lemmas.List.FromFn.length-range_with_len, lemmas.List.FromFn.get_or-range_with_len}
-use Rattle.std.proofs.lemmas.List.Elements.{All-nil, All-append, All-filter, All-head, All-tail}
-use Rattle.std.proofs.lemmas.Bool.{or_right, not-true}
+use Rattle.std.{proofs.{Common.{◌≡◌, inl, inr, ⊎_elim, ℕ, ℤ, ◌+◌, ◌-◌, ◌<◌, ◌≤◌, Bool, true, false, cond, not, ◌&&◌, eqb, is_some, List, [], ◌∷◌, ◌++◌, length, get_or, refl, sym, subst, ◌∙◌, arith}, lemmas.{Bool.{false≢true, and_parts, or_right, not-true, Decides.nat_tests}, List.{length-set, FromFn.{length-range_with_len, get_or-range_with_len}, Elements.{All-nil, All-append, All-filter, All-head, All-tail}}}}, specs.{Prelude.{All, filter, flat_map}, List.range_with_len}}
 use Rattle.stn_time.proofs.Each.{All-left, All-right}
-use Rattle.stn_net.specs.{Difference.Difference, Schedule.HasSchedule, Schedule.Meets}
-use Rattle.stn_net.specs.Windows.Rehearsal.{fixed_at}
+use Rattle.stn_net.specs.{Difference.Difference, Schedule.{HasSchedule, Meets}, Windows.Rehearsal.fixed_at}
 use Rattle.stn_lift.specs.PlanSource.{base_bounds}
-use Rattle.stn_records.specs.{Id.SiteCounter, declared.record.Record.Record, ContentLaws.contents_join}
-use Rattle.stn_records.specs.Content.{Content, Item, addition, withdrawal, replacement, HasItem, IsPart, is_replaced, is_live, plain, with_record, joined_contents}
-use Rattle.stn_records.proofs.{Counters.next_is_new, Replaced.replaced_cases, Replaced.replaced_by_withdrawal, Replaced.replaced_by_entry, Replaced.replaced_fewer}
-use Rattle.stn_site.specs.{Bounds.live_bounds, Bounds.all_bounds, Held.executed}
-use Rattle.stn_site.proofs.Items.{addition_items}
+use Rattle.stn_records.{specs.{Id.SiteCounter, declared.record.Record.Record, ContentLaws.contents_join, Content.{Content, Item, addition, withdrawal, replacement, HasItem, IsPart, is_replaced, is_live, plain, with_record, joined_contents}}, proofs.{Counters.next_is_new, Replaced.{replaced_cases, replaced_by_withdrawal, replaced_by_entry, replaced_fewer}}}
+use Rattle.stn_site.{specs.{Bounds.{live_bounds, all_bounds}, Held.executed}, proofs.Items.addition_items}
 use Rattle.stn_replica.proofs.Live.{live_from_bounds, bounds_from_live, All-passing, All-filter_passing}
-use Rattle.stn_guard.specs.Owners.{is_own, own_bounds}
-use Rattle.stn_guard.proofs.{Owned.all_of_pieces, Gluing.glue}
-use Rattle.stn_world.specs.World.{World, HasSite, has_site, content_at, packet_at, next_id_at, with_content, make, send}
-use Rattle.stn_world.specs.Steps.{Step, added, finished, amended, withdrew, merged, sent, delivered, IsAccepted, after, stepped, run}
-use Rattle.stn_world.specs.{Whole.IsCoherent, Guarded.IsOwnItem, Guarded.IsBesideOwn, Guarded.HoldsGuarded, Guarded.KeepsToOwn}
-use Rattle.stn_world.proofs.{Accepted.site_decides, Accepted.accepted_addition, Accepted.accepted_execution, Accepted.accepted_sending, Parts.sent_inside, Runs.for_step, Runs.coherent_stepped, Whole.each_site, Whole.each_packet, Whole.kept, Whole.sites_join, Whole.packet_joins}
+use Rattle.stn_guard.{specs.Owners.{is_own, own_bounds}, proofs.{Owned.all_of_pieces, Gluing.glue}}
+use Rattle.stn_world.{specs.{World.{World, HasSite, has_site, content_at, packet_at, next_id_at, with_content, make, send}, Steps.{Step, added, finished, amended, withdrew, merged, sent, delivered, IsAccepted, after, stepped, run}, Whole.IsCoherent, Guarded.{IsOwnItem, IsBesideOwn, HoldsGuarded, KeepsToOwn}}, proofs.{Accepted.{site_decides, accepted_addition, accepted_execution, accepted_sending}, Parts.sent_inside, Runs.{for_step, coherent_stepped}, Whole.{each_site, each_packet, kept, sites_join, packet_joins}}}
 
 own_execution : (owner : ℕ → ℕ) (site event : ℕ) (time : ℤ) → owner event ≡ site → is_own owner site (fixed_at time event) ≡ true
 own_execution owner site event time own =

@@ -1,23 +1,10 @@
 -- What is true of a world in its run: its sites and packets are parts of the whole of what was made.
-use Rattle.std.proofs.Common.{◌≡◌, ◌⊎◌, inl, inr, ⊎_elim, ℕ, zero, suc, ◌≤◌, ◌||◌, true, cond, is_some, Option, Some, None, List, [], ◌∷◌, ◌++◌, length, filter, is_eq, refl, ap, sym, subst, ◌∙◌, arith}
-use Rattle.std.specs.{List.Contains, Set.is_member, Cmp.tied_itself}
-use Rattle.std.proofs.{lemmas.List.append-nil, lemmas.List.append_assoc, lemmas.Map.Made.distinct_count-le, lemmas.Bool.or_right, lemmas.Bool.or_cases, lemmas.List.Folds.list_any-append}
-use Rattle.std.proofs.lemmas.List.Elements.{Contains-append_left, Contains-append_right, Contains-append_cases}
+use Rattle.std.{proofs.{Common.{◌≡◌, ◌⊎◌, inl, inr, ⊎_elim, ℕ, zero, suc, ◌≤◌, ◌||◌, true, cond, is_some, Option, Some, None, List, [], ◌∷◌, ◌++◌, length, filter, is_eq, refl, ap, sym, subst, ◌∙◌, arith}, lemmas.{List.{append-nil, append_assoc, Folds.list_any-append, Elements.{Contains-append_left, Contains-append_right, Contains-append_cases}}, Map.Made.distinct_count-le, Bool.{or_right, or_cases}}}, specs.{List.Contains, Set.is_member, Cmp.tied_itself}}
 use Rattle.stn_net.specs.Difference.{Difference, IsBoundWithin}
 use Rattle.stn_lift.specs.PlanSource.{PlanSource, events_of}
-use Rattle.stn_records.specs.{Id.SiteCounter, Id.same_ids, declared.record.Record.Record, ContentLaws.ids_total, ContentLaws.contents_join, ContentLaws.contents_undisputed}
-use Rattle.stn_records.specs.Content.{Content, Item, addition, withdrawal, replacement, HasItem, AllAmend, is_known, known_ids, known_in_either, no_content, plain, with_record, with_amendment, with_tombstone, joined_contents, IsPart}
-use Rattle.stn_records.proofs.{KnownIds.fewer, KnownIds.known_member, Counters.next_is_new}
-use Rattle.stn_site.specs.Held.{executed}
-use Rattle.stn_site.proofs.Items.{addition_items, amendment_items, withdrawal_brought, nothing_there}
-use Rattle.stn_site.proofs.Refused.{accepted_known, amended_known}
-use Rattle.stn_world.specs.{declared.faults.WorldFault.WorldFault, Whole.IsWhole, Runs.Making, Runs.WasMade, Runs.makings, Runs.made_in, Runs.made_by, Runs.is_addition, Runs.records_made, Runs.IsRecordOf}
-use Rattle.stn_world.specs.World.{World, HasSite, opening_world, content_at, packet_at, held_at, next_id_at, with_content, make, amend, withdraw, send}
-use Rattle.stn_world.specs.Steps.{Step, added, finished, amended, withdrew, merged, sent, delivered, step_refusal, IsAccepted, after, stepped, run}
-use Rattle.stn_world.proofs.Parts.{sent_inside, sent_amends}
-use Rattle.stn_world.proofs.Accepted.{accepted_addition, accepted_execution, accepted_amendment, accepted_withdrawal, accepted_sending}
-use Rattle.stn_world.proofs.Bounds.{accepted_bound, executed_bound, amended_bound}
-use Rattle.stn_world.proofs.Whole.{kept, held_record, next_unknown, content_here, amended_items, added_whole, amended_whole, withdrawn_whole, parts_agree, joined_whole, sent_whole, whole_at_first}
+use Rattle.stn_records.{specs.{Id.{SiteCounter, same_ids}, declared.record.Record.Record, ContentLaws.{ids_total, contents_join, contents_undisputed}, Content.{Content, Item, addition, withdrawal, replacement, HasItem, AllAmend, is_known, known_ids, known_in_either, no_content, plain, with_record, with_amendment, with_tombstone, joined_contents, IsPart}}, proofs.{KnownIds.{fewer, known_member}, Counters.next_is_new}}
+use Rattle.stn_site.{specs.Held.executed, proofs.{Items.{addition_items, amendment_items, withdrawal_brought, nothing_there}, Refused.{accepted_known, amended_known}}}
+use Rattle.stn_world.{specs.{declared.faults.WorldFault.WorldFault, Whole.IsWhole, Runs.{Making, WasMade, makings, made_in, made_by, is_addition, records_made, IsRecordOf}, World.{World, HasSite, opening_world, content_at, packet_at, held_at, next_id_at, with_content, make, amend, withdraw, send}, Steps.{Step, added, finished, amended, withdrew, merged, sent, delivered, step_refusal, IsAccepted, after, stepped, run}}, proofs.{Parts.{sent_inside, sent_amends}, Accepted.{accepted_addition, accepted_execution, accepted_amendment, accepted_withdrawal, accepted_sending}, Bounds.{accepted_bound, executed_bound, amended_bound}, Whole.{kept, held_record, next_unknown, content_here, amended_items, added_whole, amended_whole, withdrawn_whole, parts_agree, joined_whole, sent_whole, whole_at_first}}}
 
 -- each item of the whole was made, and each item that was made is held by its site
 pub record IsLawful (world : World) (items : List Making) : Type 0 where

@@ -5,6 +5,7 @@ pub mod Whole
 pub mod Sites
 pub mod Calls
 pub mod Pair
+pub mod Copies
 pub mod Merges
 pub mod Sendings
 pub mod Runs

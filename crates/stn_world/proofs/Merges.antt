@@ -1,12 +1,9 @@
 -- What a merge and a delivery can be refused for.
-use Rattle.std.proofs.Common.{◌≡◌, ℕ, Bool, true, false, ltb, ap, sym, subst, ◌∙◌}
-use Rattle.std.specs.{Prelude.unwrap_or, Bool.then_some}
+use Rattle.std.{proofs.Common.{◌≡◌, ℕ, Bool, true, false, ltb, ap, sym, subst, ◌∙◌}, specs.{Prelude.unwrap_or, Bool.then_some}}
 use Rattle.stn_records.specs.Content.{Content, most_known, known_in_either}
-use Rattle.stn_site.specs.{Held.Held, declared.faults.ReplicaFault.ReplicaFault, Refusals.take_refusal}
+use Rattle.stn_site.{specs.{Held.Held, declared.faults.ReplicaFault.ReplicaFault, Refusals.take_refusal}, proofs.Refused.agreed_take}
 use Rattle.stn_site.specs.declared.faults.ReplicaFault.TheVariants as replica_fault
-use Rattle.stn_site.proofs.Refused.{agreed_take}
-use Rattle.stn_world.specs.{declared.faults.WorldFault.WorldFault, Faults.of_replica_fault, World.World, World.held_at, World.content_at, World.packet_at, Steps.IsMergeFault, Steps.IsDeliveryFault, Whole.IsCoherent}
-use Rattle.stn_world.proofs.Whole.{sites_agree, site_named, packet_agrees, packet_named}
+use Rattle.stn_world.{specs.{declared.faults.WorldFault.WorldFault, Faults.of_replica_fault, World.{World, held_at, content_at, packet_at}, Steps.{IsMergeFault, IsDeliveryFault}, Whole.IsCoherent}, proofs.Whole.{sites_agree, site_named, packet_agrees, packet_named}}
 
 -- a site that agrees with what it takes refuses it for its size or for lack of memory alone
 agreed_fault : (P : WorldFault → Type 0) → P (of_replica_fault replica_fault.Full) → P (of_replica_fault replica_fault.Memory) → (held : Held) (theirs : Content) (fault : ReplicaFault)

@@ -1,11 +1,9 @@
 -- Two replicas of a list, of which one takes in what the other holds.
-use Rattle.std.proofs.Common.{◌≡◌, ◌≢◌, ℕ, ◌-◌, ◌<◌, ◌≤◌, List, ◌++◌, length, set, get_or, take, drop, ap, sym, ◌∙◌, arith, subst, length-append}
-use Rattle.std.proofs.lemmas.List.{length-set, set-get_or, get_or-set_same, get_or_append_left, get_or_default, set-append_left, set-append_right, get_or-append_right, take_at}
+use Rattle.std.proofs.{Common.{◌≡◌, ◌≢◌, ℕ, ◌-◌, ◌<◌, ◌≤◌, List, ◌++◌, length, set, get_or, take, drop, ap, sym, ◌∙◌, arith, subst, length-append}, lemmas.List.{length-set, set-get_or, get_or-set_same, get_or_append_left, get_or_default, set-append_left, set-append_right, get_or-append_right, take_at}}
 use Rattle.stn_lift.specs.PlanSource.{PlanSource}
 use Rattle.stn_records.specs.Content.{Content, IsPart, no_content, joined_contents}
-use Rattle.stn_site.specs.{Held.Held, Calls.took, Calls.Leaves, Refusals.take_refusal}
-use Rattle.stn_world.specs.{World.World, World.HasSite, World.content_at, World.with_content, World.merge, Sites.world_of, Whole.IsSites, Whole.held_in, Whole.IsCoherent, Whole.IsSoundWorld}
-use Rattle.stn_world.proofs.Sites.{IsHeldAt, held_at_place, world_set, sites_set, join_is_joined, joined_itself}
+use Rattle.stn_site.specs.{Held.Held, Calls.{took, Leaves}, Refusals.take_refusal}
+use Rattle.stn_world.{specs.{World.{World, HasSite, content_at, with_content, merge}, Sites.world_of, Whole.{IsSites, held_in, IsCoherent, IsSoundWorld}}, proofs.Sites.{IsHeldAt, held_at_place, world_set, sites_set, join_is_joined, joined_itself}}
 
 set_back : {X : Type 0} (front back : List X) (i : ℕ) (x : X) → length front ≡ i → front ++ set back 0 x ≡ set (front ++ back) i x
 set_back front back i x e = sym (set-append_right front back i i x e (omega arith) ∙ (let here : i - i ≡ 0 = omega arith in ap (λ k. front ++ set back k x) here))

@@ -1,14 +1,7 @@
 -- Whether a state is part of another, and the parts that are sent.
-use Rattle.std.proofs.Common.{◌≡◌, Bool, true, false, cond, List, Option, Some, None, is_some, sym, refl, ap, ◌∙◌, All}
-use Rattle.std.specs.{Prelude.IsTrue, Bool.Decides, List.list_all, Option.option_eq, Set.is_member, FinMap.get-retain_keys}
+use Rattle.std.{proofs.{Common.{◌≡◌, Bool, true, false, cond, List, Option, Some, None, is_some, sym, refl, ap, ◌∙◌, All}, lemmas.{Bool.{false≢true, Decides.{Decides-by_and, Decides-and, Decides-like}}, Option.same_Some}}, specs.{Prelude.IsTrue, Bool.Decides, List.list_all, Option.option_eq, Set.is_member, FinMap.get-retain_keys}}
 use Rattle.std.specs.FinMap as fin
-use Rattle.std.proofs.lemmas.Bool.{false≢true}
-use Rattle.std.proofs.lemmas.Bool.Decides.{Decides-by_and, Decides-and, Decides-like}
-use Rattle.std.proofs.lemmas.Option.{same_Some}
-use Rattle.stn_records.specs.{Id.SiteCounter, Id.id_cmp, Id.same_ids, declared.record.Record.Record, Record.same_records}
-use Rattle.stn_records.specs.Content.{Content, addition, withdrawal, replacement, HasItem, AllHeld, AllAmend, part_of, plain, IsPart}
-use Rattle.stn_records.specs.ContentLaws.{ids_total, ids_exact, ids_decide, records_decide}
-use Rattle.stn_records.proofs.{Proper.retained_value, Gets.entries_from_get, Gets.get_from_entries}
+use Rattle.stn_records.{specs.{Id.{SiteCounter, id_cmp, same_ids}, declared.record.Record.Record, Record.same_records, Content.{Content, addition, withdrawal, replacement, HasItem, AllHeld, AllAmend, part_of, plain, IsPart}, ContentLaws.{ids_total, ids_exact, ids_decide, records_decide}}, proofs.{Proper.retained_value, Gets.{entries_from_get, get_from_entries}}}
 use Rattle.stn_world.specs.Parts.{has_whole_record, is_part, holds_all}
 
 -- a test of values decides whether options are the same

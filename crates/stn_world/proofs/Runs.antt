@@ -1,16 +1,9 @@
 -- What the sites of a world hold after a run.
-use Rattle.std.proofs.Common.{◌≡◌, ◌≢◌, ◌↔◌, ◌⊎◌, inl, inr, ⊎_elim, ℕ, ◌-◌, ◌≤◌, cond, is_some, Option, Some, None, List, [], ◌∷◌, refl, ap, sym, subst, ◌∙◌, arith}
-use Rattle.std.proofs.{lemmas.Bool.false≢true, lemmas.Bool.cases_eq, lemmas.List.length-set, lemmas.List.get_or-set_other}
+use Rattle.std.proofs.{Common.{◌≡◌, ◌≢◌, ◌↔◌, ◌⊎◌, inl, inr, ⊎_elim, ℕ, ◌-◌, ◌≤◌, cond, is_some, Option, Some, None, List, [], ◌∷◌, refl, ap, sym, subst, ◌∙◌, arith}, lemmas.{Bool.{false≢true, cases_eq}, List.{length-set, get_or-set_other}}}
 use Rattle.stn_lift.specs.PlanSource.{PlanSource}
-use Rattle.stn_records.specs.Content.{Content, Item, HasItem, no_content, plain, with_record, with_amendment, with_tombstone, joined_contents, addition, withdrawal, replacement, IsPart}
-use Rattle.stn_records.specs.ContentLaws.{contents_join}
-use Rattle.stn_site.specs.Held.{executed}
-use Rattle.stn_site.proofs.Items.{nothing_there, record_brought, withdrawal_brought, regroup}
-use Rattle.stn_world.specs.{declared.faults.WorldFault.WorldFault, Whole.IsCoherent}
-use Rattle.stn_world.specs.World.{World, HasSite, opening_world, content_at, packet_at, next_id_at, with_content}
-use Rattle.stn_world.specs.Steps.{Step, added, finished, amended, withdrew, merged, sent, delivered, after, stepped, run, step_refusal, IsAccepted, Brings, TookAt}
-use Rattle.stn_world.proofs.Accepted.{accepted_addition, accepted_execution, accepted_amendment, accepted_withdrawal, accepted_merge, accepted_delivery}
-use Rattle.stn_world.proofs.Whole.{content_here, amended_items, sites_join, packet_joins, coherent_after, grows_after, coherent_at_first, nothing_at_first}
+use Rattle.stn_records.specs.{Content.{Content, Item, HasItem, no_content, plain, with_record, with_amendment, with_tombstone, joined_contents, addition, withdrawal, replacement, IsPart}, ContentLaws.contents_join}
+use Rattle.stn_site.{specs.Held.executed, proofs.Items.{nothing_there, record_brought, withdrawal_brought, regroup}}
+use Rattle.stn_world.{specs.{declared.faults.WorldFault.WorldFault, Whole.IsCoherent, World.{World, HasSite, opening_world, content_at, packet_at, next_id_at, with_content}, Steps.{Step, added, finished, amended, withdrew, merged, sent, delivered, after, stepped, run, step_refusal, IsAccepted, Brings, TookAt}}, proofs.{Accepted.{accepted_addition, accepted_execution, accepted_amendment, accepted_withdrawal, accepted_merge, accepted_delivery}, Whole.{content_here, amended_items, sites_join, packet_joins, coherent_after, grows_after, coherent_at_first, nothing_at_first}}}
 
 there_after : (world : World) (at : ℕ) (content : Content) (site : ℕ) → HasSite world site → HasSite (with_content world at content) site
 there_after world at content site there = record { least = there.least; most = subst (λ (n : ℕ). site ≤ n) (sym (length-set world.sites (at - 1) content)) there.most }

@@ -1,13 +1,9 @@
 -- What refuses a call that sends, and what it leaves.
-use Rattle.std.proofs.Common.{◌≡◌, ◌≢◌, ◌↔◌, ℕ, ◌<◌, Bool, true, false, not, List, None, Result, Err, length, refl, sym, ap, ◌∙◌}
-use Rattle.std.specs.{Prelude.unwrap_or, Bool.then_some}
-use Rattle.std.proofs.lemmas.Bool.{false≢true, false_from_ne_true}
-use Rattle.stn_records.specs.{Id.SiteCounter, Content.Content, Content.AllHeld, Content.part_of, declared.faults.PartFault.PartFault}
+use Rattle.std.{proofs.{Common.{◌≡◌, ◌≢◌, ◌↔◌, ℕ, ◌<◌, Bool, true, false, not, List, None, Result, Err, length, refl, sym, ap, ◌∙◌}, lemmas.Bool.{false≢true, false_from_ne_true}}, specs.{Prelude.unwrap_or, Bool.then_some}}
+use Rattle.stn_records.specs.{Id.SiteCounter, Content.{Content, AllHeld, part_of}, declared.faults.PartFault.PartFault}
 use Rattle.stn_records.specs.declared.faults.PartFault.TheVariants as part_fault
 use Rattle.stn_site.specs.declared.faults.ReplicaFault.TheVariants as replica_fault
-use Rattle.stn_world.specs.declared.faults.WorldFault.TheVariants.{Replica, Memory}
-use Rattle.stn_world.specs.{Faults.of_part_fault, Parts.holds_all, World.World, World.most_packets, World.HasSite, World.content_at, Steps.sent, Steps.IsAccepted, Steps.send_refusal, Whole.IsCoherent}
-use Rattle.stn_world.proofs.{Accepted.sending_free, Accepted.send_with_room, Parts.part_sent, Parts.all_sent, Parts.holds_all-decides}
+use Rattle.stn_world.{specs.{declared.faults.WorldFault.TheVariants.{Replica, Memory}, Faults.of_part_fault, Parts.holds_all, World.{World, most_packets, HasSite, content_at}, Steps.{sent, IsAccepted, send_refusal}, Whole.IsCoherent}, proofs.{Accepted.{sending_free, send_with_room}, Parts.{part_sent, all_sent, holds_all-decides}}}
 
 -- a part that could not be made
 abbrev failed : (A : Type 0) → PartFault → Result A PartFault

@@ -1,16 +1,9 @@
 -- The replicas of a world, as they are made and as one of them changes.
-use Rattle.std.proofs.Common.{◌≡◌, true, false, ltb, not, is_some, Some, None, Option, ℕ, zero, suc, ◌+◌, ◌-◌, ◌<◌, ◌≤◌, List, [], ◌∷◌, ◌++◌, length, map, replicate, set, get_or, refl, ap, sym, ◌∙◌, arith, subst, add-one}
-use Rattle.std.proofs.{lemmas.Bool.false≢true, lemmas.List.FromFn.get_or-range_with_len, Math.Seq.map-set_same}
-use Rattle.std.proofs.lemmas.List.{get_or_default, map-append, map-set, length-set, length-append, get_or-map, length-map, replicate_more, get_or-replicate}
-use Rattle.std.specs.List.{range_with_len}
+use Rattle.std.{proofs.{Common.{◌≡◌, true, false, not, is_some, Some, None, Option, ℕ, zero, suc, ◌+◌, ◌-◌, ◌<◌, ◌≤◌, List, [], ◌∷◌, ◌++◌, length, map, replicate, set, get_or, refl, ap, sym, ◌∙◌, arith, subst, add-one}, lemmas.List.{get_or_default, map-append, map-set, length-set, length-append, get_or-map, length-map, replicate_more, get_or-replicate, FromFn.get_or-range_with_len}, Math.Seq.map-set_same}, specs.List.range_with_len}
 use Rattle.stn_lift.specs.PlanSource.{PlanSource}
-use Rattle.stn_records.specs.Content.{Content, IsPart, no_content, dispute_contents, join_contents, joined_contents}
-use Rattle.stn_records.specs.{ContentLaws.contents_dispute, ContentLaws.contents_undisputed, ContentLaws.contents_repeat, Id.SiteCounter, Id.most_sites}
-use Rattle.stn_site.specs.Held.{Held, next_id}
-use Rattle.stn_site.specs.Refusals.{take_refusal}
-use Rattle.stn_world.specs.World.{World, HasSite, HasPacket, content_at, packet_at, held_at, next_id_at, with_content}
-use Rattle.stn_world.specs.{Whole.IsSites, Whole.IsCoherent, Whole.IsSoundWorld, Sites.contents_of, Sites.world_of}
-use Rattle.stn_world.proofs.Whole.{coherent_at_first}
+use Rattle.stn_records.specs.{Content.{Content, IsPart, no_content, dispute_contents, join_contents, joined_contents}, ContentLaws.{contents_dispute, contents_undisputed, contents_repeat}, Id.{SiteCounter, most_sites}}
+use Rattle.stn_site.specs.{Held.{Held, next_id}, Refusals.take_refusal}
+use Rattle.stn_world.{specs.{World.{World, HasSite, HasPacket, content_at, packet_at, held_at, next_id_at, with_content}, Whole.{IsSites, IsCoherent, IsSoundWorld}, Sites.{contents_of, world_of}}, proofs.Whole.coherent_at_first}
 
 -- one number more
 pub range_more : (a n : ℕ) → range_with_len a (suc n) ≡ range_with_len a n ++ (a + n) ∷ []
@@ -23,6 +16,19 @@ pub record IsStarted (source : PlanSource) (count : ℕ) (replicas : List Held) 
   pub numbers : map (λ replica. replica.site) replicas ≡ range_with_len 1 count
   pub sources : map (λ replica. replica.source) replicas ≡ replicate count source
   pub nothing : contents_of replicas ≡ replicate count no_content
+
+-- one replica
+pub started_one : (source : PlanSource) (one : Held) → one.site ≡ 1 → one.source ≡ source → one.state ≡ no_content → IsStarted source 1 (one ∷ [])
+started_one source one site src state =
+    record { counted = refl; numbers = ap (λ k. k ∷ []) site; sources = ap (λ s. s ∷ []) src; nothing = ap (λ k. k ∷ []) state }
+
+-- the first is of their plan
+pub started_source : (source : PlanSource) (count : ℕ) (replicas : List Held) (first : Held) → IsStarted source count replicas → 1 ≤ count → first ≡ get_or replicas 0 first → first.source ≡ source
+started_source source count replicas first all least is =
+    let there : 0 < length replicas = omega (arith, all.counted, least) in
+    let counted : 0 < count = omega (arith, least) in
+    ap (λ (h : Held). h.source) is ∙ (sym (get_or-map (λ (r : Held). r.source) replicas 0 first source there)
+    ∙ (ap (λ (l : List PlanSource). get_or l 0 source) all.sources ∙ get_or-replicate count 0 source source counted))
 
 -- one replica more
 pub started_more : (source : PlanSource) (count : ℕ) (replicas : List Held) (one : Held) → IsStarted source count replicas
@@ -151,9 +157,3 @@ packet_there {packets = packets} world source replicas place number one is at th
     let most : number ≤ length packets = subst (λ (l : List Content). number ≤ length l) packets_are there.most in
     let within : place < length packets = omega arith in
     same ∙ (get_or_default packets place one no_content within ∙ (ap (λ (l : List Content). get_or l place no_content) (sym packets_are) ∙ ap (λ k. get_or world.packets k no_content) at))
-
--- a replica of a list is of the plan that all of it are of
-pub first_source : (replicas : List Held) (source : PlanSource) (first : Held) → map (λ (replica : Held). replica.source) replicas ≡ replicate (length replicas) source
-    → true ≡ ltb 0 (length replicas) → first ≡ get_or replicas 0 first → first.source ≡ source
-first_source [] source first sources there is = absurd (false≢true (sym there))
-first_source (one ∷ rest) source first sources there is = ap (λ (h : Held). h.source) is ∙ ap (λ (l : List PlanSource). get_or l 0 source) sources

@@ -1,25 +1,12 @@
 -- The sites of a world stay parts of a whole.
-use Rattle.std.proofs.Common.{◌≡◌, ◌≢◌, ◌↔◌, ◌⊎◌, inl, inr, ⊎_elim, ℕ, zero, suc, ◌-◌, Bool, true, false, not, ◌||◌, is_some, Option, Some, None, List, [], ◌∷◌, ◌++◌, set, get_or, All, refl, ap, sym, subst, ◌∙◌, arith}
-use Rattle.std.proofs.{lemmas.Bool.false≢true, lemmas.Bool.or_cases, lemmas.List.get_or-set_same}
+use Rattle.std.proofs.{Common.{◌≡◌, ◌≢◌, ◌↔◌, ◌⊎◌, inl, inr, ⊎_elim, ℕ, zero, suc, ◌-◌, Bool, true, false, not, ◌||◌, is_some, Option, Some, None, List, [], ◌∷◌, ◌++◌, set, get_or, All, refl, ap, sym, subst, ◌∙◌, arith}, lemmas.{Bool.{false≢true, or_cases}, List.get_or-set_same}}
 use Rattle.std.specs.FinMap as fin
-use Rattle.stn_site.proofs.Flags.{get_or-replicate_same}
+use Rattle.stn_site.{proofs.{Flags.get_or-replicate_same, Items.{nothing_there, addition_items, amendment_items, withdrawal_brought}, Refused.{accepted_known, amended_known}}, specs.{Bounds.{RecordsName, live_bounds}, Held.executed}}
 use Rattle.stn_net.specs.Difference.{Difference, NamesEvents, IsBoundWithin}
 use Rattle.stn_lift.specs.PlanSource.{PlanSource, events_of}
-use Rattle.stn_records.specs.{Id.SiteCounter, declared.record.Record.Record}
-use Rattle.stn_records.specs.Content.{Content, Item, addition, withdrawal, replacement, HasItem, is_known, is_replaced, no_content, plain, with_record, with_amendment, with_tombstone, dispute_contents, join_contents, joined_contents, IsPart, IsAmendment, AllAmend, AllProper}
-use Rattle.stn_records.specs.ContentLaws.{ids_total, ids_exact, contents_join, contents_dispute, contents_undisputed}
-use Rattle.stn_records.proofs.{Replaced.replaced_cases, Counters.next_is_new, Gets.entries_from_get}
-use Rattle.stn_site.specs.{Bounds.RecordsName, Bounds.live_bounds, Held.executed}
-use Rattle.stn_site.proofs.Items.{nothing_there, addition_items, amendment_items, withdrawal_brought}
-use Rattle.stn_site.proofs.Refused.{accepted_known, amended_known}
+use Rattle.stn_records.{specs.{Id.SiteCounter, declared.record.Record.Record, Content.{Content, Item, addition, withdrawal, replacement, HasItem, is_known, is_replaced, no_content, plain, with_record, with_amendment, with_tombstone, dispute_contents, join_contents, joined_contents, IsPart, IsAmendment, AllAmend, AllProper}, ContentLaws.{ids_total, ids_exact, contents_join, contents_dispute, contents_undisputed}}, proofs.{Replaced.replaced_cases, Counters.next_is_new, Gets.entries_from_get}}
 use Rattle.stn_replica.proofs.Live.{bounds_from_live}
-use Rattle.stn_world.specs.World.{World, HasSite, opening_world, content_at, packet_at, held_at, next_id_at, with_content, make, amend, withdraw, send}
-use Rattle.stn_world.specs.Steps.{Step, added, finished, amended, withdrew, merged, sent, delivered, after, IsAccepted}
-use Rattle.stn_world.specs.Whole.{IsWhole, IsCoherent}
-use Rattle.stn_world.specs.Runs.{IsRecordOf}
-use Rattle.stn_world.proofs.Parts.{sent_inside, sent_amends}
-use Rattle.stn_world.proofs.Accepted.{accepted_addition, accepted_execution, accepted_amendment, accepted_withdrawal, accepted_sending}
-use Rattle.stn_world.proofs.Bounds.{accepted_bound, executed_bound, amended_bound}
+use Rattle.stn_world.{specs.{World.{World, HasSite, opening_world, content_at, packet_at, held_at, next_id_at, with_content, make, amend, withdraw, send}, Steps.{Step, added, finished, amended, withdrew, merged, sent, delivered, after, IsAccepted}, Whole.{IsWhole, IsCoherent}, Runs.IsRecordOf}, proofs.{Parts.{sent_inside, sent_amends}, Accepted.{accepted_addition, accepted_execution, accepted_amendment, accepted_withdrawal, accepted_sending}, Bounds.{accepted_bound, executed_bound, amended_bound}}}
 
 -- a place of a list that was set has the new element, or what it had
 set_cases : {X : Type 0} (xs : List X) (i j : ℕ) (x d : X) → ((get_or (set xs i x) j d ≡ x) × (get_or xs i d ≡ get_or xs j d)) ⊎ (get_or (set xs i x) j d ≡ get_or xs j d)

@@ -3,9 +3,8 @@ use Rattle.std.specs.Prelude.{◌≡◌, ℕ, true, ◌⊎◌, List, [], ◌∷�
 use Rattle.stn_net.specs.Schedule.{HasSchedule}
 use Rattle.stn_records.specs.Content.{Content, Item, addition, withdrawal, replacement, HasItem, IsPart}
 use Rattle.stn_site.specs.Bounds.{all_bounds}
-use Rattle.stn_guard.specs.{Owners.is_own, Owners.own_bounds, Guard.Guards}
-use Rattle.stn_world.specs.World.{World, HasSite, content_at, packet_at}
-use Rattle.stn_world.specs.Steps.{Step, added, finished, amended, withdrew, merged, sent, delivered, IsAccepted, after}
+use Rattle.stn_guard.specs.{Owners.{is_own, own_bounds}, Guard.Guards}
+use Rattle.stn_world.specs.{World.{World, HasSite, content_at, packet_at}, Steps.{Step, added, finished, amended, withdrew, merged, sent, delivered, IsAccepted, after}}
 
 -- the item is a record of a bound that is the own of the site that made it, one of the world
 abbrev pub IsOwnItem : (ℕ → ℕ) → World → Item → Type 0

@@ -1,7 +1,7 @@
 -- Parts of what a site holds.
-use Rattle.std.specs.{Prelude.Bool, Prelude.◌&&◌, Prelude.List, Prelude.Some, List.list_all, Option.option_eq}
+use Rattle.std.specs.{Prelude.{Bool, ◌&&◌, List, Some}, List.list_all, Option.option_eq}
 use Rattle.std.specs.FinMap as map
-use Rattle.stn_records.specs.{declared.record.Record.Record, Id.SiteCounter, Id.same_ids, Record.same_records, Content.Content}
+use Rattle.stn_records.specs.{declared.record.Record.Record, Id.{SiteCounter, same_ids}, Record.same_records, Content.Content}
 
 -- the record is the whole's under that id, and the part has the entry by which it replaces another exactly if the whole has it
 abbrev pub has_whole_record : Content → Content → SiteCounter × Record → Bool

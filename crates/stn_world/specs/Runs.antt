@@ -1,13 +1,10 @@
 -- Runs of a world, and the items that are made in them.
-use Rattle.std.specs.Prelude.{ℕ, List, [], ◌∷◌, ◌++◌, length, filter, Bool, true, false, is_some, if◌then◌else◌}
-use Rattle.std.specs.List.{Contains}
+use Rattle.std.specs.{Prelude.{ℕ, List, [], ◌∷◌, ◌++◌, length, filter, Bool, true, false, is_some, if◌then◌else◌}, List.Contains}
 use Rattle.stn_lift.specs.PlanSource.{PlanSource}
 use Rattle.stn_net.specs.Difference.{IsBoundWithin}
-use Rattle.stn_records.specs.{Id.SiteCounter, Record.IsProperRecord, declared.record.Record.Record}
-use Rattle.stn_records.specs.Content.{Content, Item, addition, withdrawal, replacement, HasItem}
+use Rattle.stn_records.specs.{Id.SiteCounter, Record.IsProperRecord, declared.record.Record.Record, Content.{Content, Item, addition, withdrawal, replacement, HasItem}}
 use Rattle.stn_site.specs.Held.{plain, executed}
-use Rattle.stn_world.specs.World.{World, opening_world, next_id_at, content_at}
-use Rattle.stn_world.specs.Steps.{Step, added, finished, amended, withdrew, step_refusal, stepped, run}
+use Rattle.stn_world.specs.{World.{World, opening_world, next_id_at, content_at}, Steps.{Step, added, finished, amended, withdrew, step_refusal, stepped, run}}
 
 -- an item that was made, and the site that made it
 pub record Making : Type 0 where

@@ -1,15 +1,10 @@
 -- The calls of a world as steps: why one is refused, what it leaves, and what it brings to each site.
-use Rattle.std.specs.Prelude.{◌≡◌, ℕ, ℤ, ◌+◌, ◌==◌, nat_le, ◌⊎◌, ◌↔◌, Bool, not, fold, List, [], ◌∷◌, length, Option, None, option_map, is_some, unwrap_or, Result, Ok, Err, if◌then◌else◌, ⊤}
-use Rattle.std.specs.{Bool.then_some, Option.option_or}
+use Rattle.std.specs.{Prelude.{◌≡◌, ℕ, ℤ, ◌+◌, ◌==◌, nat_le, ◌⊎◌, ◌↔◌, Bool, not, fold, List, [], ◌∷◌, length, Option, None, option_map, is_some, unwrap_or, Result, Ok, Err, if◌then◌else◌, ⊤}, Bool.then_some, Option.option_or}
 use Rattle.stn_net.specs.Difference.{Difference}
-use Rattle.stn_records.specs.Id.{SiteCounter}
-use Rattle.stn_records.specs.Content.{Content, Item, addition, withdrawal, replacement, HasItem}
+use Rattle.stn_records.specs.{Id.SiteCounter, Content.{Content, Item, addition, withdrawal, replacement, HasItem}}
 use Rattle.stn_site.specs.declared.faults.ReplicaFault.TheVariants as replica_fault
-use Rattle.stn_site.specs.{Held.plain, Held.executed, Calls.CountAlike}
-use Rattle.stn_site.specs.Refusals.{add_refusal, done_refusal, amend_refusal, withdraw_refusal, take_refusal}
-use Rattle.stn_world.specs.{declared.faults.WorldFault.WorldFault, Faults.of_replica_fault, Parts.is_part}
-use Rattle.stn_world.specs.declared.faults.WorldFault.TheVariants.{NoSite, TooManyPackets, NoPacket, Replica, Memory}
-use Rattle.stn_world.specs.World.{World, most_packets, has_site, has_packet, content_at, packet_at, held_at, next_id_at, make, amend, withdraw, merge, send, deliver}
+use Rattle.stn_site.specs.{Held.{plain, executed}, Calls.CountAlike, Refusals.{add_refusal, done_refusal, amend_refusal, withdraw_refusal, take_refusal}}
+use Rattle.stn_world.specs.{declared.faults.WorldFault.{WorldFault, TheVariants.{NoSite, TooManyPackets, NoPacket, Replica, Memory}}, Faults.of_replica_fault, Parts.is_part, World.{World, most_packets, has_site, has_packet, content_at, packet_at, held_at, next_id_at, make, amend, withdraw, merge, send, deliver}}
 
 -- a step: a site adds a bound, records the time at which it executed an event, amends a record by another bound, withdraws an id, takes in
 -- all that another holds, sends any part of what it holds, or takes in a packet, of any age

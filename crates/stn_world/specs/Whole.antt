@@ -1,12 +1,10 @@
 -- For proofs alone: no public clause cites these words.
 -- The replicas of a world, and what all its sites and packets hold together.
-use Rattle.std.specs.Prelude.{◌≡◌, ℕ, ◌≤◌, List, length, map, replicate, slice_index_or}
-use Rattle.std.specs.List.{range_with_len}
+use Rattle.std.specs.{Prelude.{◌≡◌, ℕ, ◌≤◌, List, length, map, replicate, slice_index_or}, List.range_with_len}
 use Rattle.stn_lift.specs.PlanSource.{PlanSource, bare, events_of}
-use Rattle.stn_records.specs.{declared.record.Record.Record, Id.most_sites, Id.SiteCounter}
-use Rattle.stn_records.specs.Content.{Content, no_content, addition, withdrawal, replacement, HasItem, IsPart, AllAmend}
+use Rattle.stn_records.specs.{declared.record.Record.Record, Id.{most_sites, SiteCounter}, Content.{Content, no_content, addition, withdrawal, replacement, HasItem, IsPart, AllAmend}}
 use Rattle.stn_site.specs.Held.{Held}
-use Rattle.stn_world.specs.{World.World, World.most_packets, World.content_at, World.packet_at, Sites.world_of, Runs.IsRecordOf}
+use Rattle.stn_world.specs.{World.{World, most_packets, content_at, packet_at}, Sites.world_of, Runs.IsRecordOf}
 
 -- from 1 to 64 replicas of one plan, in order of site from 1 on
 pub record IsSites (source : PlanSource) (replicas : List Held) : Type 0 where

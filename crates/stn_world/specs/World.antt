@@ -1,10 +1,8 @@
 -- A plan at several sites, as a value, and its changes.
-use Rattle.std.specs.Prelude.{ℕ, ◌-◌, ◌≤◌, Bool, ◌&&◌, nat_le, List, [], ◌∷◌, ◌++◌, length, slice_index_or, slice_set, replicate, refl}
-use Rattle.std.specs.Coded.{Coded, code_by, coded×, coded_list}
+use Rattle.std.specs.{Prelude.{ℕ, ◌-◌, ◌≤◌, Bool, ◌&&◌, nat_le, List, [], ◌∷◌, ◌++◌, length, slice_index_or, slice_set, replicate, refl}, Coded.{Coded, code_by, coded×, coded_list}}
 use Rattle.stn_net.specs.Difference.{Difference}
 use Rattle.stn_lift.specs.PlanSource.{PlanSource, coded_source}
-use Rattle.stn_records.specs.{declared.record.Record.Record, Id.SiteCounter}
-use Rattle.stn_records.specs.Content.{Content, coded_content, no_content, with_record, with_tombstone, with_amendment, joined_contents}
+use Rattle.stn_records.specs.{declared.record.Record.Record, Id.SiteCounter, Content.{Content, coded_content, no_content, with_record, with_tombstone, with_amendment, joined_contents}}
 use Rattle.stn_site.specs.Held.{Held, next_id}
 
 -- a program keeps at most so many packets

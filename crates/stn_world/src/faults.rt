@@ -1,7 +1,5 @@
 ghost use Rattle.std.specs.Prelude.{◌≡◌};
-ghost use Rattle.stn_world.specs.Faults.{of_replica_fault, of_part_fault};
-ghost use Rattle.stn_world.specs.declared.faults.WorldFault.TheVariants.{Memory};
-ghost use Rattle.stn_world.specs.Failures.{world_failure};
+ghost use Rattle.stn_world.specs.{Faults.{of_replica_fault, of_part_fault}, declared.faults.WorldFault.TheVariants.Memory, Failures.world_failure};
 
 use std::alloc::{AllocError, AllocFailed};
 use stn_records::PartFault;

@@ -1,18 +1,9 @@
-ghost use Rattle.std.specs.Prelude.{◌≡◌, ℕ, ◌≤◌, ◌↔◌, List, ◌∷◌, map, All, None, true, false};
-ghost use Rattle.std.specs.List.{Contains};
+ghost use Rattle.std.specs.{Prelude.{◌≡◌, ℕ, ◌≤◌, ◌↔◌, List, ◌∷◌, map, All, None, true, false}, List.Contains};
 ghost use Rattle.stn_lift.specs.PlanSource.{PlanSource, events_of, IsSoundSource};
-ghost use Rattle.stn_records.specs.Id.{SiteCounter};
-ghost use Rattle.stn_records.specs.declared.record.Record.{Record};
-ghost use Rattle.stn_records.specs.Content.{most_known, Content, Item, addition, HasItem, is_known, is_live, dispute_contents, IsPart, CountsSame};
-ghost use Rattle.stn_site.specs.Calls.{Replaces};
-ghost use Rattle.stn_site.specs.Held.{Held};
-ghost use Rattle.stn_site.specs.Report.{IsReport};
-ghost use Rattle.stn_guard.specs.Adding.{owner_by, AddsGuard};
-ghost use Rattle.stn_guard.specs.declared.owners.OwnedSteps.{OwnedSteps};
-ghost use Rattle.stn_world.specs.World.{World, HasSite, HasPacket, opening_world, held_at, content_at, packet_at};
-ghost use Rattle.stn_world.specs.Steps.{Step, added, merged, delivered, IsAccepted, run, Brings, TookAt, TookSameAt, TookSameItemsAt};
-ghost use Rattle.stn_world.specs.Guarded.{AllAccepted, HoldsAlone, HoldsGuarded, KeepsToOwn, HaveOwnSchedules, HaveSchedules};
-ghost use Rattle.stn_world.specs.Runs.{Making, WasMade, records_made, states_of, HasEntries, IsRecordOf, InEachRun};
+ghost use Rattle.stn_records.specs.{Id.SiteCounter, declared.record.Record.Record, Content.{most_known, Content, Item, addition, HasItem, is_known, is_live, dispute_contents, IsPart, CountsSame}};
+ghost use Rattle.stn_site.specs.{Calls.Replaces, Held.Held, Report.IsReport};
+ghost use Rattle.stn_guard.specs.{Adding.{owner_by, AddsGuard}, declared.owners.OwnedSteps.OwnedSteps};
+ghost use Rattle.stn_world.specs.{World.{World, HasSite, HasPacket, opening_world, held_at, content_at, packet_at}, Steps.{Step, added, merged, delivered, IsAccepted, run, Brings, TookAt, TookSameAt, TookSameItemsAt}, Guarded.{AllAccepted, HoldsAlone, HoldsGuarded, KeepsToOwn, HaveOwnSchedules, HaveSchedules}, Runs.{Making, WasMade, records_made, states_of, HasEntries, IsRecordOf, InEachRun}};
 
 use stn_site::{one_report, same_counts_same_bytes};
 

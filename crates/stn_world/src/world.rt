@@ -1,17 +1,7 @@
-ghost use Rattle.std.specs.Prelude.{◌≡◌, ◌≢◌, ◌+◌, true, ◌-◌, ◌<◌, ◌≤◌, None, unwrap_or, length, map, replicate, slice_set, MatchOption, IfSome, IsOk, IfOk, IfErr, OnOk, OnErr};
-ghost use Rattle.std.specs.FinMap.{contains_key};
-ghost use Rattle.std.specs.Rc.{rc_value};
-ghost use Rattle.stn_records.specs.Id.{most_sites, IsSite};
-ghost use Rattle.stn_site.specs.Held.{difference};
-ghost use Rattle.stn_site.specs.Calls.{took, Leaves};
-ghost use Rattle.stn_site.specs.Refusals.{take_refusal};
-ghost use Rattle.stn_records.specs.Content.{no_content, part_of, IsPart};
-ghost use Rattle.stn_world.specs.declared.faults.WorldFault.TheVariants.{NoSite, TooManyPackets, NoPacket};
-ghost use Rattle.stn_world.specs.Faults.{IsOpeningFault};
-ghost use Rattle.stn_world.specs.Parts.{holds_all};
-ghost use Rattle.stn_world.specs.Whole.{held_in};
-ghost use Rattle.stn_world.specs.Steps.{added, finished, amended, withdrew, merged, sent, delivered, IsStep, IsMergeFault, IsSending, send_refusal, IsDeliveryFault};
-ghost use Rattle.stn_world.specs.World.{most_packets, HasSite, HasPacket, opening_world, content_at, packet_at, next_id_at};
+ghost use Rattle.std.specs.{Prelude.{◌≡◌, ◌≢◌, ◌+◌, true, ◌-◌, ◌<◌, ◌≤◌, None, unwrap_or, length, map, slice_set, MatchOption, IfSome, IsOk, IfOk, IfErr, OnOk, OnErr}, FinMap.contains_key, Rc.rc_value};
+ghost use Rattle.stn_records.specs.{Id.{most_sites, IsSite}, Content.{no_content, part_of, IsPart}};
+ghost use Rattle.stn_site.specs.{Held.difference, Calls.{took, Leaves}, Refusals.take_refusal};
+ghost use Rattle.stn_world.specs.{declared.faults.WorldFault.TheVariants.{NoSite, TooManyPackets, NoPacket, Memory}, Faults.IsOpeningFault, Parts.holds_all, Whole.held_in, Steps.{added, finished, amended, withdrew, merged, sent, delivered, IsStep, IsMergeFault, IsSending, send_refusal, IsDeliveryFault}, World.{most_packets, HasSite, HasPacket, opening_world, content_at, packet_at, next_id_at}};
 
 use crate::faults::WorldFault;
 use std::alloc::Allocator;
@@ -21,58 +11,99 @@ use stn_lift::Base;
 use stn_net::Event;
 use stn_records::{Id, MOST_SITES, Records, Site};
 use stn_replica::Replica;
-use stn_site::ReplicaFault;
-use stn_time::{Memory, Ms};
+use stn_site::{ReplicaFault, SiteCopy, SitePlan};
+use stn_time::Ms;
 
 /// The greatest number of a packet.
 pub const MOST_PACKETS: usize = 256;
 
-/// Several sites over one plan, each with a replica of it, and the packets that were sent.
+/// Several sites over one plan, each with its copy of it, and the packets that were sent. The copies are replicas, or site plans, which
+/// keep no matrix.
 #[derive(Drop)]
-pub struct World<A: Allocator> {
+pub struct World<A: Allocator + Copy, C: SiteCopy<A> = Replica<A>> {
     base: Rc<Base<A>, A>,
     // From site 1 on.
-    replicas: Vec<Replica<A>, A>,
+    copies: Vec<C, A>,
     // From packet 1 on.
     packets: Vec<Records<A>, A>,
 }
 
-impl<A: Allocator> Model for World<A> {
-    ghost use Rattle.std.specs.Rc.{rc_value};
-    ghost use Rattle.stn_world.specs.World.{World, coded_world};
-    ghost use Rattle.stn_world.specs.Sites.{world_of};
-    ghost use Rattle.stn_world.specs.Whole.{IsSoundWorld};
+impl<A: Allocator + Copy, C: SiteCopy<A>> Model for World<A, C> {
+    ghost use Rattle.std.specs.{Prelude.map, Rc.rc_value};
+    ghost use Rattle.stn_world.specs.{World.{World, coded_world}, Sites.world_of, Whole.IsSoundWorld};
 
     ghost Value = { World };
 
     ghost coded = { coded_world };
 
-    ghost view = { λ w. world_of (rc_value w.base) w.replicas.items w.packets.items };
+    ghost view = { λ w. world_of (rc_value w.base) (map C.held w.copies.items) w.packets.items };
 
-    ghost invariant = { λ w. IsSoundWorld (rc_value w.base) w.replicas.items w.packets.items };
+    ghost invariant = { λ w. IsSoundWorld (rc_value w.base) (map C.held w.copies.items) w.packets.items };
 }
 
-impl<A: Allocator + Copy> World<A> {
-    /// So many sites over one plan, numbered from 1, which hold nothing yet.
+impl<A: Allocator + Copy> World<A, Replica<A>> {
+    /// So many sites over one plan, numbered from 1, each with a replica that holds nothing yet.
     ///
     /// Refused in this order: `NoSite`, where there are none or more than 64; `Memory`.
-    pub fn new(alloc: A, base: Rc<Base<A>, A>, sites: u8) -> Result<World<A>, WorldFault>
+    pub fn new(
+        alloc: A,
+        base: Rc<Base<A>, A>,
+        sites: u8,
+    ) -> Result<World<A, Replica<A>>, WorldFault>
         ensures opening { IfOk result (λ world. world ≡ opening_world (rc_value base) sites) }
         ensures accepted { OnOk result (IsSite sites) }
         ensures fault { IfErr result (IsOpeningFault sites) }
     {
-        if sites < 1 || sites > MOST_SITES {
-            return Err(WorldFault::NoSite);
-        }
-        let mut replicas = Vec::with_capacity(alloc, usize::from(sites))?;
-        for before in 0..sites {
+        let site = first_of(sites)?;
+        let first = Replica::new(alloc, site, base.clone()?)?;
+        World::opened(alloc, base, first, sites)
+    }
+}
+
+impl<A: Allocator + Copy> World<A, SitePlan<A>> {
+    /// So many sites over one plan, numbered from 1, each with a site plan that holds nothing yet.
+    ///
+    /// Refused in this order: `NoSite`, where there are none or more than 64; `Memory`.
+    pub fn of_plans(
+        alloc: A,
+        base: Rc<Base<A>, A>,
+        sites: u8,
+    ) -> Result<World<A, SitePlan<A>>, WorldFault>
+        ensures opening { IfOk result (λ world. world ≡ opening_world (rc_value base) sites) }
+        ensures accepted { OnOk result (IsSite sites) }
+        ensures fault { IfErr result (IsOpeningFault sites) }
+    {
+        let site = first_of(sites)?;
+        let first = SitePlan::new(alloc, site, base.clone()?);
+        World::opened(alloc, base, first, sites)
+    }
+}
+
+impl<A: Allocator + Copy, C: SiteCopy<A>> World<A, C> {
+    // So many sites over one plan, of which this is the first, and the others are made beside it.
+    fn opened(
+        alloc: A,
+        base: Rc<Base<A>, A>,
+        first: C,
+        sites: u8,
+    ) -> Result<World<A, C>, WorldFault>
+        requires sites { IsSite sites }
+        requires site { (C.held first).site ≡ 1 }
+        requires source { (C.held first).source ≡ rc_value base }
+        requires empty { (C.held first).state ≡ no_content }
+        ensures opening { IfOk result (λ world. world ≡ opening_world (rc_value base) sites) }
+        ensures fault { IfErr result (λ fault. fault ≡ Memory) }
+    {
+        let mut copies = Vec::with_capacity(alloc, usize::from(sites))?;
+        copies.push(first)?;
+        for before in 1..sites {
             let site = Site::new(before + 1).unwrap();
-            let replica = beside_others(alloc, &base, &replicas, site)?;
-            replicas.push(replica)?;
+            let copy = copies[0].beside(site)?;
+            copies.push(copy)?;
         }
         Ok(World {
             base,
-            replicas,
+            copies,
             packets: Vec::new(alloc),
         })
     }
@@ -83,7 +114,7 @@ impl<A: Allocator + Copy> World<A> {
         ensures some { 1 ≤ result }
         ensures most { result ≤ most_sites }
     {
-        self.replicas.len() as u8
+        self.copies.len() as u8
     }
 
     /// The plan's base.
@@ -93,15 +124,15 @@ impl<A: Allocator + Copy> World<A> {
         &self.base
     }
 
-    /// The replica of a site; none where there is no such site.
-    pub fn replica(&self, site: u32) -> Option<&Replica<A>>
-        ensures there { MatchOption result (¬ HasSite self.now site) (λ replica. HasSite self.now site) }
-        ensures site { IfSome result (λ replica. replica.now.site ≡ site) }
-        ensures source { IfSome result (λ replica. replica.now.source ≡ self.now.source) }
-        ensures state { IfSome result (λ replica. replica.now.state ≡ content_at self.now site) }
+    /// The copy of a site, a replica where the world was made of replicas; none where there is no such site.
+    pub fn replica(&self, site: u32) -> Option<&C>
+        ensures there { MatchOption result (¬ HasSite self.now site) (λ copy. HasSite self.now site) }
+        ensures site { IfSome result (λ copy. (C.held copy.now).site ≡ site) }
+        ensures source { IfSome result (λ copy. (C.held copy.now).source ≡ self.now.source) }
+        ensures state { IfSome result (λ copy. (C.held copy.now).state ≡ content_at self.now site) }
     {
         match self.place_of(site) {
-            Ok(place) => Some(&self.replicas[place]),
+            Ok(place) => Some(&self.copies[place]),
             Err(_) => None,
         }
     }
@@ -121,8 +152,8 @@ impl<A: Allocator + Copy> World<A> {
         ensures step { IsStep self.old (added site (difference from to lo hi)) result self.new }
     {
         let place = self.place_of(site)?;
-        let replica = &mut self.replicas[place];
-        replica.add(from, to, lo, hi).map_err(WorldFault::from)
+        let copy = &mut self.copies[place];
+        copy.add(from, to, lo, hi).map_err(WorldFault::from)
     }
 
     /// Records at a site at which time it executed an event, under that site's next id, which is
@@ -134,8 +165,8 @@ impl<A: Allocator + Copy> World<A> {
         ensures step { IsStep self.old (finished site event time) result self.new }
     {
         let place = self.place_of(site)?;
-        let replica = &mut self.replicas[place];
-        replica.done(event, time).map_err(WorldFault::from)
+        let copy = &mut self.copies[place];
+        copy.done(event, time).map_err(WorldFault::from)
     }
 
     /// Amends at a site a record that it knows: adds a bound under that site's next id, which is returned,
@@ -156,7 +187,7 @@ impl<A: Allocator + Copy> World<A> {
         ensures step { IsStep self.old (amended site old (difference from to lo hi)) result self.new }
     {
         let place = self.place_of(site)?;
-        self.replicas[place]
+        self.copies[place]
             .amend(old, from, to, lo, hi)
             .map_err(WorldFault::from)
     }
@@ -171,7 +202,7 @@ impl<A: Allocator + Copy> World<A> {
         ensures again { HasSite self.old site → contains_key (content_at self.old site).tombstones id ≡ true → IsOk result × (self.new ≡ self.old) }
     {
         let place = self.place_of(site)?;
-        self.replicas[place].withdraw(id).map_err(WorldFault::from)
+        self.copies[place].withdraw(id).map_err(WorldFault::from)
     }
 
     /// Takes in at a site all that another holds. If the site holds all of it already, as when it merges
@@ -190,7 +221,7 @@ impl<A: Allocator + Copy> World<A> {
         let ours = self.place_of(site)?;
         let theirs = self.place_of(other)?;
         if ours != theirs {
-            take_from(&mut self.replicas, ours, theirs)?;
+            take_from(&mut self.copies, ours, theirs)?;
         }
         Ok(())
     }
@@ -205,7 +236,7 @@ impl<A: Allocator + Copy> World<A> {
     {
         let place = self.place_of(site)?;
         let number = self.next_packet()?;
-        let whole = self.replicas[place].records().copy()?;
+        let whole = self.copies[place].plan().records().copy()?;
         self.packets.push(whole)?;
         Ok(number)
     }
@@ -223,7 +254,10 @@ impl<A: Allocator + Copy> World<A> {
     {
         let place = self.place_of(site)?;
         let number = self.next_packet()?;
-        let part = self.replicas[place].records().part(records, tombstones)?;
+        let part = self.copies[place]
+            .plan()
+            .records()
+            .part(records, tombstones)?;
         self.packets.push(part)?;
         Ok(number)
     }
@@ -242,12 +276,12 @@ impl<A: Allocator + Copy> World<A> {
     {
         let place = self.place_of(site)?;
         let from = self.packet_place(packet)?;
-        self.replicas[place]
+        self.copies[place]
             .take(&self.packets[from])
             .map_err(WorldFault::from)
     }
 
-    // The place of a site's replica.
+    // The place of a site's copy.
     fn place_of(&self, site: u32) -> Result<usize, WorldFault>
         ensures place { IfOk result (λ place. place ≡ site - 1) }
         ensures within { IfOk result (λ place. place < length self.now.sites) }
@@ -255,7 +289,7 @@ impl<A: Allocator + Copy> World<A> {
         ensures missing { IfErr result (λ fault. fault ≡ NoSite) }
         ensures refused { OnErr result (¬ HasSite self.now site) }
     {
-        if 1 <= site && site as usize <= self.replicas.len() {
+        if 1 <= site && site as usize <= self.copies.len() {
             Ok(site as usize - 1)
         } else {
             Err(WorldFault::NoSite)
@@ -292,45 +326,44 @@ impl<A: Allocator + Copy> World<A> {
     }
 }
 
-// The replica of a site that holds nothing yet. What the others know of the plan's own bounds is shared.
-fn beside_others<A: Allocator + Copy>(
-    alloc: A,
-    base: &Rc<Base<A>, A>,
-    others: &[Replica<A>],
-    site: Site,
-) -> Result<Replica<A>, Memory>
-    requires { map (λ replica. replica.source) others.now ≡ replicate (length others.now) (rc_value base.now) }
-    ensures site { IfOk result (λ replica. replica.site ≡ site) }
-    ensures source { IfOk result (λ replica. replica.source ≡ rc_value base.now) }
-    ensures empty { IfOk result (λ replica. replica.state ≡ no_content) }
+// The first of so many sites; none where a world has not so many.
+fn first_of(sites: u8) -> Result<Site, WorldFault>
+    ensures first { IfOk result (λ site. site ≡ 1) }
+    ensures accepted { OnOk result (IsSite sites) }
+    ensures fault { IfErr result (λ fault. fault ≡ NoSite) }
+    ensures refused { OnErr result (¬ IsSite sites) }
 {
-    match others.first() {
-        Some(first) => first.beside(site),
-        None => Replica::new(alloc, site, base.clone()?),
+    if 1 <= sites && sites <= MOST_SITES {
+        Ok(Site::new(1).unwrap())
+    } else {
+        Err(WorldFault::NoSite)
     }
 }
 
-// One of the replicas takes in all that another holds.
-fn take_from<A: Allocator + Copy>(
-    replicas: &mut [Replica<A>],
+// One of the copies takes in all that another holds.
+fn take_from<A: Allocator + Copy, C: SiteCopy<A>>(
+    copies: &mut [C],
     ours: usize,
     theirs: usize,
 ) -> Result<(), ReplicaFault>
-    requires ours { ours < length replicas.old }
-    requires theirs { theirs < length replicas.old }
+    requires ours { ours < length copies.old }
+    requires theirs { theirs < length copies.old }
     requires apart { ours ≢ theirs }
-    ensures set { OnOk result (replicas.new ≡ slice_set replicas.old ours (held_in replicas.new ours)) }
-    ensures leaves { OnOk result (Leaves (held_in replicas.old ours) (took (held_in replicas.old theirs).state) (held_in replicas.new ours)) }
-    ensures accepted { OnOk result (take_refusal (held_in replicas.old ours) (held_in replicas.old theirs).state ≡ None) }
-    ensures fault { IfErr result (λ fault. fault ≡ unwrap_or (take_refusal (held_in replicas.old ours) (held_in replicas.old theirs).state) ReplicaFault.Memory) }
-    ensures again { IsPart (held_in replicas.old theirs).state (held_in replicas.old ours).state → IsOk result × (replicas.new ≡ replicas.old) }
-    ensures kept { OnErr result (replicas.new ≡ replicas.old) }
+    ensures set { OnOk result (map C.held copies.new ≡ slice_set (map C.held copies.old) ours (held_in (map C.held copies.new) ours)) }
+    ensures leaves { OnOk result (Leaves (held_in (map C.held copies.old) ours) (took (held_in (map C.held copies.old) theirs).state)
+        (held_in (map C.held copies.new) ours)) }
+    ensures accepted { OnOk result (take_refusal (held_in (map C.held copies.old) ours) (held_in (map C.held copies.old) theirs).state ≡ None) }
+    ensures fault { IfErr result (λ fault. fault ≡ unwrap_or (take_refusal (held_in (map C.held copies.old) ours)
+        (held_in (map C.held copies.old) theirs).state) ReplicaFault.Memory) }
+    ensures again { IsPart (held_in (map C.held copies.old) theirs).state (held_in (map C.held copies.old) ours).state
+        → IsOk result × (map C.held copies.new ≡ map C.held copies.old) }
+    ensures kept { OnErr result (map C.held copies.new ≡ map C.held copies.old) }
 {
     if ours < theirs {
-        let (front, back) = replicas.split_at_mut(theirs);
-        front[ours].take(back[0].records())
+        let (front, back) = copies.split_at_mut(theirs);
+        front[ours].take(back[0].plan().records())
     } else {
-        let (front, back) = replicas.split_at_mut(ours);
-        back[0].take(front[theirs].records())
+        let (front, back) = copies.split_at_mut(ours);
+        back[0].take(front[theirs].plan().records())
     }
 }

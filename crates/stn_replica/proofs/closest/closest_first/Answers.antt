@@ -1,9 +1,6 @@
-use Rattle.std.proofs.Common.{[], sym, subst, ap, ◌∙◌, arith}
-use Rattle.std.specs.List.Sorted.{IsPermutation}
-use Rattle.std.proofs.{lemmas.List.take_all, lemmas.List.Sorted.IsPermutation-refl, lemmas.List.Sorted.IsPermutation-trans, lemmas.Result.IfOk-weaker}
+use Rattle.std.{proofs.{Common.{[], sym, subst, ap, ◌∙◌, arith}, lemmas.{List.{take_all, Sorted.{IsPermutation-refl, IsPermutation-trans}}, Result.IfOk-weaker}}, specs.List.Sorted.IsPermutation}
 use Rattle.stn_lift.specs.PlanSource.{events_of}
-use Rattle.stn_replica.specs.Rows.{in_turn}
-use Rattle.stn_replica.proofs.Rows.{in_rows_next, named_of}
+use Rattle.stn_replica.{specs.Rows.in_turn, proofs.Rows.{in_rows_next, named_of}}
 use Rattle.stn_replica.proofs.closest.closest_first.Goals as goal
 
 pub loop-bound-init : goal.loop-bound-init

@@ -1,5 +1,4 @@
-use Rattle.std.proofs.Common.{◌≡◌, length, take}
-use Rattle.std.specs.List.Sorted.{IsPermutation}
+use Rattle.std.{proofs.Common.{◌≡◌, length, take}, specs.List.Sorted.IsPermutation}
 use Rattle.stn_replica.specs.Rows.{in_turn}
 use Rattle.stn_replica.proofs.closest.closest_first.Given as goal
 

@@ -1,7 +1,5 @@
-use Rattle.std.proofs.Common.{◌++◌, length, ap, ◌∙◌, rules, arith}
-use Rattle.std.proofs.lemmas.List.{length_push}
-use Rattle.stn_replica.specs.Rows.{in_turn}
-use Rattle.stn_replica.proofs.Rows.{in_turn_more}
+use Rattle.std.proofs.{Common.{◌++◌, length, ap, ◌∙◌, rules, arith}, lemmas.List.length_push}
+use Rattle.stn_replica.{specs.Rows.in_turn, proofs.Rows.in_turn_more}
 use Rattle.stn_replica.proofs.closest.empty_rows.Goals as goal
 
 pub loop-preserved : goal.loop-preserved

@@ -1,8 +1,6 @@
-use Rattle.std.proofs.Common.{length, ap, arith, subst, ◌∙◌}
-use Rattle.std.specs.Prelude.{All}
-use Rattle.stn_net.specs.{Difference.NamesEvents, Horizon.horizon_bounds}
+use Rattle.std.{proofs.Common.{length, ap, arith, subst, ◌∙◌}, specs.Prelude.All}
+use Rattle.stn_net.specs.{Difference.NamesEvents, Horizon.horizon_bounds, Matrix.Tightest.IsExact}
 use Rattle.stn_lift.specs.PlanSource.{base_bounds, events_of}
-use Rattle.stn_net.specs.Matrix.Tightest.{IsExact}
 use Rattle.stn_replica.proofs.Opening.{horizon_within, rest_named, slice_is, others_are, other_named, opened, opened_more, all_opened}
 use Rattle.stn_replica.proofs.matrices.opening_matrix.Goals as goal
 

@@ -1,7 +1,4 @@
-use Rattle.std.proofs.Common.{not, refl}
-use Rattle.std.proofs.lemmas.Bool.{false≢true}
-use Rattle.std.proofs.lemmas.List.Elements.{All-filter}
-use Rattle.std.specs.FinMap.{entries}
+use Rattle.std.{proofs.{Common.{not, refl}, lemmas.{Bool.false≢true, List.Elements.All-filter}}, specs.FinMap.entries}
 use Rattle.stn_net.specs.Difference.{NamesEvents}
 use Rattle.stn_records.specs.Content.{is_replaced}
 use Rattle.stn_replica.proofs.Tightening.{next_named, next_taken, next_conflicts, all_taken}

@@ -1,10 +1,6 @@
-use Rattle.std.proofs.Common.{refl}
-use Rattle.std.proofs.lemmas.Bool.{false≢true}
-use Rattle.std.proofs.lemmas.List.Elements.{All-filter}
-use Rattle.std.specs.FinMap.{entries}
+use Rattle.std.{proofs.{Common.refl, lemmas.{Bool.false≢true, List.Elements.All-filter}}, specs.FinMap.entries}
 use Rattle.stn_net.specs.Difference.{NamesEvents}
-use Rattle.stn_replica.specs.Work.{is_risen}
-use Rattle.stn_replica.proofs.Tightening.{next_named, next_taken, next_conflicts, all_taken}
+use Rattle.stn_replica.{specs.Work.is_risen, proofs.Tightening.{next_named, next_taken, next_conflicts, all_taken}}
 use Rattle.stn_replica.proofs.matrices.tighten_risen.Goals as goal
 
 pub tighten-requires : goal.tighten-requires

@@ -1,5 +1,4 @@
-use Rattle.stn_replica.specs.Work.{risen}
-use Rattle.stn_replica.proofs.Tightening.{IsTightenedBy}
+use Rattle.stn_replica.{specs.Work.risen, proofs.Tightening.IsTightenedBy}
 use Rattle.stn_replica.proofs.matrices.tighten_risen.Given as goal
 
 abbrev pub invariant-loop-record : goal.invariant-loop-record

@@ -1,5 +1,5 @@
 use Rattle.std.proofs.Common.{◌≡◌, ◌+◌, sym, subst, arith}
-use Rattle.stn_site.proofs.{Values.held_is, Windowing.AreFirst, Windowing.none_yet, Windowing.one_more_window, Windowing.all_windows}
+use Rattle.stn_site.proofs.{Values.held_is, Windowing.{AreFirst, none_yet, one_more_window, all_windows}}
 use Rattle.stn_replica.proofs.report.windows_of.Goals as goal
 
 pub loop-number-init : goal.loop-number-init

@@ -1,6 +1,5 @@
 use Rattle.std.proofs.Common.{List}
-use Rattle.stn_net.specs.Difference.{Difference}
-use Rattle.stn_net.specs.Matrix.Tightest.{IsExact}
+use Rattle.stn_net.specs.{Difference.Difference, Matrix.Tightest.IsExact}
 use Rattle.stn_site.proofs.Windowing.{AreFirst}
 use Rattle.stn_replica.proofs.report.windows_of.Given as goal
 

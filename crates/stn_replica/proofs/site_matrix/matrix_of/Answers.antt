@@ -1,10 +1,9 @@
 use Rattle.std.proofs.Common.{◌≡◌, Bool, List, ◌++◌, subst}
-use Rattle.stn_net.specs.{Difference.Difference, Matrix.Table.Table, Matrix.Tightest.IsExact}
+use Rattle.stn_net.specs.{Difference.Difference, Matrix.{Table.Table, Tightest.IsExact}}
 use Rattle.stn_lift.specs.PlanSource.{PlanSource, base_bounds}
 use Rattle.stn_records.specs.Content.{Content}
 use Rattle.stn_site.specs.Bounds.{all_bounds, live_bounds}
-use Rattle.stn_replica.specs.Invariant.{IsSettled}
-use Rattle.stn_replica.proofs.Sound.{settled_exact, settled_conflict}
+use Rattle.stn_replica.{specs.Invariant.IsSettled, proofs.Sound.{settled_exact, settled_conflict}}
 use Rattle.stn_replica.proofs.site_matrix.matrix_of.Goals as goal
 
 -- what the live records settle is settled of all bounds

@@ -1,8 +1,6 @@
-use Rattle.std.proofs.Common.{List, ◌||◌, refl, ap, ◌∙◌, false}
-use Rattle.std.proofs.Math.Bool.{or-false}
+use Rattle.std.proofs.{Common.{List, ◌||◌, refl, ap, ◌∙◌, false}, Math.Bool.or-false}
 use Rattle.stn_records.specs.{Id.SiteCounter, declared.record.Record.Record}
-use Rattle.stn_site.specs.Report.{says_done}
-use Rattle.stn_site.proofs.Flags.{get_or-replicate_same}
+use Rattle.stn_site.{specs.Report.says_done, proofs.Flags.get_or-replicate_same}
 use Rattle.stn_site.proofs.done.done_flags.Goals as goal
 
 pub loop-record-init : goal.loop-record-init

@@ -1,7 +1,6 @@
 use Rattle.std.proofs.Common.{subst}
 use Rattle.stn_lift.specs.PlanSource.{PlanSource}
-use Rattle.stn_site.specs.Report.{IsReport}
-use Rattle.stn_site.proofs.Items.{same_counts, same_state}
+use Rattle.stn_site.{specs.Report.IsReport, proofs.Items.{same_counts, same_state}}
 use Rattle.stn_site.proofs.laws.took_same_same_bytes.Goals as goal
 
 pub returns-clause-bytes : goal.returns-clause-bytes

@@ -1,5 +1,4 @@
-use Rattle.std.proofs.Common.{ℤ, ◌++◌, ap, ◌∙◌, arith}
-use Rattle.std.proofs.lemmas.Int.{to_z-of_z}
+use Rattle.std.proofs.{Common.{ℤ, ◌++◌, ap, ◌∙◌, arith}, lemmas.Int.to_z-of_z}
 use Rattle.stn_time.specs.Text.{printed}
 use Rattle.stn_site.proofs.Lengths.{sum_length, length_appended}
 use Rattle.stn_site.proofs.lines.append_conflict_line.Goals as goal

@@ -1,7 +1,6 @@
 use Rattle.std.proofs.Common.{ℕ, length, ap, ◌∙◌, ◌++◌, codes, arith, append_assoc, length-append}
 use Rattle.stn_net.specs.Event.{event_text}
-use Rattle.stn_site.proofs.Behind.{behind}
-use Rattle.stn_site.proofs.Lengths.{time_length}
+use Rattle.stn_site.proofs.{Behind.behind, Lengths.time_length}
 use Rattle.stn_site.proofs.lines.append_limit.Goals as goal
 
 pub returns-clause-short : goal.returns-clause-short

@@ -1,6 +1,5 @@
 use Rattle.std.proofs.Common.{ap, ◌∙◌, ◌++◌, append_assoc, arith}
-use Rattle.stn_site.specs.Names.{name_text}
-use Rattle.stn_site.proofs.Behind.{behind_more}
+use Rattle.stn_site.{specs.Names.name_text, proofs.Behind.behind_more}
 use Rattle.stn_site.proofs.lines.append_link_line.Goals as goal
 
 pub returns-in_err-append_limit-clause-behind : goal.returns-in_err-append_limit-clause-behind

@@ -1,5 +1,4 @@
-use Rattle.std.proofs.Common.{◌∙◌, sym}
-use Rattle.std.proofs.lemmas.List.{get_or_read, get_or_append_left}
+use Rattle.std.proofs.{Common.{◌∙◌, sym}, lemmas.List.{get_or_read, get_or_append_left}}
 use Rattle.stn_site.proofs.lines.bound_at.Goals as goal
 
 pub returns-then-place-base : goal.returns-then-place-base

@@ -1,5 +1,4 @@
-use Rattle.std.proofs.Common.{◌≡◌, ◌+◌, ◌*◌, ◌≤◌, ◌++◌, take, length}
-use Rattle.std.specs.List.{flat_map}
+use Rattle.std.{proofs.Common.{◌≡◌, ◌+◌, ◌*◌, ◌≤◌, ◌++◌, take, length}, specs.List.flat_map}
 use Rattle.stn_site.specs.{Lines.link_line, declared.lines.TheConstants.MOST_LINE}
 use Rattle.stn_site.proofs.report.append_links.Given as goal
 

@@ -1,6 +1,4 @@
-use Rattle.std.proofs.Common.{refl, subst, All}
-use Rattle.std.proofs.lemmas.Bool.{false≢true}
-use Rattle.std.specs.FinMap.{entries}
+use Rattle.std.{proofs.{Common.{refl, subst, All}, lemmas.Bool.false≢true}, specs.FinMap.entries}
 use Rattle.stn_net.specs.Difference.{NamesEvents}
 use Rattle.stn_site.proofs.Places.{walked_are, seen_with, all_seen, next_of}
 use Rattle.stn_site.proofs.site_plan.all_name_events.Goals as goal

@@ -1,5 +1,4 @@
-use Rattle.std.proofs.Common.{take, All}
-use Rattle.std.specs.FinMap.{entries}
+use Rattle.std.{proofs.Common.{take, All}, specs.FinMap.entries}
 use Rattle.stn_net.specs.Difference.{NamesEvents}
 use Rattle.stn_site.proofs.site_plan.all_name_events.Given as goal
 

@@ -1,5 +1,4 @@
-use Rattle.stn_world.specs.{World.opening_world, Steps.run, Runs.HasEntries}
-use Rattle.stn_world.proofs.Entries.{each_state, entire_run}
+use Rattle.stn_world.{specs.{World.opening_world, Steps.run, Runs.HasEntries}, proofs.Entries.{each_state, entire_run}}
 use Rattle.stn_world.proofs.laws.amendments_are_whole.Goals as goal
 
 pub returns : goal.returns

@@ -1,5 +1,4 @@
-use Rattle.stn_world.specs.{World.opening_world, Steps.run}
-use Rattle.stn_world.proofs.{Runs.coherent_run, Whole.coherent_at_first, Guarded.run_guarded, Guarded.guarded_schedules}
+use Rattle.stn_world.{specs.{World.opening_world, Steps.run}, proofs.{Runs.coherent_run, Whole.coherent_at_first, Guarded.{run_guarded, guarded_schedules}}}
 use Rattle.stn_world.proofs.laws.guarded_sites_keep_schedules.Goals as goal
 
 pub returns : goal.returns

@@ -1,5 +1,4 @@
-use Rattle.stn_world.specs.{World.opening_world, Steps.run}
-use Rattle.stn_world.proofs.{Runs.coherent_run, Whole.coherent_at_first, GuardSteps.guarded_world}
+use Rattle.stn_world.{specs.{World.opening_world, Steps.run}, proofs.{Runs.coherent_run, Whole.coherent_at_first, GuardSteps.guarded_world}}
 use Rattle.stn_world.proofs.laws.guards_guard_worlds.Goals as goal
 
 pub returns : goal.returns

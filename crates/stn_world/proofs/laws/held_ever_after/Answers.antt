@@ -1,4 +1,4 @@
-use Rattle.stn_world.proofs.{EachRun.delivery_stays, EachRun.merge_stays, Lawful.lawful_run}
+use Rattle.stn_world.proofs.{EachRun.{delivery_stays, merge_stays}, Lawful.lawful_run}
 use Rattle.stn_world.proofs.laws.held_ever_after.Goals as goal
 
 pub returns-clause-delivered : goal.returns-clause-delivered

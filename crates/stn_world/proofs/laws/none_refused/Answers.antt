@@ -1,4 +1,4 @@
-use Rattle.stn_world.proofs.{EachRun.delivery_accepted, EachRun.merge_accepted, Lawful.lawful_run}
+use Rattle.stn_world.proofs.{EachRun.{delivery_accepted, merge_accepted}, Lawful.lawful_run}
 use Rattle.stn_world.proofs.laws.none_refused.Goals as goal
 
 pub returns-clause-delivery : goal.returns-clause-delivery

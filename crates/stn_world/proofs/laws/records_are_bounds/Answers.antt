@@ -1,7 +1,6 @@
 use Rattle.stn_lift.specs.PlanSource.{events_of}
-use Rattle.stn_records.specs.{Id.SiteCounter, Content.Content, Content.addition, Content.HasItem, declared.record.Record.Record}
-use Rattle.stn_world.specs.{World.opening_world, Steps.run, Runs.IsRecordOf}
-use Rattle.stn_world.proofs.{Entries.each_state, Runs.coherent_run, Whole.coherent_at_first}
+use Rattle.stn_records.specs.{Id.SiteCounter, Content.{Content, addition, HasItem}, declared.record.Record.Record}
+use Rattle.stn_world.{specs.{World.opening_world, Steps.run, Runs.IsRecordOf}, proofs.{Entries.each_state, Runs.coherent_run, Whole.coherent_at_first}}
 use Rattle.stn_world.proofs.laws.records_are_bounds.Goals as goal
 
 pub returns : goal.returns

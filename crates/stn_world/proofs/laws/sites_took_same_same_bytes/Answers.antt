@@ -1,5 +1,4 @@
-use Rattle.stn_world.specs.{World.opening_world, World.content_at, Steps.run}
-use Rattle.stn_world.proofs.{Runs.sites_are_unions, Runs.same_unions}
+use Rattle.stn_world.{specs.{World.{opening_world, content_at}, Steps.run}, proofs.Runs.{sites_are_unions, same_unions}}
 use Rattle.stn_world.proofs.laws.sites_took_same_same_bytes.Goals as goal
 use Rattle.stn_site.proofs.Counts.{alike_unions}
 

@@ -1,4 +1,4 @@
-use Rattle.stn_world.proofs.{EachRun.any_agree, EachRun.own_known, Lawful.lawful_run}
+use Rattle.stn_world.proofs.{EachRun.{any_agree, own_known}, Lawful.lawful_run}
 use Rattle.stn_world.proofs.laws.states_agree.Goals as goal
 
 pub returns-clause-agreed : goal.returns-clause-agreed

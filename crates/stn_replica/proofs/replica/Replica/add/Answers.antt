@@ -1,8 +1,7 @@
-use Rattle.std.proofs.Common.{is_some, refl, sym, ap, ◌∙◌, arith}
-use Rattle.std.specs.FinMap.{contains_key}
+use Rattle.std.{proofs.Common.{is_some, refl, sym, ap, ◌∙◌, arith}, specs.FinMap.contains_key}
 use Rattle.stn_records.specs.{declared.record.Record.Record, Content.Content}
 use Rattle.stn_site.specs.Held.{Held, difference, plain}
-use Rattle.stn_replica.proofs.{CatchingUp.grown_by_addition, CatchingUp.named_after, CatchingUp.sound_with_one, Sound.spares_added}
+use Rattle.stn_replica.proofs.{CatchingUp.{grown_by_addition, named_after, sound_with_one}, Sound.spares_added}
 use Rattle.stn_replica.proofs.replica.Replica.add.Goals as goal
 
 pub tighten_by-self-inside-requires-clause-named : goal.tighten_by-self-inside-requires-clause-named

@@ -1,10 +1,7 @@
-use Rattle.std.proofs.Common.{◌≡◌, true, Some, is_some, sym, ap, ◌∙◌, arith}
-use Rattle.std.specs.FinMap.{contains_key}
+use Rattle.std.{proofs.Common.{◌≡◌, true, Some, is_some, sym, ap, ◌∙◌, arith}, specs.FinMap.contains_key}
 use Rattle.stn_records.specs.Content.{Content, is_known, is_live, join_contents, one_amendment, with_amendment}
-use Rattle.stn_site.specs.Held.{Held, next_id, difference, plain}
-use Rattle.stn_site.proofs.Refused.{amended_known}
-use Rattle.stn_replica.proofs.CatchingUp.{grown_by_amendment, falls_by_amendment, named_after, sound_with_one, sound_anew}
-use Rattle.stn_replica.proofs.{Sound.spares_added, Sound.spares_fallen, replica.Replica.amend.Goals.then-was_live, replica.Replica.amend.Goals.else-was_live}
+use Rattle.stn_site.{specs.Held.{Held, next_id, difference, plain}, proofs.Refused.amended_known}
+use Rattle.stn_replica.proofs.{CatchingUp.{grown_by_amendment, falls_by_amendment, named_after, sound_with_one, sound_anew}, Sound.{spares_added, spares_fallen}, replica.Replica.amend.Goals.{then-was_live, else-was_live}}
 use Rattle.stn_replica.proofs.replica.Replica.amend.Goals as goal
 
 pub rebuild-self-inside-requires-clause-named : goal.rebuild-self-inside-requires-clause-named

@@ -1,6 +1,5 @@
 use Rattle.std.proofs.Common.{false, [], ◌∷◌, refl, subst, MatchOption}
-use Rattle.stn_net.specs.Schedule.{HasSchedule}
-use Rattle.stn_net.specs.Windows.Dispatch.{IsNext}
+use Rattle.stn_net.specs.{Schedule.HasSchedule, Windows.Dispatch.IsNext}
 use Rattle.stn_site.specs.Bounds.{all_bounds}
 use Rattle.stn_replica.proofs.AllOwn.{all_own}
 use Rattle.stn_replica.proofs.replica.Replica.next.Goals as goal

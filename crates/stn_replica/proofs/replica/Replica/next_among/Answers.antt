@@ -1,7 +1,6 @@
 use Rattle.std.proofs.Common.{◌≡◌, ◌||◌, not, arith}
 use Rattle.stn_site.specs.{Bounds.all_bounds, Report.is_done}
-use Rattle.stn_replica.specs.Own.{is_own, done_or_others}
-use Rattle.stn_replica.proofs.Rest.{flags_are}
+use Rattle.stn_replica.{specs.Own.{is_own, done_or_others}, proofs.Rest.flags_are}
 use Rattle.stn_replica.proofs.replica.Replica.next_among.Goals as goal
 
 pub returns : goal.returns

@@ -1,9 +1,7 @@
 use Rattle.std.proofs.Common.{false, [], ◌∷◌, refl, subst, IfOk, IfErr, MatchOption}
-use Rattle.stn_net.specs.Schedule.{HasSchedule}
-use Rattle.stn_net.specs.Windows.Rehearsal.{IsRehearseFault}
+use Rattle.stn_net.specs.{Schedule.HasSchedule, Windows.Rehearsal.IsRehearseFault}
 use Rattle.stn_site.specs.Bounds.{all_bounds}
-use Rattle.stn_replica.specs.Dispatch.{IsRestWith}
-use Rattle.stn_replica.proofs.AllOwn.{all_own}
+use Rattle.stn_replica.{specs.Dispatch.IsRestWith, proofs.AllOwn.all_own}
 use Rattle.stn_replica.proofs.replica.Replica.rehearse.Goals as goal
 
 pub returns-clause-rest : goal.returns-clause-rest

@@ -1,7 +1,6 @@
 use Rattle.std.proofs.Common.{◌≡◌, ◌||◌, not, Err, arith, rules}
 use Rattle.stn_site.specs.{Bounds.all_bounds, Report.is_done}
-use Rattle.stn_replica.specs.Own.{is_own, done_or_others}
-use Rattle.stn_replica.proofs.Rest.{flags_are, rest_of_plan}
+use Rattle.stn_replica.{specs.Own.{is_own, done_or_others}, proofs.Rest.{flags_are, rest_of_plan}}
 use Rattle.stn_replica.proofs.replica.Replica.rehearse_among.Goals as goal
 
 pub returns-in_err-runs-in-Some-clause-fault : goal.returns-in_err-runs-in-Some-clause-fault

@@ -1,11 +1,8 @@
-use Rattle.std.proofs.Common.{◌≡◌, true, refl, sym, ap, subst, ◌∙◌}
-use Rattle.std.proofs.{lemmas.Bool.false≢true}
-use Rattle.std.specs.FinMap.{contains_key}
+use Rattle.std.{proofs.{Common.{◌≡◌, true, refl, sym, ap, subst, ◌∙◌}, lemmas.Bool.false≢true}, specs.FinMap.contains_key}
 use Rattle.stn_lift.specs.PlanSource.{PlanSource}
 use Rattle.stn_records.specs.Content.{Content, is_live, with_tombstone}
 use Rattle.stn_site.specs.Held.{Held}
-use Rattle.stn_replica.specs.Invariant.{IsSoundReplica}
-use Rattle.stn_replica.proofs.{CatchingUp.named_after, CatchingUp.sound_anew, Changes.replaced_dead, Changes.withdrawn_replaced, Sound.sound_dead, Sound.falls_withdrawn, Sound.spares_fallen, Sound.spares_same, replica.Replica.withdraw.Goals.then-was_live, replica.Replica.withdraw.Goals.else-was_live}
+use Rattle.stn_replica.{specs.Invariant.IsSoundReplica, proofs.{CatchingUp.{named_after, sound_anew}, Changes.{replaced_dead, withdrawn_replaced}, Sound.{sound_dead, falls_withdrawn, spares_fallen, spares_same}, replica.Replica.withdraw.Goals.{then-was_live, else-was_live}}}
 use Rattle.stn_replica.proofs.replica.Replica.withdraw.Goals as goal
 
 pub rebuild-self-inside-requires-clause-named : goal.rebuild-self-inside-requires-clause-named

@@ -1,9 +1,6 @@
-use Rattle.std.proofs.Common.{◌≡◌, ap, ◌∙◌}
-use Rattle.std.specs.FinMap.{is_sorted}
-use Rattle.stn_records.specs.{Content.live_of, Id.id_cmp, Sorted.without_ids}
-use Rattle.stn_records.proofs.Live.{live_sorted}
-use Rattle.stn_replica.specs.Walk.{from_next}
-use Rattle.stn_replica.proofs.Rising.{next_taken, risen_are}
+use Rattle.std.{proofs.Common.{◌≡◌, ap, ◌∙◌}, specs.FinMap.is_sorted}
+use Rattle.stn_records.{specs.{Content.live_of, Id.id_cmp, Sorted.without_ids}, proofs.Live.live_sorted}
+use Rattle.stn_replica.{specs.Walk.from_next, proofs.Rising.{next_taken, risen_are}}
 use Rattle.stn_replica.proofs.risen.Risen.between.Goals as goal
 
 pub invariant_of-result : goal.invariant_of-result

@@ -1,5 +1,4 @@
-use Rattle.std.proofs.Common.{◌≡◌, true, ◌+◌, ◌∷◌, length}
-use Rattle.std.specs.FinMap.{is_sorted}
+use Rattle.std.{proofs.Common.{◌≡◌, true, ◌+◌, ◌∷◌, length}, specs.FinMap.is_sorted}
 use Rattle.stn_records.specs.{Id.id_cmp, Sorted.without_ids}
 use Rattle.stn_replica.specs.Walk.{from_next}
 use Rattle.stn_replica.proofs.risen.RisenIterator.next.Given as goal

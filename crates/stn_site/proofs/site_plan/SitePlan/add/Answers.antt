@@ -1,10 +1,7 @@
-use Rattle.std.proofs.Common.{sym, ap, subst}
-use Rattle.std.proofs.lemmas.Result.{err_from_is_err_and}
-use Rattle.std.specs.Prelude.{unwrap_or}
+use Rattle.std.{proofs.{Common.{sym, ap, subst}, lemmas.Result.err_from_is_err_and}, specs.Prelude.unwrap_or}
 use Rattle.stn_net.specs.Difference.{IsBoundWithin}
 use Rattle.stn_lift.specs.PlanSource.{events_of}
-use Rattle.stn_site.specs.{Held.difference, declared.faults.ReplicaFault.TheVariants.Memory}
-use Rattle.stn_site.proofs.Refused.{add_passes, add_refused}
+use Rattle.stn_site.{specs.{Held.difference, declared.faults.ReplicaFault.TheVariants.Memory}, proofs.Refused.{add_passes, add_refused}}
 use Rattle.stn_site.proofs.site_plan.SitePlan.add.Goals as goal
 
 pub returns-in_err-bound-clause-fault : goal.returns-in_err-bound-clause-fault

@@ -1,11 +1,8 @@
-use Rattle.std.proofs.Common.{sym, ap, subst, ◌∙◌}
-use Rattle.std.proofs.lemmas.Result.{err_from_is_err_and}
-use Rattle.std.specs.Prelude.{unwrap_or}
+use Rattle.std.{proofs.{Common.{sym, ap, subst, ◌∙◌}, lemmas.Result.err_from_is_err_and}, specs.Prelude.unwrap_or}
 use Rattle.stn_net.specs.Difference.{IsBoundWithin}
 use Rattle.stn_lift.specs.PlanSource.{events_of}
 use Rattle.stn_records.specs.Content.{is_known}
-use Rattle.stn_site.specs.{Held.Held, Held.difference, declared.faults.ReplicaFault.TheVariants.Memory}
-use Rattle.stn_site.proofs.Refused.{amend_known, amend_refused, amend_unknown}
+use Rattle.stn_site.{specs.{Held.{Held, difference}, declared.faults.ReplicaFault.TheVariants.Memory}, proofs.Refused.{amend_known, amend_refused, amend_unknown}}
 use Rattle.stn_site.proofs.site_plan.SitePlan.amend.Goals as goal
 
 pub returns-in_err-bound-clause-fault : goal.returns-in_err-bound-clause-fault

@@ -1,10 +1,7 @@
-use Rattle.std.proofs.Common.{◌≡◌, ◌+◌, ◌<◌, ◌≤◌, ◌++◌, length, length-append, ap, subst, ◌∙◌, arith, All}
-use Rattle.std.proofs.lemmas.Result.{on_ok_weaker}
-use Rattle.std.specs.List.{flat_map}
+use Rattle.std.{proofs.{Common.{◌≡◌, ◌+◌, ◌<◌, ◌≤◌, ◌++◌, length, length-append, ap, subst, ◌∙◌, arith, All}, lemmas.Result.on_ok_weaker}, specs.List.flat_map}
 use Rattle.stn_lift.specs.PlanSource.{events_of, base_bounds}
-use Rattle.stn_conflict.specs.{Arcs.weight_of, Arcs.IsNegativeCycle, Named.IsNamedCycle}
-use Rattle.stn_site.specs.Lines.{conflict_line, link_line}
-use Rattle.stn_site.proofs.Printing.{bounds_named, one_each, conflict_part, if_some}
+use Rattle.stn_conflict.specs.{Arcs.{weight_of, IsNegativeCycle}, Named.IsNamedCycle}
+use Rattle.stn_site.{specs.Lines.{conflict_line, link_line}, proofs.Printing.{bounds_named, one_each, conflict_part, if_some}}
 use Rattle.stn_site.proofs.site_plan.SitePlan.append_named_cycle.Goals as goal
 
 pub cycle-requires-clause-extra_named : goal.cycle-requires-clause-extra_named

@@ -1,5 +1,4 @@
-use Rattle.std.proofs.Common.{inr}
-use Rattle.std.proofs.lemmas.Result.{on_ok_weaker}
+use Rattle.std.proofs.{Common.inr, lemmas.Result.on_ok_weaker}
 use Rattle.stn_site.proofs.site_plan.SitePlan.append_part.Goals as goal
 
 pub returns-in-None-clause-part : goal.returns-in-None-clause-part

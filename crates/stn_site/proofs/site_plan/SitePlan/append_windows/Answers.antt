@@ -1,9 +1,7 @@
-use Rattle.std.proofs.Common.{◌≡◌, ℤ, pos, ◌+◌, ◌≤◌, ◌++◌, slice_index_or, sym, ap, ◌∙◌, false, arith, append_assoc}
-use Rattle.std.proofs.lemmas.List.{get_or_default}
+use Rattle.std.proofs.{Common.{◌≡◌, ℤ, pos, ◌+◌, ◌≤◌, ◌++◌, slice_index_or, sym, ap, ◌∙◌, false, arith, append_assoc}, lemmas.List.get_or_default}
 use Rattle.stn_net.specs.Event.{most_events}
 use Rattle.stn_lift.specs.PlanSource.{events_of}
-use Rattle.stn_site.specs.{Bounds.all_bounds, Lines.window_line, Report.is_done, Windows.window_at}
-use Rattle.stn_site.proofs.{Printing.one_more_line, Values.held_is}
+use Rattle.stn_site.{specs.{Bounds.all_bounds, Lines.window_line, Report.is_done, Windows.window_at}, proofs.{Printing.one_more_line, Values.held_is}}
 use Rattle.stn_site.proofs.site_plan.SitePlan.append_windows.Goals as goal
 
 pub loop-before-preserved : goal.loop-before-preserved

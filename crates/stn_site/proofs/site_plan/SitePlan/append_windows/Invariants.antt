@@ -1,5 +1,5 @@
 use Rattle.std.proofs.Common.{◌≡◌, ℕ, ◌+◌, ◌*◌, ◌≤◌, ◌++◌, List, length}
-use Rattle.stn_site.specs.{Bounds.all_bounds, Report.is_done, Report.IsWindowLines, declared.lines.TheConstants.MOST_LINE}
+use Rattle.stn_site.specs.{Bounds.all_bounds, Report.{is_done, IsWindowLines}, declared.lines.TheConstants.MOST_LINE}
 use Rattle.stn_site.proofs.site_plan.SitePlan.append_windows.Given as goal
 
 abbrev pub invariant-loop-before : goal.invariant-loop-before

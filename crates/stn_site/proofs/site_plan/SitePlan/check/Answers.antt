@@ -1,5 +1,4 @@
-use Rattle.std.proofs.Common.{◌≡◌, refl, ap, ◌∙◌}
-use Rattle.std.specs.Rc.{rc_value}
+use Rattle.std.{proofs.Common.{◌≡◌, refl, ap, ◌∙◌}, specs.Rc.rc_value}
 use Rattle.stn_net.specs.Schedule.{IsSchedule, times_of}
 use Rattle.stn_lift.specs.PlanSource.{base_bounds}
 use Rattle.stn_site.proofs.Broken.{broken_in_plan, broken_in_records, none_broken, broken_some, broken_none, broken_no_schedule}

@@ -1,8 +1,5 @@
-use Rattle.std.proofs.Common.{sym, ap, ◌∙◌}
-use Rattle.std.proofs.{lemmas.Bool.eqb-true, lemmas.Bool.eqb-false, lemmas.Result.err_from_is_err_and}
-use Rattle.std.specs.Prelude.{unwrap_or}
-use Rattle.stn_site.specs.declared.faults.ReplicaFault.TheVariants.{Memory}
-use Rattle.stn_site.proofs.Refused.{done_origin, fixed_refused}
+use Rattle.std.{proofs.{Common.{sym, ap, ◌∙◌}, lemmas.{Bool.{eqb-true, eqb-false}, Result.err_from_is_err_and}}, specs.Prelude.unwrap_or}
+use Rattle.stn_site.{specs.declared.faults.ReplicaFault.TheVariants.Memory, proofs.Refused.{done_origin, fixed_refused}}
 use Rattle.stn_site.proofs.site_plan.SitePlan.done.Goals as goal
 
 pub returns-then-eq-clause-fault : goal.returns-then-eq-clause-fault

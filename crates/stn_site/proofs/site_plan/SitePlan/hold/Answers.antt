@@ -1,11 +1,8 @@
-use Rattle.std.proofs.Common.{refl, sym, subst, ◌∙◌}
-use Rattle.std.proofs.lemmas.Result.{err_from_is_err_and}
-use Rattle.std.specs.{Rc.rc_value}
+use Rattle.std.{proofs.{Common.{refl, sym, subst, ◌∙◌}, lemmas.Result.err_from_is_err_and}, specs.Rc.rc_value}
 use Rattle.stn_net.specs.Difference.{NamesEvents}
 use Rattle.stn_lift.specs.PlanSource.{events_of}
-use Rattle.stn_records.specs.{declared.record.Record.Record, Content.with_record, Refusals.add_refusal}
-use Rattle.stn_site.specs.{Held.Held, Refusals.next_refusal}
-use Rattle.stn_site.proofs.{Named.named_added, Refused.told, Refused.let_through, Refused.next_added}
+use Rattle.stn_records.specs.{declared.record.Record.Record, Content.with_record, Refusals.addition_refusal}
+use Rattle.stn_site.{specs.{Held.Held, Refusals.next_refusal}, proofs.{Named.named_added, Refused.{told, let_through, next_added}}}
 use Rattle.stn_site.proofs.site_plan.SitePlan.hold.Goals as goal
 
 pub invariant_of-self-2 : goal.invariant_of-self-2
@@ -27,7 +24,7 @@ returns-in_err-add g c =
       leaves = rw p.1 tt;
       accepted = rw p.1 tt;
       fault = rw (p.1, p.2, ← c.self.view_is)
-          (told (add_refusal held.state c.in_ok-id.id one) (next_refusal held) (next_added held one c.in_ok-id.id left unknown) c.in_err-add.field-0.0 c.in_err-add.ensures.fault);
+          (told (addition_refusal held.state c.in_ok-id.id one) (next_refusal held) (next_added held one c.in_ok-id.id left unknown) c.in_err-add.field-0.0 c.in_err-add.ensures.fault);
       kept = rw p.1 ((λ i. record { site = c.self.inside.site; source = rc_value c.self.inside.base; state = c.in_err-add.ensures.kept i; steps = 0 }) ∙ c.self.view_is);
     }
 
@@ -40,7 +37,7 @@ returns g c =
     let one : Record = record { mark = c.args.mark; bound = c.args.bound } in
     rw (← c.self.view_is) (record {
       leaves = record { site = refl; source = refl; state = (next, c.in_ok-add.ensures.added) };
-      accepted = let_through (add_refusal held.state c.in_ok-id.id one) (next_refusal held) (next_added held one c.in_ok-id.id left unknown) c.in_ok-add.ensures.accepted;
+      accepted = let_through (addition_refusal held.state c.in_ok-id.id one) (next_refusal held) (next_added held one c.in_ok-id.id left unknown) c.in_ok-add.ensures.accepted;
       fault = tt;
       kept = tt;
     })

@@ -1,9 +1,7 @@
-use Rattle.std.proofs.Common.{◌≡◌, ◌∙◌, ap, map}
-use Rattle.std.proofs.lemmas.Result.{err_from_is_err_and, IfOk-weaker}
+use Rattle.std.proofs.{Common.{◌≡◌, ◌∙◌, ap, map}, lemmas.Result.{err_from_is_err_and, IfOk-weaker}}
 use Rattle.stn_lift.specs.PlanSource.{events_of}
 use Rattle.stn_records.specs.Content.{Content, live_of, listed}
-use Rattle.stn_site.specs.Bounds.{live_bounds}
-use Rattle.stn_site.proofs.{Named.live_named, Printing.bounds_are}
+use Rattle.stn_site.{specs.Bounds.live_bounds, proofs.{Named.live_named, Printing.bounds_are}}
 use Rattle.stn_site.proofs.site_plan.SitePlan.live_bounds.Goals as goal
 
 pub returns-in_err-live : goal.returns-in_err-live

@@ -1,8 +1,6 @@
-use Rattle.std.proofs.Common.{◌≡◌, ◌∙◌, ap, map}
-use Rattle.std.proofs.lemmas.Result.{IfOk-weaker}
+use Rattle.std.proofs.{Common.{◌≡◌, ◌∙◌, ap, map}, lemmas.Result.IfOk-weaker}
 use Rattle.stn_records.specs.Content.{Content, live_of, listed}
-use Rattle.stn_site.specs.Names.{live_ids}
-use Rattle.stn_site.proofs.Printing.{ids_are}
+use Rattle.stn_site.{specs.Names.live_ids, proofs.Printing.ids_are}
 use Rattle.stn_site.proofs.site_plan.SitePlan.live_ids.Goals as goal
 
 pub returns : goal.returns

@@ -1,7 +1,6 @@
 use Rattle.std.proofs.Common.{ap, ◌∙◌}
 use Rattle.stn_records.specs.Id.{SiteCounter}
-use Rattle.stn_site.specs.Held.{next_id}
-use Rattle.stn_site.proofs.{Values.held_is, Values.not_past}
+use Rattle.stn_site.{specs.Held.next_id, proofs.Values.{held_is, not_past}}
 use Rattle.stn_site.proofs.site_plan.SitePlan.next_id.Goals as goal
 
 pub returns : goal.returns

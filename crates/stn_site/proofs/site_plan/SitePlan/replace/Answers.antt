@@ -1,11 +1,8 @@
-use Rattle.std.proofs.Common.{◌≡◌, None, is_some, refl, sym, ap, subst, ◌∙◌}
-use Rattle.std.proofs.{lemmas.Bool.false≢true, lemmas.Result.err_from_is_err_and}
-use Rattle.std.specs.{Rc.rc_value, FinMap.get}
+use Rattle.std.{proofs.{Common.{◌≡◌, None, is_some, refl, sym, ap, subst, ◌∙◌}, lemmas.{Bool.false≢true, Result.err_from_is_err_and}}, specs.{Rc.rc_value, FinMap.get}}
 use Rattle.stn_net.specs.Difference.{NamesEvents}
 use Rattle.stn_lift.specs.PlanSource.{events_of}
-use Rattle.stn_records.specs.{Content.Content, Content.plain, Refusals.amend_refusal}
-use Rattle.stn_site.specs.{Held.Held, Refusals.next_refusal}
-use Rattle.stn_site.proofs.{Amended.amended_next, Counts.replaces_nothing, Named.named_added, Refused.told, Refused.let_through}
+use Rattle.stn_records.specs.{Content.{Content, plain}, Refusals.amendment_refusal}
+use Rattle.stn_site.{specs.{Held.Held, Refusals.next_refusal}, proofs.{Amended.amended_next, Counts.replaces_nothing, Named.named_added, Refused.{told, let_through}}}
 use Rattle.stn_site.proofs.site_plan.SitePlan.replace.Goals as goal
 
 pub prove-unreachable-requires : goal.prove-unreachable-requires
@@ -26,7 +23,7 @@ returns-in_err-amend g c =
       leaves = rw p.1 tt;
       accepted = rw p.1 tt;
       fault = rw (p.1, p.2, ← c.self.view_is)
-          (told (amend_refusal held.state c.in_ok-id.id c.args.old c.args.bound) (next_refusal held) (amended_next held c.in_ok-id.id c.args.old c.args.bound c.state.ensures.sound left unknown known) c.in_err-amend.field-0.0 c.in_err-amend.ensures.fault);
+          (told (amendment_refusal held.state c.in_ok-id.id c.args.old c.args.bound) (next_refusal held) (amended_next held c.in_ok-id.id c.args.old c.args.bound c.state.ensures.sound left unknown known) c.in_err-amend.field-0.0 c.in_err-amend.ensures.fault);
       kept = rw p.1 ((λ i. record { site = c.self.inside.site; source = rc_value c.self.inside.base; state = c.in_err-amend.ensures.kept i; steps = 0 }) ∙ c.self.view_is);
     }
 
@@ -46,7 +43,7 @@ returns g c =
     let known = rw (← c.self.view_is) at c.requires.known in
     rw (← c.self.view_is) (record {
       leaves = record { site = refl; source = refl; state = (next, c.in_ok-amend.ensures.amended, c.in_ok-amend.ensures.joined) };
-      accepted = let_through (amend_refusal held.state c.in_ok-id.id c.args.old c.args.bound) (next_refusal held) (amended_next held c.in_ok-id.id c.args.old c.args.bound c.state.ensures.sound left unknown known) c.in_ok-amend.ensures.accepted;
+      accepted = let_through (amendment_refusal held.state c.in_ok-id.id c.args.old c.args.bound) (next_refusal held) (amended_next held c.in_ok-id.id c.args.old c.args.bound c.state.ensures.sound left unknown known) c.in_ok-amend.ensures.accepted;
       fault = tt;
       kept = tt;
     })

@@ -1,6 +1,4 @@
-use Rattle.std.proofs.Common.{◌≡◌, ◌++◌, ap, ◌∙◌}
-use Rattle.std.proofs.lemmas.Result.{on_ok_weaker}
-use Rattle.std.specs.Prelude.{is_ok, if◌then◌else◌}
+use Rattle.std.{proofs.{Common.{◌≡◌, ◌++◌, ap, ◌∙◌}, lemmas.Result.on_ok_weaker}, specs.Prelude.{is_ok, if◌then◌else◌}}
 use Rattle.stn_site.proofs.Printing.{appended_ok, kept_err}
 use Rattle.stn_site.proofs.site_plan.SitePlan.report_conflict.Goals as goal
 

@@ -1,7 +1,5 @@
-use Rattle.std.proofs.Common.{◌≡◌, ◌++◌, ap, ◌∙◌, arith}
-use Rattle.std.proofs.lemmas.Result.{on_ok_weaker}
-use Rattle.std.specs.Prelude.{is_ok, if◌then◌else◌}
-use Rattle.stn_site.proofs.{Lengths.length_appended, Printing.appended_ok, Printing.kept_err}
+use Rattle.std.{proofs.{Common.{◌≡◌, ◌++◌, ap, ◌∙◌, arith}, lemmas.Result.on_ok_weaker}, specs.Prelude.{is_ok, if◌then◌else◌}}
+use Rattle.stn_site.proofs.{Lengths.length_appended, Printing.{appended_ok, kept_err}}
 use Rattle.stn_site.proofs.site_plan.SitePlan.report_with.Goals as goal
 
 pub returns : goal.returns

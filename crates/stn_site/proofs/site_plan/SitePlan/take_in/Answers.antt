@@ -1,11 +1,7 @@
-use Rattle.std.proofs.Common.{◌≡◌, Some, refl, sym, ap, subst, ◌∙◌}
-use Rattle.std.proofs.{lemmas.Bool.false≢true, lemmas.Result.err_from_is_err_and}
-use Rattle.std.specs.{Rc.rc_value, Prelude.unwrap_or}
+use Rattle.std.{proofs.{Common.{◌≡◌, Some, refl, sym, ap, subst, ◌∙◌}, lemmas.{Bool.false≢true, Result.err_from_is_err_and}}, specs.{Rc.rc_value, Prelude.unwrap_or}}
 use Rattle.stn_lift.specs.PlanSource.{events_of}
-use Rattle.stn_records.specs.{Content.IsPart, Content.join_contents, Refusals.take_refusal as records_take}
-use Rattle.stn_records.proofs.Holding.{joined_is}
-use Rattle.stn_site.specs.{Bounds.RecordsName, Held.Held, Refusals.take_refusal, declared.faults.ReplicaFault.TheVariants.Memory}
-use Rattle.stn_site.proofs.{Named.named_held, Named.named_joined, Refused.told, Refused.let_through, Refused.taken_in, Refused.can_hold, Refused.unnamed_take}
+use Rattle.stn_records.{specs.{Content.{IsPart, join_contents}, Refusals.join_refusal as records_take}, proofs.Holding.joined_is}
+use Rattle.stn_site.{specs.{Bounds.RecordsName, Held.Held, Refusals.take_refusal, declared.faults.ReplicaFault.TheVariants.Memory}, proofs.{Named.{named_held, named_joined}, Refused.{told, let_through, taken_in, can_hold, unnamed_take}}}
 use Rattle.stn_site.proofs.site_plan.SitePlan.take_in.Goals as goal
 
 pub returns-then-holds : goal.returns-then-holds

@@ -1,9 +1,6 @@
-use Rattle.std.proofs.Common.{◌≡◌, true, refl, ap, ◌∙◌}
-use Rattle.std.proofs.{lemmas.Bool.false≢true, lemmas.Result.err_from_is_err_and}
-use Rattle.std.specs.{FinMap.contains_key, Rc.rc_value}
-use Rattle.stn_records.specs.{Content.with_tombstone, Refusals.withdraw_refusal as records_withdraw}
-use Rattle.stn_site.specs.{Held.Held, Refusals.withdraw_refusal}
-use Rattle.stn_site.proofs.Refused.{told, let_through, withdrawn}
+use Rattle.std.{proofs.{Common.{◌≡◌, true, refl, ap, ◌∙◌}, lemmas.{Bool.false≢true, Result.err_from_is_err_and}}, specs.{FinMap.contains_key, Rc.rc_value}}
+use Rattle.stn_records.specs.{Content.with_tombstone, Refusals.withdrawal_refusal as records_withdraw}
+use Rattle.stn_site.{specs.{Held.Held, Refusals.withdraw_refusal}, proofs.Refused.{told, let_through, withdrawn}}
 use Rattle.stn_site.proofs.site_plan.SitePlan.withdraw.Goals as goal
 
 pub returns-in_err-withdraw : goal.returns-in_err-withdraw

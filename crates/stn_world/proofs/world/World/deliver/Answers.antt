@@ -1,26 +1,23 @@
-use Rattle.std.proofs.Common.{◌≡◌, set, ◌∙◌}
-use Rattle.std.specs.{Prelude.⊤, Rc.rc_value}
+use Rattle.std.{proofs.{Common.{◌≡◌, set, ◌∙◌, map, ap}, lemmas.Result.on_err_weaker}, specs.{Prelude.⊤, Rc.rc_value}}
 use Rattle.stn_site.specs.Refusals.{take_refusal}
 use Rattle.stn_site.specs.Calls as call
-use Rattle.stn_world.specs.{Steps.delivered, World.packet_at}
-use Rattle.stn_world.proofs.Sites.{part_there, packet_there}
-use Rattle.stn_world.proofs.Calls.{IsPlaced, IsAnswer, IsTaken, held, deliver_taken, deliver_agreed, world_stayed}
-use Rattle.stn_world.proofs.world.World.deliver.Given.{Over}
+use Rattle.stn_world.{specs.{Steps.delivered, World.packet_at}, proofs.{Sites.{part_there, packet_there}, Calls.{IsPlaced, IsAnswer, IsTaken, held, deliver_taken, deliver_agreed}, world.World.deliver.Given.Over}}
+use Rattle.stn_world.proofs.Copies as copy
 use Rattle.stn_world.proofs.world.World.deliver.Goals as goal
 
-placed : (g : Over) (c : goal.After-map_err g) → IsPlaced c.args.self.now (rc_value c.self.inside.base) c.self.inside.replicas.items c.self.inside.packets.items c.in_ok-place.place c.args.site c.index_mut.result.now
-placed g c = record { is = c.self.view_is; sound = c.self.invariant; at = c.in_ok-place.ensures.place; there = c.in_ok-place.ensures.there; same = c.index_mut.ensures.value }
+placed : (g : Over) (c : goal.After-map_err g) → IsPlaced c.args.self.now (rc_value c.self.inside.base) (map g.C.SiteCopy.held c.self.inside.copies.items) c.self.inside.packets.items c.in_ok-place.place c.args.site (g.C.SiteCopy.held c.index_mut.result.now)
+placed g c = copy.placed g.C.SiteCopy.held c.self.inside.copies.items c.index_mut.result.now c.self.view_is c.self.invariant c.in_ok-place.ensures.place c.in_ok-place.ensures.there c.index_mut.ensures.value
 
 packet : (g : Over) (c : goal.After-map_err g) → c.index.result.now ≡ packet_at c.args.self.now c.args.packet
-packet g c = packet_there c.args.self.now _ c.self.inside.replicas.items c.in_ok-from.from c.args.packet c.index.result.now c.self.view_is c.in_ok-from.ensures.place c.in_ok-from.ensures.there c.index.ensures
+packet g c = packet_there c.args.self.now _ (map g.C.SiteCopy.held c.self.inside.copies.items) c.in_ok-from.from c.args.packet c.index.result.now c.self.view_is c.in_ok-from.ensures.place c.in_ok-from.ensures.there c.index.ensures
 
-answer : (g : Over) (c : goal.After-map_err g) → IsAnswer c.index_mut.result.now (take_refusal c.index_mut.result.now c.index.result.now) (λ _. call.took c.index.result.now) c.take.result c.take.new.self c.map_err.result
-answer g c = record { free = c.take.ensures.accepted; leaves = c.take.ensures.leaves; fault = c.take.ensures.fault; kept = c.take.ensures.kept; same = c.map_err.ensures.cases }
+answer : (g : Over) (c : goal.After-map_err g) → IsAnswer (g.C.SiteCopy.held c.index_mut.result.now) (take_refusal (g.C.SiteCopy.held c.index_mut.result.now) c.index.result.now) (λ _. call.took c.index.result.now) c.take.result (g.C.SiteCopy.held c.take.new.self) c.map_err.result
+answer g c = record { free = c.take.ensures.accepted; leaves = c.take.ensures.leaves; fault = c.take.ensures.fault; kept = on_err_weaker c.take.result (λ same. ap g.C.SiteCopy.held same) c.take.ensures.kept; same = c.map_err.ensures.cases }
 
 taken : (g : Over) (c : goal.After-map_err g)
-    → IsTaken c.args.self.now (rc_value c.self.inside.base) (set c.self.inside.replicas.items c.in_ok-place.place c.take.new.self) c.self.inside.packets.items (delivered c.args.site c.args.packet) (λ _. ⊤) c.map_err.result
+    → IsTaken c.args.self.now (rc_value c.self.inside.base) (map g.C.SiteCopy.held (set c.self.inside.copies.items c.in_ok-place.place c.take.new.self)) c.self.inside.packets.items (delivered c.args.site c.args.packet) (λ _. ⊤) c.map_err.result
 taken g c =
-    deliver_taken (placed g c) c.args.packet c.index.result.now c.in_ok-from.ensures.there (packet g c) c.take.result c.take.new.self c.map_err.result (answer g c)
+    copy.taken g.C.SiteCopy.held c.self.inside.copies.items c.in_ok-place.place c.take.new.self (deliver_taken (placed g c) c.args.packet c.index.result.now c.in_ok-from.ensures.there (packet g c) c.take.result (g.C.SiteCopy.held c.take.new.self) c.map_err.result (answer g c))
 
 pub invariant_of-self : goal.invariant_of-self
 invariant_of-self g c = (taken g c).sound
@@ -30,7 +27,7 @@ returns g c =
     record {
       step = (taken g c).step;
       again = λ there sent inside.
-          let same = c.take.ensures.again (part_there c.args.self.now c.args.site c.index_mut.result.now c.index.result.now (packet_at c.args.self.now c.args.packet) (held (placed g c)) (packet g c) inside) in
-          (c.map_err.ensures.variant ∙ same.0, world_stayed (placed g c) c.take.new.self same.1);
-      agreed = deliver_agreed (placed g c) c.args.packet c.index.result.now c.in_ok-from.ensures.there (packet g c) c.take.result c.take.new.self c.map_err.result (answer g c);
+          let same = c.take.ensures.again (part_there c.args.self.now c.args.site (g.C.SiteCopy.held c.index_mut.result.now) c.index.result.now (packet_at c.args.self.now c.args.packet) (held (placed g c)) (packet g c) inside) in
+          (c.map_err.ensures.variant ∙ same.0, copy.stayed g.C.SiteCopy.held c.self.inside.copies.items c.index_mut.result.now c.take.new.self (placed g c) same.1);
+      agreed = deliver_agreed (placed g c) c.args.packet c.index.result.now c.in_ok-from.ensures.there (packet g c) c.take.result (g.C.SiteCopy.held c.take.new.self) c.map_err.result (answer g c);
     }

@@ -1,18 +1,14 @@
-use Rattle.std.proofs.Common.{◌≡◌, ◌<◌, length, refl, sym, ap, subst, ◌∙◌}
-use Rattle.std.specs.Prelude.{unwrap_or}
-use Rattle.std.proofs.{lemmas.Bool.false≢true, lemmas.Result.err_from_is_err_and}
+use Rattle.std.{proofs.{Common.{◌≡◌, ◌<◌, length, map, refl, sym, ap, subst, ◌∙◌, arith}, lemmas.{List.length-map, Bool.false≢true, Result.err_from_is_err_and}}, specs.Prelude.unwrap_or}
 use Rattle.stn_site.specs.Refusals.{take_refusal}
 use Rattle.stn_site.specs.declared.faults.ReplicaFault.TheVariants as replica_fault
-use Rattle.stn_world.specs.{Steps.merged, Steps.IsAccepted, Steps.IsMergeFault, World.HasSite, World.held_at, World.content_at, Whole.IsCoherent}
-use Rattle.stn_world.proofs.Accepted.{site_missing, merge_free, merge_itself, merge_fault, other_missing}
-use Rattle.stn_world.proofs.{Sites.place_within, Sites.part_there, Sites.take_refusal_at, Whole.coherent_after, Merges.merge_agrees, world.World.merge.Goals.then-ours-theirs+in_ok-take_from, world.World.merge.Goals.else-ours-theirs}
-use Rattle.stn_world.proofs.Pair.{held_at_site, merged_there, sound_merged, merged_itself, one_site, other_site, sound_kept, world_kept}
+use Rattle.stn_world.{specs.{Steps.{merged, IsAccepted, IsMergeFault}, World.{HasSite, held_at, content_at}, Whole.IsCoherent}, proofs.{Accepted.{site_missing, merge_free, merge_itself, merge_fault, other_missing}, Sites.{place_within, part_there, take_refusal_at}, Whole.coherent_after, Merges.merge_agrees, world.World.merge.Goals.{then-ours-theirs+in_ok-take_from, else-ours-theirs}, Pair.{held_at_site, merged_itself, one_site, other_site}}}
+use Rattle.stn_world.proofs.Copies as copy
 use Rattle.stn_world.proofs.world.World.merge.Goals as goal
 
 pub take_from-requires : goal.take_from-requires
 take_from-requires g c =
-    let within = place_within c.args.self.now _ c.self.inside.replicas.items c.in_ok-ours.ours c.self.view_is c.in_ok-ours.ensures.within in
-    let also = place_within c.args.self.now _ c.self.inside.replicas.items c.in_ok-theirs.theirs c.self.view_is c.in_ok-theirs.ensures.within in
+    let within : c.in_ok-ours.ours < length c.self.inside.copies.items = omega (arith, place_within c.args.self.now _ (map g.C.SiteCopy.held c.self.inside.copies.items) c.in_ok-ours.ours c.self.view_is c.in_ok-ours.ensures.within, length-map c.self.inside.copies.items g.C.SiteCopy.held) in
+    let also : c.in_ok-theirs.theirs < length c.self.inside.copies.items = omega (arith, place_within c.args.self.now _ (map g.C.SiteCopy.held c.self.inside.copies.items) c.in_ok-theirs.theirs c.self.view_is c.in_ok-theirs.ensures.within, length-map c.self.inside.copies.items g.C.SiteCopy.held) in
     record {
       ours = subst (λ l. c.in_ok-ours.ours < length l) (sym c.deref_mut.ensures.value) within;
       theirs = subst (λ l. c.in_ok-theirs.theirs < length l) (sym c.deref_mut.ensures.value) also;
@@ -43,28 +39,28 @@ returns-in_err-theirs g c =
 
 pub invariant_of-self : goal.invariant_of-self
 invariant_of-self g c =
-    let ours = held_at_site c.args.self.now _ _ c.deref_mut.result.now _ c.args.site c.self.view_is c.self.invariant.sites c.deref_mut.ensures.value c.in_ok-ours.ensures.place c.in_ok-ours.ensures.there in
-    let theirs = held_at_site c.args.self.now _ _ c.deref_mut.result.now _ c.args.other c.self.view_is c.self.invariant.sites c.deref_mut.ensures.value c.in_ok-theirs.ensures.place c.in_ok-theirs.ensures.there in
+    let ours = held_at_site c.args.self.now _ _ (map g.C.SiteCopy.held c.deref_mut.result.now) _ c.args.site c.self.view_is c.self.invariant.sites (ap (map g.C.SiteCopy.held) c.deref_mut.ensures.value) c.in_ok-ours.ensures.place c.in_ok-ours.ensures.there in
+    let theirs = held_at_site c.args.self.now _ _ (map g.C.SiteCopy.held c.deref_mut.result.now) _ c.args.other c.self.view_is c.self.invariant.sites (ap (map g.C.SiteCopy.held) c.deref_mut.ensures.value) c.in_ok-theirs.ensures.place c.in_ok-theirs.ensures.there in
     let same = take_refusal_at c.args.self.now c.args.site _ _ (content_at c.args.self.now c.args.other) ours theirs.state in
     let accepted : IsAccepted c.args.self.now (merged c.args.site c.args.other) =
     merge_free c.args.self.now c.args.site c.args.other c.in_ok-ours.ensures.there c.in_ok-theirs.ensures.there
     (other_site c.in_ok-ours.ours c.in_ok-theirs.theirs c.args.site c.args.other c.in_ok-ours.ensures.place c.in_ok-theirs.ensures.place c.if-ours-theirs.true) (sym same ∙ c.in_ok-take_from.ensures.accepted) in
-    let made = merged_there c.args.self.now _ c.self.inside.replicas.items c.deref_mut.result.now c.take_from.new.replicas c.in_ok-ours.ours c.in_ok-theirs.theirs c.args.site c.args.other c.self.inside.replicas.len
+    let made = copy.merged g.C.SiteCopy.held c.args.self.now _ c.self.inside.copies.items c.deref_mut.result.now c.take_from.new.copies c.in_ok-ours.ours c.in_ok-theirs.theirs c.args.site c.args.other c.self.inside.copies.len
     c.self.view_is c.deref_mut.ensures.value c.deref_mut.ensures.len c.in_ok-ours.ensures.place ours theirs c.in_ok-take_from.ensures.leaves c.in_ok-take_from.ensures.set in
-    sound_merged _ _ c.self.inside.replicas.items c.deref_mut.result.now c.take_from.new.replicas c.in_ok-ours.ours c.self.inside.replicas.len _
+    copy.sound_after g.C.SiteCopy.held _ _ c.self.inside.copies.items c.deref_mut.result.now c.take_from.new.copies c.in_ok-ours.ours c.self.inside.copies.len _
     c.self.invariant c.deref_mut.ensures.value c.deref_mut.ensures.len c.in_ok-take_from.ensures.leaves c.in_ok-take_from.ensures.set made
     (coherent_after c.args.self.now (merged c.args.site c.args.other) accepted (subst IsCoherent c.self.view_is c.self.invariant.coherent))
 
 pub invariant_of-self-in_err-take_from : goal.invariant_of-self-in_err-take_from
 invariant_of-self-in_err-take_from g c =
-    sound_kept _ c.self.inside.replicas.items c.deref_mut.result.now c.take_from.new.replicas c.self.inside.replicas.len c.self.invariant
+    copy.sound_still g.C.SiteCopy.held _ c.self.inside.copies.items c.deref_mut.result.now c.take_from.new.copies c.self.inside.copies.len c.self.invariant
     c.deref_mut.ensures.value c.deref_mut.ensures.len c.in_err-take_from.ensures.kept
 
 pub returns-in_err-take_from : goal.returns-in_err-take_from
 returns-in_err-take_from g c =
     let p = err_from_is_err_and c.from_residual-in_err-take_from.result c.from_residual-in_err-take_from.ensures.1 in
-    let ours = held_at_site c.args.self.now _ _ c.deref_mut.result.now _ c.args.site c.self.view_is c.self.invariant.sites c.deref_mut.ensures.value c.in_ok-ours.ensures.place c.in_ok-ours.ensures.there in
-    let theirs = held_at_site c.args.self.now _ _ c.deref_mut.result.now _ c.args.other c.self.view_is c.self.invariant.sites c.deref_mut.ensures.value c.in_ok-theirs.ensures.place c.in_ok-theirs.ensures.there in
+    let ours = held_at_site c.args.self.now _ _ (map g.C.SiteCopy.held c.deref_mut.result.now) _ c.args.site c.self.view_is c.self.invariant.sites (ap (map g.C.SiteCopy.held) c.deref_mut.ensures.value) c.in_ok-ours.ensures.place c.in_ok-ours.ensures.there in
+    let theirs = held_at_site c.args.self.now _ _ (map g.C.SiteCopy.held c.deref_mut.result.now) _ c.args.other c.self.view_is c.self.invariant.sites (ap (map g.C.SiteCopy.held) c.deref_mut.ensures.value) c.in_ok-theirs.ensures.place c.in_ok-theirs.ensures.there in
     let same = take_refusal_at c.args.self.now c.args.site _ _ (content_at c.args.self.now c.args.other) ours theirs.state in
     let apart = other_site c.in_ok-ours.ours c.in_ok-theirs.theirs c.args.site c.args.other c.in_ok-ours.ensures.place c.in_ok-theirs.ensures.place c.if-ours-theirs.true in
     let fault : c.in_err-take_from.field-0.0 ≡ unwrap_or (take_refusal (held_at c.args.self.now c.args.site) (content_at c.args.self.now c.args.other)) replica_fault.Memory =
@@ -72,7 +68,7 @@ returns-in_err-take_from g c =
     rw (p.1, p.2) (record {
       step = (
         merge_fault c.args.self.now c.args.site c.args.other c.in_err-take_from.field-0.0 c.in_ok-ours.ensures.there c.in_ok-theirs.ensures.there apart fault,
-        world_kept c.args.self.now _ c.self.inside.replicas.items c.deref_mut.result.now c.take_from.new.replicas c.self.inside.replicas.len c.self.view_is
+        copy.world_still g.C.SiteCopy.held c.args.self.now _ c.self.inside.copies.items c.deref_mut.result.now c.take_from.new.copies c.self.inside.copies.len c.self.view_is
             c.deref_mut.ensures.value c.deref_mut.ensures.len c.in_err-take_from.ensures.kept,
       );
       itself = λ there one. absurd (apart one);
@@ -83,20 +79,20 @@ returns-in_err-take_from g c =
 pub returns : goal.returns
 returns g c = elim c.if-ours-theirs.branch [
   | then-ours-theirs+in_ok-take_from w ↦
-      let ours = held_at_site c.args.self.now _ _ w.deref_mut.result.now _ c.args.site c.self.view_is c.self.invariant.sites w.deref_mut.ensures.value c.in_ok-ours.ensures.place c.in_ok-ours.ensures.there in
-      let theirs = held_at_site c.args.self.now _ _ w.deref_mut.result.now _ c.args.other c.self.view_is c.self.invariant.sites w.deref_mut.ensures.value c.in_ok-theirs.ensures.place c.in_ok-theirs.ensures.there in
+      let ours = held_at_site c.args.self.now _ _ (map g.C.SiteCopy.held w.deref_mut.result.now) _ c.args.site c.self.view_is c.self.invariant.sites (ap (map g.C.SiteCopy.held) w.deref_mut.ensures.value) c.in_ok-ours.ensures.place c.in_ok-ours.ensures.there in
+      let theirs = held_at_site c.args.self.now _ _ (map g.C.SiteCopy.held w.deref_mut.result.now) _ c.args.other c.self.view_is c.self.invariant.sites (ap (map g.C.SiteCopy.held) w.deref_mut.ensures.value) c.in_ok-theirs.ensures.place c.in_ok-theirs.ensures.there in
       let same = take_refusal_at c.args.self.now c.args.site _ _ (content_at c.args.self.now c.args.other) ours theirs.state in
       record {
         step = (
           merge_free c.args.self.now c.args.site c.args.other c.in_ok-ours.ensures.there c.in_ok-theirs.ensures.there
               (other_site c.in_ok-ours.ours c.in_ok-theirs.theirs c.args.site c.args.other c.in_ok-ours.ensures.place c.in_ok-theirs.ensures.place w.if-ours-theirs.true) (sym same ∙ w.in_ok-take_from.ensures.accepted),
-          w.self-is ∙ merged_there c.args.self.now _ c.self.inside.replicas.items w.deref_mut.result.now w.take_from.new.replicas c.in_ok-ours.ours c.in_ok-theirs.theirs c.args.site c.args.other c.self.inside.replicas.len
+          w.self-is ∙ copy.merged g.C.SiteCopy.held c.args.self.now _ c.self.inside.copies.items w.deref_mut.result.now w.take_from.new.copies c.in_ok-ours.ours c.in_ok-theirs.theirs c.args.site c.args.other c.self.inside.copies.len
               c.self.view_is w.deref_mut.ensures.value w.deref_mut.ensures.len c.in_ok-ours.ensures.place ours theirs w.in_ok-take_from.ensures.leaves w.in_ok-take_from.ensures.set,
         );
         itself = λ there one. refl;
         again = λ there others inside. (
           refl,
-          w.self-is ∙ world_kept c.args.self.now _ c.self.inside.replicas.items w.deref_mut.result.now w.take_from.new.replicas c.self.inside.replicas.len c.self.view_is
+          w.self-is ∙ copy.world_still g.C.SiteCopy.held c.args.self.now _ c.self.inside.copies.items w.deref_mut.result.now w.take_from.new.copies c.self.inside.copies.len c.self.view_is
               w.deref_mut.ensures.value w.deref_mut.ensures.len
               (w.in_ok-take_from.ensures.again (part_there c.args.self.now c.args.site _ _ (content_at c.args.self.now c.args.other) ours theirs.state inside)).1,
         );

@@ -1,21 +1,18 @@
-use Rattle.std.proofs.Common.{List, refl, ap, ◌∙◌}
-use Rattle.std.specs.Rc.{rc_value}
-use Rattle.std.proofs.lemmas.Result.{err_from_is_err_and}
+use Rattle.std.{proofs.{Common.{List, refl, ap, ◌∙◌, map}, lemmas.Result.err_from_is_err_and}, specs.Rc.rc_value}
 use Rattle.stn_records.specs.Content.{Content, part_of}
 use Rattle.stn_site.proofs.Values.{ok_not_err}
-use Rattle.stn_world.specs.{Parts.holds_all, Sites.world_of, World.content_at}
-use Rattle.stn_world.proofs.{Sites.held_there, Calls.IsPlaced, Calls.held, Calls.sent_sound, Calls.sent_taken}
-use Rattle.stn_world.proofs.Sendings.{send_memory, part_refused, holds_there, part_free}
+use Rattle.stn_world.{specs.{Parts.holds_all, Sites.world_of, World.content_at}, proofs.{Sites.held_there, Calls.{held, sent_sound, sent_taken}, Sendings.{send_memory, part_refused, holds_there, part_free}}}
+use Rattle.stn_world.proofs.Copies as copy
 use Rattle.stn_world.proofs.world.World.send.Goals as goal
 
 pub returns-in_err-part : goal.returns-in_err-part
 returns-in_err-part g c =
     let p = err_from_is_err_and c.from_residual-in_err-part.result c.from_residual-in_err-part.ensures.1 in
-    let held = held_there c.args.self.now _ _ _ c.args.site c.index.result.now c.self.view_is c.self.invariant.sites c.in_ok-place.ensures.place c.in_ok-place.ensures.there c.index.ensures in
+    let held = held_there c.args.self.now _ (map g.C.SiteCopy.held c.self.inside.copies.items) _ c.args.site (g.C.SiteCopy.held c.index.result.now) c.self.view_is c.self.invariant.sites c.in_ok-place.ensures.place c.in_ok-place.ensures.there (copy.got g.C.SiteCopy.held c.self.inside.copies.items c.in_ok-place.place c.index.result.now c.index.ensures) in
     rw (p.1, p.2) (record {
       step = (
         part_refused c.args.self.now c.args.site c.in_ok-place.ensures.there c.in_ok-number.ensures.room c.records.result.now c.args.records.now c.args.tombstones.now _ c.in_err-part.field-0.0
-            (c.records.ensures.value ∙ held.state) c.in_err-part.ensures.unknown,
+            (c.records.ensures.value ∙ c.plan.ensures.state ∙ held.state) c.in_err-part.ensures.unknown,
         refl,
       );
     })
@@ -23,27 +20,25 @@ returns-in_err-part g c =
 pub returns-in_err-push : goal.returns-in_err-push
 returns-in_err-push g c =
     let p = err_from_is_err_and c.from_residual-in_err-push.result c.from_residual-in_err-push.ensures.1 in
-    let held = held_there c.args.self.now _ _ _ c.args.site c.index.result.now c.self.view_is c.self.invariant.sites c.in_ok-place.ensures.place c.in_ok-place.ensures.there c.index.ensures in
-    let all = holds_there c.records.result.now (content_at c.args.self.now c.args.site) c.args.records.now c.args.tombstones.now (c.records.ensures.value ∙ held.state) (c.in_ok-part.ensures.held ok_not_err) in
+    let held = held_there c.args.self.now _ (map g.C.SiteCopy.held c.self.inside.copies.items) _ c.args.site (g.C.SiteCopy.held c.index.result.now) c.self.view_is c.self.invariant.sites c.in_ok-place.ensures.place c.in_ok-place.ensures.there (copy.got g.C.SiteCopy.held c.self.inside.copies.items c.in_ok-place.place c.index.result.now c.index.ensures) in
+    let all = holds_there c.records.result.now (content_at c.args.self.now c.args.site) c.args.records.now c.args.tombstones.now (c.records.ensures.value ∙ c.plan.ensures.state ∙ held.state) (c.in_ok-part.ensures.held ok_not_err) in
     rw (p.1, p.2) (record {
       step = (
         send_memory c.args.self.now c.args.site c.in_ok-place.ensures.there c.in_ok-number.ensures.room (holds_all (content_at c.args.self.now c.args.site) c.args.records.now c.args.tombstones.now) all,
-        ap (λ (l : List Content). world_of (rc_value c.self.inside.base) c.self.inside.replicas.items l) c.in_err-push.ensures.items ∙ c.self.view_is,
+        ap (λ (l : List Content). world_of (rc_value c.self.inside.base) (map g.C.SiteCopy.held c.self.inside.copies.items) l) c.in_err-push.ensures.items ∙ c.self.view_is,
       );
     })
 
 pub invariant_of-self-2 : goal.invariant_of-self-2
 invariant_of-self-2 g c =
-    let placed : IsPlaced c.args.self.now (rc_value c.self.inside.base) c.self.inside.replicas.items c.self.inside.packets.items c.in_ok-place.place c.args.site c.index.result.now =
-    record { is = c.self.view_is; sound = c.self.invariant; at = c.in_ok-place.ensures.place; there = c.in_ok-place.ensures.there; same = c.index.ensures } in
-    let same = c.in_ok-part.ensures.part ∙ ap (λ (s : Content). part_of s c.args.records.now c.args.tombstones.now) (c.records.ensures.value ∙ (held placed).state) in
+    let placed = copy.placed g.C.SiteCopy.held c.self.inside.copies.items c.index.result.now c.self.view_is c.self.invariant c.in_ok-place.ensures.place c.in_ok-place.ensures.there c.index.ensures in
+    let same = c.in_ok-part.ensures.part ∙ ap (λ (s : Content). part_of s c.args.records.now c.args.tombstones.now) (c.records.ensures.value ∙ c.plan.ensures.state ∙ (held placed).state) in
     sent_sound placed c.in_ok-number.ensures.room _ c.in_ok-part.part _ same (part_free c.args.self.now c.args.site c.args.records.now c.args.tombstones.now c.in_ok-place.ensures.there) c.in_ok-push.ensures.items
 
 pub returns : goal.returns
 returns g c =
-    let placed : IsPlaced c.args.self.now (rc_value c.self.inside.base) c.self.inside.replicas.items c.self.inside.packets.items c.in_ok-place.place c.args.site c.index.result.now =
-    record { is = c.self.view_is; sound = c.self.invariant; at = c.in_ok-place.ensures.place; there = c.in_ok-place.ensures.there; same = c.index.ensures } in
-    let state = c.records.ensures.value ∙ (held placed).state in
+    let placed = copy.placed g.C.SiteCopy.held c.self.inside.copies.items c.index.result.now c.self.view_is c.self.invariant c.in_ok-place.ensures.place c.in_ok-place.ensures.there c.index.ensures in
+    let state = c.records.ensures.value ∙ c.plan.ensures.state ∙ (held placed).state in
     let same = c.in_ok-part.ensures.part ∙ ap (λ (s : Content). part_of s c.args.records.now c.args.tombstones.now) state in
     let all = holds_there c.records.result.now (content_at c.args.self.now c.args.site) c.args.records.now c.args.tombstones.now state (c.in_ok-part.ensures.held ok_not_err) in
     record { step = sent_taken placed c.in_ok-number.ensures.room _ c.in_ok-part.part _ same (part_free c.args.self.now c.args.site c.args.records.now c.args.tombstones.now c.in_ok-place.ensures.there) c.in_ok-push.ensures.items _ all c.in_ok-number.number c.in_ok-number.ensures.number }

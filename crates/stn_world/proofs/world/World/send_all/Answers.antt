@@ -1,9 +1,7 @@
-use Rattle.std.proofs.Common.{true, List, refl, ap, ◌∙◌}
-use Rattle.std.specs.Rc.{rc_value}
-use Rattle.std.proofs.lemmas.Result.{err_from_is_err_and}
+use Rattle.std.{proofs.{Common.{true, List, refl, ap, ◌∙◌, map}, lemmas.Result.err_from_is_err_and}, specs.Rc.rc_value}
 use Rattle.stn_records.specs.Content.{Content}
-use Rattle.stn_world.specs.Sites.{world_of}
-use Rattle.stn_world.proofs.{Calls.IsPlaced, Calls.held, Calls.sent_sound, Calls.sent_taken, Sendings.send_memory, Sendings.all_free}
+use Rattle.stn_world.{specs.Sites.world_of, proofs.{Calls.{held, sent_sound, sent_taken}, Sendings.{send_memory, all_free}}}
+use Rattle.stn_world.proofs.Copies as copy
 use Rattle.stn_world.proofs.world.World.send_all.Goals as goal
 
 pub returns-in_err-whole : goal.returns-in_err-whole
@@ -17,19 +15,17 @@ returns-in_err-push g c =
     rw (p.1, p.2) (record {
       step = (
         send_memory c.args.self.now c.args.site c.in_ok-place.ensures.there c.in_ok-number.ensures.room true refl,
-        ap (λ (l : List Content). world_of (rc_value c.self.inside.base) c.self.inside.replicas.items l) c.in_err-push.ensures.items ∙ c.self.view_is,
+        ap (λ (l : List Content). world_of (rc_value c.self.inside.base) (map g.C.SiteCopy.held c.self.inside.copies.items) l) c.in_err-push.ensures.items ∙ c.self.view_is,
       );
     })
 
 pub invariant_of-self-2 : goal.invariant_of-self-2
 invariant_of-self-2 g c =
-    let placed : IsPlaced c.args.self.now (rc_value c.self.inside.base) c.self.inside.replicas.items c.self.inside.packets.items c.in_ok-place.place c.args.site c.index.result.now =
-    record { is = c.self.view_is; sound = c.self.invariant; at = c.in_ok-place.ensures.place; there = c.in_ok-place.ensures.there; same = c.index.ensures } in
-    sent_sound placed c.in_ok-number.ensures.room _ c.in_ok-whole.whole _ (c.in_ok-whole.ensures ∙ (c.records.ensures.value ∙ (held placed).state)) (all_free c.args.self.now c.args.site c.in_ok-place.ensures.there) c.in_ok-push.ensures.items
+    let placed = copy.placed g.C.SiteCopy.held c.self.inside.copies.items c.index.result.now c.self.view_is c.self.invariant c.in_ok-place.ensures.place c.in_ok-place.ensures.there c.index.ensures in
+    sent_sound placed c.in_ok-number.ensures.room _ c.in_ok-whole.whole _ (c.in_ok-whole.ensures ∙ (c.records.ensures.value ∙ c.plan.ensures.state ∙ (held placed).state)) (all_free c.args.self.now c.args.site c.in_ok-place.ensures.there) c.in_ok-push.ensures.items
 
 pub returns : goal.returns
 returns g c =
-    let placed : IsPlaced c.args.self.now (rc_value c.self.inside.base) c.self.inside.replicas.items c.self.inside.packets.items c.in_ok-place.place c.args.site c.index.result.now =
-    record { is = c.self.view_is; sound = c.self.invariant; at = c.in_ok-place.ensures.place; there = c.in_ok-place.ensures.there; same = c.index.ensures } in
-    let same = c.in_ok-whole.ensures ∙ (c.records.ensures.value ∙ (held placed).state) in
+    let placed = copy.placed g.C.SiteCopy.held c.self.inside.copies.items c.index.result.now c.self.view_is c.self.invariant c.in_ok-place.ensures.place c.in_ok-place.ensures.there c.index.ensures in
+    let same = c.in_ok-whole.ensures ∙ (c.records.ensures.value ∙ c.plan.ensures.state ∙ (held placed).state) in
     record { step = sent_taken placed c.in_ok-number.ensures.room _ c.in_ok-whole.whole _ same (all_free c.args.self.now c.args.site c.in_ok-place.ensures.there) c.in_ok-push.ensures.items true refl c.in_ok-number.number c.in_ok-number.ensures.number }
