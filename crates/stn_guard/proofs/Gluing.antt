@@ -1,13 +1,8 @@
-use Rattle.std.proofs.Common.{◌≡◌, ℕ, ℤ, pos, true, cond, eqb, List, ◌++◌, inl, inr, refl, sym, ap, subst, ◌∙◌}
-use Rattle.std.specs.Prelude.{◌↔◌, All, flat_map}
-use Rattle.std.proofs.{lemmas.Bool.and_parts, lemmas.Bool.Decides.eqb_tells}
-use Rattle.std.proofs.lemmas.List.Elements.{All-append, All-weaker, All-filter}
+use Rattle.std.{proofs.{Common.{◌≡◌, ℕ, ℤ, pos, true, cond, eqb, List, ◌++◌, inl, inr, refl, sym, ap, subst, ◌∙◌}, lemmas.{Bool.{and_parts, Decides.eqb_tells}, List.Elements.{All-append, All-weaker, All-filter}}}, specs.Prelude.{◌↔◌, All, flat_map}}
 use Rattle.stn_replica.proofs.Live.{All-passing, All-filter_passing}
 use Rattle.stn_time.proofs.Each.{All-left, All-right}
-use Rattle.stn_net.specs.{Difference.Difference, Schedule.Meets, Schedule.IsSchedule, Schedule.HasSchedule}
-use Rattle.stn_net.specs.Windows.Window.{IsInWindow}
-use Rattle.stn_guard.specs.{Owners.is_at, Owners.is_own, Owners.own_bounds, Guard.Guards}
-use Rattle.stn_guard.proofs.Owned.{all_pieces, at_cases, at_owner}
+use Rattle.stn_net.specs.{Difference.Difference, Schedule.{Meets, IsSchedule, HasSchedule}, Windows.Window.IsInWindow}
+use Rattle.stn_guard.{specs.{Owners.{is_at, is_own, own_bounds}, Guard.Guards}, proofs.Owned.{all_pieces, at_cases, at_owner}}
 
 -- each event takes the time that its owner gives it
 abbrev glued : (ℕ → ℕ) → (ℕ → ℕ → ℤ) → ℕ → ℤ

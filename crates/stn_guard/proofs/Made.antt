@@ -1,18 +1,9 @@
 -- The guard that is made of bounds guards them.
-use Rattle.std.proofs.Common.{◌≡◌, ◌≢◌, ℕ, zero, suc, ◌+◌, ◌-◌, ◌<◌, ◌≤◌, ℤ, pos, neg_ℤ, ◌≤ℤ◌, Bool, true, false, ◌&&◌, ◌||◌, eqb, List, [], ◌∷◌, ◌++◌, length, get_or, take, map, inl, inr, refl, sym, ap, subst, arith}
-use Rattle.std.specs.{Prelude.All, Prelude.filter, List.range_with_len}
-use Rattle.std.proofs.{lemmas.Int.ints, lemmas.Bool.eq-eqb, lemmas.Bool.Decides.eqb_tells, lemmas.List.Folds.list_any_at, lemmas.List.FromFn.length-map-range_with_len, lemmas.List.FromFn.get_or-map-range_with_len}
-use Rattle.std.proofs.lemmas.List.Elements.{All-nil, All-cons, All-head, All-tail, All-append, All-take, All-filter}
-use Rattle.std.proofs.lemmas.Bool.{and_from, or_right}
+use Rattle.std.{proofs.{Common.{◌≡◌, ◌≢◌, ℕ, zero, suc, ◌+◌, ◌-◌, ◌<◌, ◌≤◌, ℤ, pos, neg_ℤ, ◌≤ℤ◌, Bool, true, false, ◌&&◌, ◌||◌, eqb, List, [], ◌∷◌, ◌++◌, length, get_or, take, map, inl, inr, refl, sym, ap, subst, arith}, lemmas.{Int.ints, Bool.{eq-eqb, and_from, or_right, Decides.eqb_tells}, List.{Folds.list_any_at, FromFn.{length-map-range_with_len, get_or-map-range_with_len}, Elements.{All-nil, All-cons, All-head, All-tail, All-append, All-take, All-filter}}}}, specs.{Prelude.{All, filter}, List.range_with_len}}
 use Rattle.stn_replica.proofs.Live.{All-passing, All-filter_passing}
-use Rattle.stn_time.proofs.Each.{All-left, All-right}
-use Rattle.stn_time.specs.Time.{horizon}
-use Rattle.stn_net.specs.{Difference.Difference, Difference.NamesEvents, Horizon.horizon_bound, Horizon.horizon_bounds, Schedule.Meets, Schedule.IsSchedule, Schedule.HasSchedule}
-use Rattle.stn_net.specs.Windows.Window.{IsInWindow}
-use Rattle.stn_guard.specs.{declared.splitting.Arc.Arc, Owners.is_own, Owners.own_bounds, Owners.is_shared, Guard.Guards}
-use Rattle.stn_guard.specs.Making.{arcs_of, shared_arcs, window_bound, is_named, says_more, AreWindows, IsGuardOf}
-use Rattle.stn_guard.proofs.Owned.{all_pieces, all_of_pieces, at_owner, at_origin, own_or_shared, shared_parts}
-use Rattle.stn_guard.proofs.{Gluing.own_met, Split.Implies, Split.IsApart, Split.AreLeft, Split.are_left}
+use Rattle.stn_time.{proofs.Each.{All-left, All-right}, specs.Time.horizon}
+use Rattle.stn_net.specs.{Difference.{Difference, NamesEvents}, Horizon.{horizon_bound, horizon_bounds}, Schedule.{Meets, IsSchedule, HasSchedule}, Windows.Window.IsInWindow}
+use Rattle.stn_guard.{specs.{declared.splitting.Arc.Arc, Owners.{is_own, own_bounds, is_shared}, Guard.Guards, Making.{arcs_of, shared_arcs, window_bound, is_named, says_more, AreWindows, IsGuardOf}}, proofs.{Owned.{all_pieces, all_of_pieces, at_owner, at_origin, own_or_shared, shared_parts}, Gluing.own_met, Split.{Implies, IsApart, AreLeft, are_left}}}
 
 -- each horizon bound is one of them
 pub all_horizon : (P : Difference → Type 0) (events : ℕ) → All P (horizon_bounds events) → (event : ℕ) → 0 < event → event ≤ events → P (horizon_bound event)

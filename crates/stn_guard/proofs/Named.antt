@@ -1,8 +1,7 @@
 -- Windows that are kept, one by one.
-use Rattle.std.proofs.Common.{◌≡◌, ℕ, ◌+◌, ◌-◌, ◌<◌, ℤ, Bool, List, ◌++◌, sym, ap, ◌∙◌, arith}
-use Rattle.std.proofs.{lemmas.List.FromFn.filter_of_map_range_with_len_more}
+use Rattle.std.proofs.{Common.{◌≡◌, ℕ, ◌+◌, ◌-◌, ◌<◌, ℤ, Bool, List, ◌++◌, sym, ap, ◌∙◌, arith}, lemmas.List.FromFn.filter_of_map_range_with_len_more}
 use Rattle.stn_net.specs.Difference.{Difference}
-use Rattle.stn_guard.specs.{Making.window_bound, Splitting.ends_of, Splitting.is_kept, Splitting.kept, Splitting.windows_of}
+use Rattle.stn_guard.specs.{Making.window_bound, Splitting.{ends_of, is_kept, kept, windows_of}}
 
 -- the windows of one event more
 pub windows_step : (named : List Bool) (far : ℕ → ℕ → ℤ) (number : ℕ) (window : Difference) (old new : List Difference) → 0 < number → old ≡ windows_of named far (number - 1)

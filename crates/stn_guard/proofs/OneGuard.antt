@@ -1,14 +1,7 @@
 -- One guard is made of bounds and owners.
-use Rattle.std.proofs.Common.{◌≡◌, ℕ, ◌+◌, ◌<◌, ℤ, List, [], ◌∷◌, ◌++◌, map, refl, sym, ap, subst, ◌∙◌, arith}
-use Rattle.std.specs.{Prelude.All, Prelude.filter, Prelude.◌&&◌, List.range_with_len}
-use Rattle.std.proofs.{lemmas.List.same_lists, lemmas.List.FromFn.length-map-range_with_len, lemmas.List.FromFn.get_or-map-range_with_len}
-use Rattle.std.proofs.lemmas.List.Elements.{All-head, All-tail, All-weaker}
-use Rattle.stn_net.specs.{Difference.Difference, Schedule.HasSchedule}
-use Rattle.stn_net.specs.Windows.Window.{IsWindow}
-use Rattle.stn_net.proofs.WindowEnds.{one_window}
-use Rattle.stn_guard.specs.declared.splitting.Arc.{Arc}
-use Rattle.stn_guard.specs.Making.{shared_arcs, window_bound, split_of, is_named, says_more, IsSplit, AreSplit, AreWindows, IsGuardOf}
-use Rattle.stn_guard.proofs.{Split.Implies, Split.split_left, Split.are_left, Made.arcs_implied}
+use Rattle.std.{proofs.{Common.{◌≡◌, ℕ, ◌+◌, ◌<◌, ℤ, List, [], ◌∷◌, ◌++◌, map, refl, sym, ap, subst, ◌∙◌, arith}, lemmas.List.{same_lists, FromFn.{length-map-range_with_len, get_or-map-range_with_len}, Elements.{All-head, All-tail, All-weaker}}}, specs.{Prelude.{All, filter, ◌&&◌}, List.range_with_len}}
+use Rattle.stn_net.{specs.{Difference.Difference, Schedule.HasSchedule, Windows.Window.IsWindow}, proofs.WindowEnds.one_window}
+use Rattle.stn_guard.{specs.{declared.splitting.Arc.Arc, Making.{shared_arcs, window_bound, split_of, is_named, says_more, IsSplit, AreSplit, AreWindows, IsGuardOf}}, proofs.{Split.{Implies, split_left, are_left}, Made.arcs_implied}}
 
 pub one_pair : (bounds : List Difference) (event : ℕ) (one other : ℤ × ℤ) → HasSchedule bounds → IsWindow bounds event one.0 one.1 → IsWindow bounds event other.0 other.1 → one ≡ other
 one_pair bounds event one other possible these those =

@@ -1,8 +1,4 @@
-use Rattle.std.proofs.Common.{◌≡◌, ℕ, true, not, ◌&&◌, ◌||◌, eqb, List, [], ◌∷◌, inl, inr, refl, sym, ap, subst, ◌∙◌}
-use Rattle.std.proofs.{lemmas.Bool.false≢true, lemmas.Bool.and_parts, lemmas.Bool.Decides.eqb_tells}
-use Rattle.std.specs.Prelude.{◌⊎◌, ◌≢◌, All, flat_map}
-use Rattle.std.proofs.lemmas.List.Elements.{All-nil, All-cons, All-head, All-tail, All-append}
-use Rattle.std.proofs.lemmas.Bool.{and_from}
+use Rattle.std.{proofs.{Common.{◌≡◌, ℕ, true, not, ◌&&◌, ◌||◌, eqb, List, [], ◌∷◌, inl, inr, refl, sym, ap, subst, ◌∙◌}, lemmas.{Bool.{false≢true, and_parts, and_from, Decides.eqb_tells}, List.Elements.{All-nil, All-cons, All-head, All-tail, All-append}}}, specs.Prelude.{◌⊎◌, ◌≢◌, All, flat_map}}
 use Rattle.stn_time.proofs.Each.{All-left, All-right}
 use Rattle.stn_net.specs.Difference.{Difference}
 use Rattle.stn_guard.specs.Owners.{is_at, is_own, is_shared}

@@ -1,12 +1,8 @@
 -- What splitting one arc does to a matrix.
-use Rattle.std.proofs.Common.{◌≡◌, ℤ, ◌-ℤ◌, ◌≤ℤ◌, ◌<ℤ◌, Bool, true, false, cond, List, [], ◌∷◌, ◌++◌, refl, sym, ap, subst, ◌∙◌, arith, append-nil, append_assoc}
-use Rattle.std.specs.Prelude.{◌↔◌, IsTrue}
-use Rattle.std.proofs.{lemmas.Int.ints, lemmas.List.Elements.All-head}
+use Rattle.std.{proofs.{Common.{◌≡◌, ℤ, ◌-ℤ◌, ◌≤ℤ◌, ◌<ℤ◌, Bool, true, false, cond, List, [], ◌∷◌, ◌++◌, refl, sym, ap, subst, ◌∙◌, arith, append-nil, append_assoc}, lemmas.{Int.ints, List.Elements.All-head}}, specs.Prelude.{◌↔◌, IsTrue}}
 use Rattle.stn_replica.proofs.Schedules.{schedule_before}
-use Rattle.stn_net.specs.{Difference.Difference, Schedule.HasSchedule, Matrix.Table.Table, Matrix.Tightest.IsExact}
-use Rattle.stn_net.specs.Windows.Window.{IsWindow}
-use Rattle.stn_guard.specs.{declared.splitting.Arc.Arc, Making.window_bound, Making.is_implied, Making.split_time, Splitting.MeetsArc, Splitting.LeavesTime, Splitting.CanSplit, Splitting.Splits}
-use Rattle.stn_guard.proofs.Split.{HasEnds, middle_leaves_time, splitting, splitting_possible}
+use Rattle.stn_net.specs.{Difference.Difference, Schedule.HasSchedule, Matrix.{Table.Table, Tightest.IsExact}, Windows.Window.IsWindow}
+use Rattle.stn_guard.{specs.{declared.splitting.Arc.Arc, Making.{window_bound, is_implied, split_time}, Splitting.{MeetsArc, LeavesTime, CanSplit, Splits}}, proofs.Split.{HasEnds, middle_leaves_time, splitting, splitting_possible}}
 
 -- these are the windows of the arc's events, whatever bounds the table is exact for
 pub record AreEnds (arc : Arc) (table : Table) (from to : ℤ × ℤ) : Type 0 where

@@ -1,14 +1,8 @@
 -- Owners that agree on the events that bounds name have the same guard.
-use Rattle.std.proofs.Common.{◌≡◌, ℕ, ◌+◌, ◌<◌, ◌≤◌, Bool, not, ◌&&◌, ◌||◌, eqb, List, [], ◌∷◌, ◌++◌, get_or, map, inl, inr, refl, sym, ap, subst, ◌∙◌, arith}
-use Rattle.std.specs.{Prelude.All, Prelude.flat_map, List.list_any, List.range_with_len}
-use Rattle.std.proofs.{lemmas.Bool.Decides.eqb_tells, lemmas.List.FromFn.length-map-range_with_len, lemmas.List.FromFn.get_or-map-range_with_len}
-use Rattle.std.proofs.lemmas.List.Elements.{All-head, All-tail, All-append}
-use Rattle.std.proofs.Math.Nat.{pos_of_ne-zero}
+use Rattle.std.{proofs.{Common.{◌≡◌, ℕ, ◌+◌, ◌<◌, ◌≤◌, Bool, not, ◌&&◌, ◌||◌, eqb, List, [], ◌∷◌, ◌++◌, get_or, map, inl, inr, refl, sym, ap, subst, ◌∙◌, arith}, lemmas.{Bool.Decides.eqb_tells, List.{FromFn.{length-map-range_with_len, get_or-map-range_with_len}, Elements.{All-head, All-tail, All-append}}}, Math.Nat.pos_of_ne-zero}, specs.{Prelude.{All, flat_map}, List.{list_any, range_with_len}}}
 use Rattle.stn_replica.proofs.Live.{All-filter_passing}
-use Rattle.stn_net.specs.{Difference.Difference, Difference.NamesEvents, Schedule.IsSchedule}
-use Rattle.stn_guard.specs.{Owners.is_at, Owners.is_own, Owners.own_bounds, Owners.is_shared, Guard.Guards}
-use Rattle.stn_guard.specs.Making.{arcs_of, shared_arcs, window_bound, is_named, says_more, AreSplit, AreWindows, IsGuardOf}
-use Rattle.stn_guard.proofs.{Whole.filter_same}
+use Rattle.stn_net.specs.{Difference.{Difference, NamesEvents}, Schedule.IsSchedule}
+use Rattle.stn_guard.{specs.{Owners.{is_at, is_own, own_bounds, is_shared}, Guard.Guards, Making.{arcs_of, shared_arcs, window_bound, is_named, says_more, AreSplit, AreWindows, IsGuardOf}}, proofs.Whole.filter_same}
 
 any_same : {X : Type 0} (p q : X → Bool) (xs : List X) → All (λ x. p x ≡ q x) xs → list_any p xs ≡ list_any q xs
 any_same p q [] same = refl

@@ -1,12 +1,9 @@
 -- The guard of what a site holds, from the owners of its steps.
-use Rattle.std.proofs.Common.{◌≡◌, ◌⊎◌, inl, inr, ℕ, ◌+◌, ◌<◌, ◌≤◌, List, ◌++◌, map, Option, Some, None, unwrap_or, ap, subst, ◌∙◌, arith}
-use Rattle.std.specs.{Prelude.All, List.range_with_len}
-use Rattle.std.proofs.lemmas.List.FromFn.{get_or-map-range_with_len}
-use Rattle.stn_net.specs.{Difference.Difference, Difference.NamesEvents, Schedule.HasSchedule}
+use Rattle.std.{proofs.{Common.{◌≡◌, ◌⊎◌, inl, inr, ℕ, ◌+◌, ◌<◌, ◌≤◌, List, ◌++◌, map, Option, Some, None, unwrap_or, ap, subst, ◌∙◌, arith}, lemmas.List.FromFn.get_or-map-range_with_len}, specs.{Prelude.All, List.range_with_len}}
+use Rattle.stn_net.specs.{Difference.{Difference, NamesEvents}, Schedule.HasSchedule}
 use Rattle.stn_lift.specs.PlanSource.{events_of, base_bounds}
-use Rattle.stn_site.specs.{declared.faults.ReplicaFault.ReplicaFault, declared.faults.ReplicaFault.TheVariants.Memory, Bounds.live_bounds, Bounds.all_bounds, Held.Held}
-use Rattle.stn_guard.specs.{declared.owners.OwnedSteps.OwnedSteps, Owners.owner_of, Guard.Guards, Making.AreWindows, Making.IsGuardOf, Adding.owner_by, Putting.MakesGuard}
-use Rattle.stn_guard.proofs.SameOwners.{guard_named, same_guard, same_guards}
+use Rattle.stn_site.specs.{declared.faults.ReplicaFault.{ReplicaFault, TheVariants.Memory}, Bounds.{live_bounds, all_bounds}, Held.Held}
+use Rattle.stn_guard.{specs.{declared.owners.OwnedSteps.OwnedSteps, Owners.owner_of, Guard.Guards, Making.{AreWindows, IsGuardOf}, Adding.owner_by, Putting.MakesGuard}, proofs.SameOwners.{guard_named, same_guard, same_guards}}
 
 -- what was made of these bounds, with the owners as a list
 pub record IsMadeOf (owners : List ℕ) (events : ℕ) (bounds guard : List Difference) : Type 0 where

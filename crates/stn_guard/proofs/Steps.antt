@@ -1,13 +1,9 @@
 -- The matrix as it comes on, arc by arc.
-use Rattle.std.proofs.Common.{◌≡◌, ◌≢◌, ℕ, ◌+◌, ◌<◌, ℤ, neg_ℤ, Bool, true, false, cond, List, [], ◌∷◌, ◌++◌, length, get_or, take, drop, refl, sym, ap, subst, ◌∙◌, append-nil}
-use Rattle.std.specs.Prelude.{All, filter, flat_map}
-use Rattle.std.proofs.{lemmas.List.take-append-drop, lemmas.List.take_more, lemmas.List.Concat.flat_map-append}
-use Rattle.std.proofs.lemmas.List.Elements.{All-nil, All-cons, All-weaker, filter-append}
+use Rattle.std.{proofs.{Common.{◌≡◌, ◌≢◌, ℕ, ◌+◌, ◌<◌, ℤ, neg_ℤ, Bool, true, false, cond, List, [], ◌∷◌, ◌++◌, length, get_or, take, drop, refl, sym, ap, subst, ◌∙◌, append-nil}, lemmas.List.{take-append-drop, take_more, Concat.flat_map-append, Elements.{All-nil, All-cons, All-weaker, filter-append}}}, specs.Prelude.{All, filter, flat_map}}
 use Rattle.stn_replica.proofs.Live.{All-filter_passing}
 use Rattle.stn_time.proofs.Each.{All-left, All-right}
-use Rattle.stn_net.specs.{Difference.Difference, Difference.NamesEvents, Schedule.IsSchedule, Matrix.Table.Table, Matrix.Tightest.IsExact}
-use Rattle.stn_guard.specs.{declared.splitting.Arc.Arc, Owners.is_shared, Making.arcs_of, Making.shared_arcs, Making.AreSplit, Splitting.NamesEnds, Splitting.MeetsArc, Splitting.CanSplit, Splitting.Splits}
-use Rattle.stn_guard.proofs.{Owned.all_pieces, Owned.shared_parts, Split.Implies, Split.are_left, Made.arcs_implied}
+use Rattle.stn_net.specs.{Difference.{Difference, NamesEvents}, Schedule.IsSchedule, Matrix.{Table.Table, Tightest.IsExact}}
+use Rattle.stn_guard.{specs.{declared.splitting.Arc.Arc, Owners.is_shared, Making.{arcs_of, shared_arcs, AreSplit}, Splitting.{NamesEnds, MeetsArc, CanSplit, Splits}}, proofs.{Owned.{all_pieces, shared_parts}, Split.{Implies, are_left}, Made.arcs_implied}}
 
 -- each of the arcs is implied
 pub each_implied : (bounds : List Difference) (arcs : List Arc) → ((time : ℕ → ℤ) → IsSchedule bounds time → All (MeetsArc time) arcs) → All (Implies bounds) arcs

@@ -1,17 +1,9 @@
 -- The windows of a matrix in which all shared bounds were split are the guard.
-use Rattle.std.proofs.Common.{◌≡◌, ℕ, take, replicate, ◌+◌, ◌<◌, ◌≤◌, ℤ, Bool, false, cond, ◌&&◌, ◌||◌, eqb, List, [], ◌∷◌, ◌++◌, length, get_or, map, refl, sym, ap, subst, ◌∙◌, arith}
-use Rattle.std.specs.Prelude.{All, filter}
-use Rattle.std.specs.List.{range_with_len}
-use Rattle.std.proofs.{lemmas.List.length-take, lemmas.List.take-append-le, lemmas.List.Folds.list_any-append, lemmas.List.FromFn.length-map-range_with_len, lemmas.List.FromFn.get_or-map-range_with_len}
-use Rattle.std.proofs.lemmas.List.Elements.{All-head, All-tail, All-weaker}
+use Rattle.std.{proofs.{Common.{◌≡◌, ℕ, take, replicate, ◌+◌, ◌<◌, ◌≤◌, ℤ, Bool, false, cond, ◌&&◌, ◌||◌, eqb, List, [], ◌∷◌, ◌++◌, length, get_or, map, refl, sym, ap, subst, ◌∙◌, arith}, lemmas.List.{length-take, take-append-le, Folds.list_any-append, FromFn.{length-map-range_with_len, get_or-map-range_with_len}, Elements.{All-head, All-tail, All-weaker}}}, specs.{Prelude.{All, filter}, List.range_with_len}}
 use Rattle.stn_site.proofs.Flags.{get_or-replicate_same}
 use Rattle.stn_time.proofs.Each.{All-left, All-right}
-use Rattle.stn_net.specs.{Difference.Difference, Difference.NamesEvents, Horizon.horizon_bounds, Matrix.Table.Table, Matrix.Table.far_of, Matrix.Tightest.IsExact}
-use Rattle.stn_net.proofs.Horizons.{length-horizon_bounds}
-use Rattle.stn_net.proofs.WindowEnds.{window_of_exact}
-use Rattle.stn_guard.specs.{declared.splitting.Arc.Arc, Owners.is_shared, Making.shared_arcs, Making.window_bound, Making.is_named, Making.says_more, Making.IsGuardOf}
-use Rattle.stn_guard.specs.Splitting.{HasOwners, CanSplit, Splits, ends_of, is_kept, windows_of}
-use Rattle.stn_guard.proofs.{Steps.some_front, Steps.some_behind, Steps.splits_on, Steps.can_shared, Steps.arcs_append}
+use Rattle.stn_net.{specs.{Difference.{Difference, NamesEvents}, Horizon.horizon_bounds, Matrix.{Table.{Table, far_of}, Tightest.IsExact}}, proofs.{Horizons.length-horizon_bounds, WindowEnds.window_of_exact}}
+use Rattle.stn_guard.{specs.{declared.splitting.Arc.Arc, Owners.is_shared, Making.{shared_arcs, window_bound, is_named, says_more, IsGuardOf}, Splitting.{HasOwners, CanSplit, Splits, ends_of, is_kept, windows_of}}, proofs.Steps.{some_front, some_behind, splits_on, can_shared, arcs_append}}
 
 -- tests that agree on the elements of a list keep the same ones
 pub filter_same : {X : Type 0} (p q : X → Bool) (xs : List X) → All (λ x. p x ≡ q x) xs → filter p xs ≡ filter q xs

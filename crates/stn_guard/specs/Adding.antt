@@ -1,11 +1,9 @@
 -- Adding the guard of what a site holds to what it holds.
-use Rattle.std.specs.Prelude.{◌≡◌, ℕ, zero, suc, ◌+◌, nat_lt, Bool, true, false, if◌then◌else◌, List, [], ◌∷◌, length, map, Option, Some, None}
-use Rattle.std.specs.{Bool.then_some, Option.option_or, List.list_all}
+use Rattle.std.specs.{Prelude.{◌≡◌, ℕ, zero, suc, ◌+◌, nat_lt, Bool, true, false, if◌then◌else◌, List, [], ◌∷◌, length, map, Option, Some, None}, Bool.then_some, Option.option_or, List.list_all}
 use Rattle.stn_net.specs.{Difference.Difference, declared.bound.BoundFault.TheVariants.NoEvent, Schedule.HasSchedule}
 use Rattle.stn_lift.specs.PlanSource.{steps_of, events_of}
-use Rattle.stn_records.specs.{Id.SiteCounter, Id.most_counter, Content.most_known, Content.known_count, Content.next_counter}
-use Rattle.stn_site.specs.{declared.faults.ReplicaFault.ReplicaFault, Bounds.all_bounds, Held.Held, Held.plain, Calls.added, Calls.AllLeave}
-use Rattle.stn_site.specs.declared.faults.ReplicaFault.TheVariants.{Bound, CounterSpent, Full}
+use Rattle.stn_records.specs.{Id.{SiteCounter, most_counter}, Content.{most_known, known_count, next_counter}}
+use Rattle.stn_site.specs.{declared.faults.ReplicaFault.{ReplicaFault, TheVariants.{Bound, CounterSpent, Full}}, Bounds.all_bounds, Held.{Held, plain}, Calls.{added, AllLeave}}
 use Rattle.stn_replica.specs.Own.{has, is_within}
 use Rattle.stn_guard.specs.{declared.owners.OwnedSteps.OwnedSteps, Making.IsGuardOf}
 

@@ -1,5 +1,5 @@
 use Rattle.std.specs.Prelude.{◌≡◌, ◌≢◌, ℕ, ℤ, List, ◌++◌, All}
-use Rattle.stn_net.specs.{Difference.Difference, Schedule.IsSchedule, Schedule.HasSchedule}
+use Rattle.stn_net.specs.{Difference.Difference, Schedule.{IsSchedule, HasSchedule}}
 use Rattle.stn_guard.specs.Owners.{own_bounds}
 
 -- the guard are bounds from the origin to single events, with which the bounds have a schedule, and whatever meets each

@@ -1,9 +1,7 @@
 -- Which guard is made of a list of bounds.
-use Rattle.std.specs.Prelude.{◌≡◌, ℕ, ℤ, pos, neg_ℤ, ◌≤◌, ◌+ℤ◌, ◌-ℤ◌, int_lt, int_le, Bool, ◌&&◌, ◌||◌, ◌==◌, if◌then◌else◌, List, [], ◌∷◌, ◌++◌, map, filter, flat_map}
-use Rattle.std.specs.{Int.int_min, Int.int_max, Int.int_div_euclid, List.list_any, List.range_with_len}
+use Rattle.std.specs.{Prelude.{◌≡◌, ℕ, ℤ, pos, neg_ℤ, ◌≤◌, ◌+ℤ◌, ◌-ℤ◌, int_lt, int_le, Bool, ◌&&◌, ◌||◌, ◌==◌, if◌then◌else◌, List, [], ◌∷◌, ◌++◌, map, filter, flat_map}, Int.{int_min, int_max, int_div_euclid}, List.{list_any, range_with_len}}
 use Rattle.stn_time.specs.Time.{horizon}
-use Rattle.stn_net.specs.Difference.{Difference}
-use Rattle.stn_net.specs.Windows.Window.{IsWindow}
+use Rattle.stn_net.specs.{Difference.Difference, Windows.Window.IsWindow}
 use Rattle.stn_guard.specs.{declared.splitting.Arc.Arc, Owners.is_shared}
 
 -- what both sides of a bound say, the upper first

@@ -1,8 +1,7 @@
 -- For proofs alone: no public clause cites these words.
-use Rattle.std.specs.Prelude.{◌≢◌, ℕ, ◌<◌, ◌≤◌, ℤ, neg_ℤ, ◌+ℤ◌, ◌-ℤ◌, ◌≤ℤ◌, Bool, false, ◌&&◌, if◌then◌else◌, List, [], ◌∷◌, length, map, filter, slice_index_or, All}
-use Rattle.std.specs.List.{range_with_len}
-use Rattle.stn_net.specs.{Difference.Difference, Schedule.IsSchedule, Matrix.Table.Table, Matrix.Tightest.IsExact}
-use Rattle.stn_guard.specs.{declared.splitting.Arc.Arc, Making.AreSplit, Making.says_more, Making.window_bound}
+use Rattle.std.specs.{Prelude.{◌≢◌, ℕ, ◌<◌, ◌≤◌, ℤ, neg_ℤ, ◌+ℤ◌, ◌-ℤ◌, ◌≤ℤ◌, Bool, false, ◌&&◌, if◌then◌else◌, List, [], ◌∷◌, length, map, filter, slice_index_or, All}, List.range_with_len}
+use Rattle.stn_net.specs.{Difference.Difference, Schedule.IsSchedule, Matrix.{Table.Table, Tightest.IsExact}}
+use Rattle.stn_guard.specs.{declared.splitting.Arc.Arc, Making.{AreSplit, says_more, window_bound}}
 
 -- both events of the bound have an owner
 pub record HasOwners (owners : List ℕ) (bound : Difference) : Type 0 where

@@ -1,12 +1,9 @@
 ghost use Rattle.std.specs.Prelude.{◌≡◌, ◌⊎◌, true, None, Some, [], All, length, unwrap_or, IfOk, IfErr, IfSome, OnOk, OnErr, IsErrOf, MatchOption};
-ghost use Rattle.stn_net.specs.Difference.{NamesEvents};
-ghost use Rattle.stn_net.specs.Schedule.{HasSchedule};
+ghost use Rattle.stn_net.specs.{Difference.NamesEvents, Schedule.HasSchedule};
 ghost use Rattle.stn_lift.specs.PlanSource.{events_of, steps_of};
 ghost use Rattle.stn_site.specs.Bounds.{all_bounds};
-ghost use Rattle.stn_guard.specs.Guard.{Guards};
+ghost use Rattle.stn_guard.specs.{Guard.Guards, Adding.{owner_by, are_within, IsGuardRefusal, AddsEach, AddsGuard, records_refusal}, Putting.{MakesGuard, PutsEach}};
 ghost use Rattle.stn_records.specs.Content.{next_counter, with_record, plain};
-ghost use Rattle.stn_guard.specs.Adding.{owner_by, are_within, IsGuardRefusal, AddsEach, AddsGuard, records_refusal};
-ghost use Rattle.stn_guard.specs.Putting.{MakesGuard, PutsEach};
 
 use crate::guarding::guard;
 use crate::owners::{OwnedSteps, are_within, owners_of};

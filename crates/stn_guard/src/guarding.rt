@@ -1,12 +1,6 @@
 ghost use Rattle.std.specs.Prelude.{◌≡◌, ◌≢◌, ◌+◌, ◌<◌, ◌≤◌, ◌++◌, ◌&&◌, ◌||◌, false, ℕ, List, length, take, slice_index_or, All, IfOk, OnOk};
-ghost use Rattle.stn_net.specs.Difference.{Difference};
-ghost use Rattle.stn_net.specs.Horizon.{horizon_bounds};
-ghost use Rattle.stn_net.specs.Matrix.Table.{far_of};
-ghost use Rattle.stn_net.specs.Matrix.Tightest.{IsExact};
-ghost use Rattle.stn_guard.specs.Owners.{owner_of};
-ghost use Rattle.stn_guard.specs.Guard.{Guards};
-ghost use Rattle.stn_guard.specs.Making.{is_named, says_more, window_bound, AreWindows, IsGuardOf};
-ghost use Rattle.stn_guard.specs.Splitting.{HasOwners, ends_of, is_kept, kept, windows_of};
+ghost use Rattle.stn_net.specs.{Difference.Difference, Horizon.horizon_bounds, Matrix.{Table.far_of, Tightest.IsExact}};
+ghost use Rattle.stn_guard.specs.{Owners.owner_of, Guard.Guards, Making.{is_named, says_more, window_bound, AreWindows, IsGuardOf}, Splitting.{HasOwners, ends_of, is_kept, kept, windows_of}};
 
 use crate::splitting::{is_shared, split_shared, window_bound};
 use std::alloc::Allocator;

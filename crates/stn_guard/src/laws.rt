@@ -1,14 +1,9 @@
 ghost use Rattle.std.specs.Prelude.{◌≡◌, ◌↔◌, ◌<◌, ◌≤◌, ℕ, ℤ, true, false, List, ◌++◌, take, flat_map, All};
-ghost use Rattle.stn_net.specs.Difference.{Difference, NamesEvents};
-ghost use Rattle.stn_net.specs.Schedule.{HasSchedule};
-ghost use Rattle.stn_net.specs.Horizon.{horizon_bounds};
-ghost use Rattle.stn_net.specs.Windows.Window.{IsInWindow};
+ghost use Rattle.stn_net.specs.{Difference.{Difference, NamesEvents}, Schedule.HasSchedule, Horizon.horizon_bounds, Windows.Window.IsInWindow};
 ghost use Rattle.stn_lift.specs.PlanSource.{PlanSource, events_of};
 ghost use Rattle.stn_records.specs.Content.{Content, CountsSame};
 ghost use Rattle.stn_site.specs.Bounds.{all_bounds};
-ghost use Rattle.stn_guard.specs.Owners.{is_own, own_bounds, is_shared};
-ghost use Rattle.stn_guard.specs.Guard.{Guards};
-ghost use Rattle.stn_guard.specs.Making.{AreWindows, IsGuardOf};
+ghost use Rattle.stn_guard.specs.{Owners.{is_own, own_bounds, is_shared}, Guard.Guards, Making.{AreWindows, IsGuardOf}};
 
 /// The law of gluing: if each site adds bounds of its own to bounds that are guarded, and its own bounds have a schedule
 /// then, all of them together have one.

@@ -1,5 +1,4 @@
-ghost use Rattle.std.specs.Prelude.{◌≡◌, ◌+◌, ◌≤◌, map, IfOk};
-ghost use Rattle.std.specs.List.{range_with_len};
+ghost use Rattle.std.specs.{Prelude.{◌≡◌, ◌+◌, ◌≤◌, map, IfOk}, List.range_with_len};
 ghost use Rattle.stn_net.specs.Event.{most_events};
 ghost use Rattle.stn_guard.specs.Adding as adding;
 

@@ -1,11 +1,7 @@
 ghost use Rattle.std.specs.Prelude.{◌≡◌, ◌≢◌, ◌≤◌, ◌-ℤ◌, ◌≤ℤ◌, List, [], ◌∷◌, ◌++◌, All};
-ghost use Rattle.stn_net.specs.Difference.{Difference, NamesEvents};
-ghost use Rattle.stn_net.specs.Schedule.{HasSchedule};
+ghost use Rattle.stn_net.specs.{Difference.{Difference, NamesEvents}, Schedule.HasSchedule, Matrix.Tightest.IsExact};
 ghost use Rattle.stn_time.specs.Time.{IsWithinHorizon};
-ghost use Rattle.stn_net.specs.Matrix.Tightest.{IsExact};
-ghost use Rattle.stn_guard.specs.Owners.{owner_of, is_shared};
-ghost use Rattle.stn_guard.specs.Making.{arcs_of, shared_arcs, split_time, window_bound};
-ghost use Rattle.stn_guard.specs.Splitting.{CanSplit, HasOwners, LeavesTime, Splits};
+ghost use Rattle.stn_guard.specs.{Owners.{owner_of, is_shared}, Making.{arcs_of, shared_arcs, split_time, window_bound}, Splitting.{CanSplit, HasOwners, LeavesTime, Splits}};
 
 use std::alloc::Allocator;
 use stn_net::{Bound, Event, Matrix, window};

@@ -1,10 +1,7 @@
 -- The first link of which something holds that can be told.
-use Rattle.std.proofs.Common.{◌≡◌, ◌⊎◌, inl, inr, ℕ, ◌+◌, ◌/◌, ◌%◌, ◌<◌, Bool, true, false, eqb, eqb-true, refl, sym, subst, ◌∙◌, arith}
-use Rattle.std.specs.Prelude.{if◌then◌else◌}
-use Rattle.std.proofs.lemmas.Bool.{eqb-false}
+use Rattle.std.{proofs.{Common.{◌≡◌, ◌⊎◌, inl, inr, ℕ, ◌+◌, ◌/◌, ◌%◌, ◌<◌, Bool, true, false, eqb, eqb-true, refl, sym, subst, ◌∙◌, arith}, lemmas.Bool.eqb-false}, specs.Prelude.if◌then◌else◌}
 use Rattle.stn_net.proofs.Told.{Told, least_below}
-use Rattle.stn_conflict.specs.{declared.links.Link.Link, declared.links.Side.TheVariants.Upper, declared.links.Side.TheVariants.Lower, Arcs.rank}
-use Rattle.stn_conflict.proofs.OneCycle.{rank_tells}
+use Rattle.stn_conflict.{specs.{declared.links.{Link.Link, Side.TheVariants.{Upper, Lower}}, Arcs.rank}, proofs.OneCycle.rank_tells}
 
 -- the link of a rank
 abbrev link_at : ℕ → Link

@@ -1,14 +1,12 @@
 -- What is asked of a plan depends on the live records alone.
-use Rattle.std.proofs.Common.{◌≡◌, inl, inr, ⊎_elim, ℕ, ℤ, neg_ℤ, ◌+◌, Bool, List, ◌++◌, codes, length, map, refl, ap, subst, ◌∙◌}
-use Rattle.std.specs.List.{flat_map, range_with_len}
+use Rattle.std.{proofs.Common.{◌≡◌, inl, inr, ⊎_elim, ℕ, ℤ, neg_ℤ, ◌+◌, Bool, List, ◌++◌, codes, length, map, refl, ap, subst, ◌∙◌}, specs.List.{flat_map, range_with_len}}
 use Rattle.stn_time.specs.Text.{printed}
 use Rattle.stn_net.specs.{Difference.Difference, Schedule.HasSchedule}
 use Rattle.stn_lift.specs.PlanSource.{PlanSource, base_bounds, events_of}
-use Rattle.stn_records.specs.{Id.SiteCounter, declared.record.Record.Record, Content.Content, Content.live_of}
-use Rattle.stn_conflict.specs.{declared.links.Link.Link, Arcs.weight_of, Arcs.IsNegativeCycle, Named.IsNamedCycle, Named.IsWay}
-use Rattle.stn_site.specs.{Bounds.bounds_of, Lines.line, Lines.window_line, Lines.conflict_line, Lines.link_line, Report.says_done, Report.IsConflictPart}
-use Rattle.stn_questions.specs.{declared.asked.Question.Question, Bounds.listed_line, Ready.IsReadyWith, Ready.IsReadyText, Why.end_text, Why.IsReasonPart, Answer.IsAnswer, Answer.AsksOfPlan}
-use Rattle.stn_questions.specs.declared.asked.Question.TheVariants.{Records, Steps, Bounds, Why, WhyApart}
+use Rattle.stn_records.specs.{Id.SiteCounter, declared.record.Record.Record, Content.{Content, live_of}}
+use Rattle.stn_conflict.specs.{declared.links.Link.Link, Arcs.{weight_of, IsNegativeCycle}, Named.{IsNamedCycle, IsWay}}
+use Rattle.stn_site.specs.{Bounds.bounds_of, Lines.{line, window_line, conflict_line, link_line}, Report.{says_done, IsConflictPart}}
+use Rattle.stn_questions.specs.{declared.asked.Question.{Question, TheVariants.{Records, Steps, Bounds, Why, WhyApart}}, Bounds.listed_line, Ready.{IsReadyWith, IsReadyText}, Why.{end_text, IsReasonPart}, Answer.{IsAnswer, AsksOfPlan}}
 
 abbrev pub Entries : Type 0
 Entries = List (SiteCounter × Record)

@@ -1,12 +1,8 @@
 -- Bounds that have no schedule have a named cycle.
-use Rattle.std.proofs.Common.{ℕ, List, ◌∷◌, take}
-use Rattle.std.specs.Prelude.{ℤ, pos, ◌+ℤ◌, All}
-use Rattle.std.proofs.lemmas.Int.{by_lt_z}
-use Rattle.stn_net.specs.{Difference.Difference}
-use Rattle.stn_conflict.specs.{declared.links.Link.Link, declared.links.Side.Side, declared.links.Side.TheVariants.Upper, declared.links.Side.TheVariants.Lower, Arcs.arc_of, Arcs.bound_at, Arcs.IsNegativeCycle, Culprit.IsCulprit, Culprit.IsRefusedSide, Named.IsNamedCycle}
-use Rattle.stn_conflict.proofs.CycleSums.{named_negative}
-use Rattle.stn_questions.proofs.Found.{AreFound, IsInOrder, IsFirstRefused, possible_found, tightest_found}
-use Rattle.stn_questions.proofs.Levels.{ends_within, some_way}
+use Rattle.std.{proofs.{Common.{ℕ, List, ◌∷◌, take}, lemmas.Int.by_lt_z}, specs.Prelude.{ℤ, pos, ◌+ℤ◌, All}}
+use Rattle.stn_net.specs.Difference.{Difference}
+use Rattle.stn_conflict.{specs.{declared.links.{Link.Link, Side.{Side, TheVariants.{Upper, Lower}}}, Arcs.{arc_of, bound_at, IsNegativeCycle}, Culprit.{IsCulprit, IsRefusedSide}, Named.IsNamedCycle}, proofs.CycleSums.named_negative}
+use Rattle.stn_questions.proofs.{Found.{AreFound, IsInOrder, IsFirstRefused, possible_found, tightest_found}, Levels.{ends_within, some_way}}
 
 -- a bound has a side that is refused
 some_side : (bounds : List Difference) (events : ℕ) (far : ℕ → ℕ → ℤ) (bound : Difference) → AreFound bounds events far → IsInOrder events bound → (side : Side) × IsRefusedSide bounds bound side

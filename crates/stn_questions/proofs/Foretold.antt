@@ -1,17 +1,10 @@
 -- What the searches of a plan's bounds find of the events that are left.
-use Rattle.std.proofs.Common.{◌≡◌, inl, inr, ℕ, ℤ, ◌+◌, ◌<◌, ◌≤◌, ◌≤ℤ◌, ◌<ℤ◌, Bool, true, false, List, [], ◌∷◌, ◌++◌, length, Option, Some, None, refl, sym, ap, subst, ◌∙◌, arith}
-use Rattle.std.specs.Prelude.{Vec, All, Result, Ok, Err, IfOk, MatchOption, is_some}
-use Rattle.std.proofs.lemmas.Option.{MatchOption-at_some}
-use Rattle.std.specs.{Prelude.int_le}
-use Rattle.std.proofs.{lemmas.Int.ints, lemmas.Int.by_lt_z, lemmas.Bool.cases_lt, lemmas.List.Elements.All-append, lemmas.List.Elements.All-nil}
-use Rattle.stn_net.specs.{Event.most_events, Difference.Difference, Difference.NamesEvents, Schedule.HasSchedule, Schedule.times_of}
-use Rattle.stn_net.specs.Windows.{Dispatch.IsLeft, Dispatch.IsReady, Dispatch.AreReadyTimes, Dispatch.CanWaitUntil, Leading.IsLeastLatest, Soonest.AreEarliest, Soonest.AreLatest, Soonest.AreSoonest}
-use Rattle.stn_net.proofs.Readiness.{left_within}
+use Rattle.std.{proofs.{Common.{◌≡◌, inl, inr, ℕ, ℤ, ◌+◌, ◌<◌, ◌≤◌, ◌≤ℤ◌, ◌<ℤ◌, Bool, true, false, List, [], ◌∷◌, ◌++◌, length, Option, Some, None, refl, sym, ap, subst, ◌∙◌, arith}, lemmas.{Option.MatchOption-at_some, Int.{ints, by_lt_z}, Bool.cases_lt, List.Elements.{All-append, All-nil}}}, specs.Prelude.{Vec, All, Result, Ok, Err, IfOk, MatchOption, is_some, int_le}}
+use Rattle.stn_net.{specs.{Event.most_events, Difference.{Difference, NamesEvents}, Schedule.{HasSchedule, times_of}, Windows.{Dispatch.{IsLeft, IsReady, AreReadyTimes, CanWaitUntil}, Leading.IsLeastLatest, Soonest.{AreEarliest, AreLatest, AreSoonest}}}, proofs.Readiness.left_within}
 use Rattle.stn_lift.specs.PlanSource.{PlanSource, base_bounds, events_of, IsSoundSource}
 use Rattle.stn_records.specs.Content.{Content}
-use Rattle.stn_site.specs.{Bounds.all_bounds, Bounds.live_bounds}
-use Rattle.stn_questions.specs.{declared.ready_event.ReadyEvent.ReadyEvent, Foresight.AreSoonestOf, Foresight.lesser_of, Ready.AreReadyEvents}
-use Rattle.stn_questions.proofs.ReadyLists.{counted, pushed_other, pushed_same}
+use Rattle.stn_site.specs.Bounds.{all_bounds, live_bounds}
+use Rattle.stn_questions.{specs.{declared.ready_event.ReadyEvent.ReadyEvent, Foresight.{AreSoonestOf, lesser_of}, Ready.AreReadyEvents}, proofs.ReadyLists.{counted, pushed_other, pushed_same}}
 
 -- the soonest times by the bounds that were searched are those of the plan's
 pub soonest_found : {A E : Type 0} (bounds all : List Difference) (events count : ℕ) (done : List Bool) (now : ℤ) (result : Result (Option (Vec ℤ A)) E) → bounds ≡ all → events ≡ count → events ≤ most_events
@@ -59,60 +52,6 @@ pub record IsLeastBelow (latest : ℕ → ℤ) (done : List Bool) (limit : ℕ) 
 abbrev pub IsLeastSoFar : (ℕ → ℤ) → List Bool → ℕ → Option ℤ → Type 0
 IsLeastSoFar latest done limit None = (event : ℕ) → event < limit → ¬ IsLeft done event
 IsLeastSoFar latest done limit (Some time) = IsLeastBelow latest done limit time
-
--- one more event that is left
-pub least_more : (latest : ℕ → ℤ) (done : List Bool) (number event : ℕ) (time : ℤ) (least : Option ℤ) → event ≡ number → IsLeft done event → time ≡ latest number
-    → IsLeastSoFar latest done number least → IsLeastBelow latest done (number + 1) (lesser_of least time)
-least_more latest done number event time None is left at none = record {
-  at = (number, subst (IsLeft done) is left, sym at);
-  least = λ other below is_left. elim (cases_lt other number) [
-    | inl before ↦ absurd (none other before is_left)
-    | inr here ↦ (let same : number ≡ other = omega arith in subst (λ n. time ≤ℤ latest n) same (omega (arith, ints)))
-  ];
-}
-least_more latest done number event time (Some old) is left at so_far = by_lt_z time old
-    (λ sooner.
-    let test : int_le old time ≡ false = grind (arith, ints) in
-    rw test (record {
-      at = (number, subst (IsLeft done) is left, sym at);
-      least = λ other below is_left. elim (cases_lt other number) [
-        | inl before ↦ (let later = so_far.least other before is_left in omega (arith, ints))
-        | inr here ↦ (let same : number ≡ other = omega arith in subst (λ n. time ≤ℤ latest n) same (omega (arith, ints)))
-      ];
-    }))
-    (λ later.
-    let test : int_le old time ≡ true = grind (arith, ints) in
-    rw test (record {
-      at = so_far.at;
-      least = λ other below is_left. elim (cases_lt other number) [
-        | inl before ↦ so_far.least other before is_left
-        | inr here ↦ (let same : number ≡ other = omega arith in subst (λ n. old ≤ℤ latest n) same (omega (arith, ints)))
-      ];
-    }))
-
--- one more that is not
-pub least_kept : (latest : ℕ → ℤ) (done : List Bool) (number event : ℕ) (least : Option ℤ) → event ≡ number → ¬ IsLeft done event → IsLeastSoFar latest done number least
-    → IsLeastSoFar latest done (number + 1) least
-least_kept latest done number event None is not_left none = λ other below left. elim (cases_lt other number) [
-  | inl before ↦ none other before left
-  | inr here ↦ (let same : other ≡ event = omega arith in not_left (subst (IsLeft done) same left))
-]
-least_kept latest done number event (Some time) is not_left so_far = record {
-  at = so_far.at;
-  least = λ other below left. elim (cases_lt other number) [
-    | inl before ↦ so_far.least other before left
-    | inr here ↦ (let same : other ≡ event = omega arith in absurd (not_left (subst (IsLeft done) same left)))
-  ];
-}
-
--- that of all events
-pub least_of_all : (latest : ℕ → ℤ) (done : List Bool) (limit : ℕ) (least : Option ℤ) → length done ≤ limit → IsLeastSoFar latest done limit least
-    → MatchOption least ((event : ℕ) → ¬ IsLeft done event) (IsLeastLatest latest done)
-least_of_all latest done limit None all none = λ event left. none event (omega (arith, all, left_within done event left)) left
-least_of_all latest done limit (Some time) all so_far = record {
-  at = so_far.at;
-  least = λ event left. so_far.least event (omega (arith, all, left_within done event left)) left;
-}
 
 -- each of the events with numbers below the limit that may run from now on stands once in the list
 abbrev pub HasEachBelow : List Difference → List Bool → ℤ → ℕ → List ReadyEvent → Type 0

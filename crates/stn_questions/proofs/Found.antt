@@ -1,22 +1,9 @@
 -- Bounds that begin with the horizon bounds have the tightest differences, along each of which a chain leads, or a first bound with
 -- which they have no schedule.
-use Rattle.std.proofs.Common.{◌≡◌, ◌≢◌, ◌⊎◌, inl, inr, ℕ, zero, suc, ◌+◌, ◌-◌, ◌<◌, ◌≤◌, Bool, true, false, cond, eqb, eqb-true, List, [], ◌∷◌, ◌++◌, length, take, refl, sym, subst, ap, ◌∙◌, arith}
-use Rattle.std.specs.Prelude.{ℤ, pos, neg_ℤ, ◌+ℤ◌, ◌-ℤ◌, ◌≤ℤ◌, int_lt, All}
-use Rattle.std.specs.Int.{int_min}
-use Rattle.std.proofs.lemmas.Bool.{cases_lt, eqb-false}
-use Rattle.std.proofs.lemmas.Int.{ints, by_lt_z}
-use Rattle.std.proofs.lemmas.List.{get_or_append_left, get_or_push, length_push, take-append-le, take_all, take_more}
-use Rattle.std.proofs.lemmas.List.Elements.{All-push}
+use Rattle.std.{proofs.{Common.{◌≡◌, ◌≢◌, ◌⊎◌, inl, inr, ℕ, zero, suc, ◌+◌, ◌-◌, ◌<◌, ◌≤◌, Bool, true, false, cond, eqb, eqb-true, List, [], ◌∷◌, ◌++◌, length, take, refl, sym, subst, ap, ◌∙◌, arith}, lemmas.{Bool.{cases_lt, eqb-false}, Int.{ints, by_lt_z}, List.{get_or_append_left, get_or_push, length_push, take-append-le, take_all, take_more, Elements.All-push}}}, specs.{Prelude.{ℤ, pos, neg_ℤ, ◌+ℤ◌, ◌-ℤ◌, ◌≤ℤ◌, int_lt, All}, Int.int_min}}
 use Rattle.stn_time.specs.Time.{horizon}
-use Rattle.stn_net.specs.{Difference.Difference, Difference.NamesEvents, Horizon.horizon_bound, Horizon.horizon_bounds, Schedule.HasSchedule, Matrix.Tightest.IsTightest, Matrix.Closed.IsClosed, Matrix.Closed.IsWidest, Matrix.Way.shorter, Matrix.Way.narrower, Matrix.Way.HasRoom}
-use Rattle.stn_net.specs.Windows.Window.{IsWindow}
-use Rattle.stn_net.proofs.WindowEnds.{window_of_ends}
-use Rattle.stn_net.proofs.Horizons.{length-horizon_bounds}
-use Rattle.stn_net.proofs.Tightest.{IsTight, row_is_schedule}
-use Rattle.stn_net.proofs.Closure.{narrower-closed, narrower-tight, schedule_before, schedule_last}
-use Rattle.stn_net.proofs.Widest.{widest-closed, widest-tight, horizon_named}
-use Rattle.stn_conflict.specs.{declared.links.Link.Link, declared.links.Side.TheVariants.Upper, declared.links.Side.TheVariants.Lower, Arcs.Arc, Arcs.arc, Arcs.arc_of, Arcs.bound_at, Arcs.IsChain, Arcs.weight_of}
-use Rattle.stn_conflict.proofs.Chains.{chain_before}
+use Rattle.stn_net.{specs.{Difference.{Difference, NamesEvents}, Horizon.{horizon_bound, horizon_bounds}, Schedule.HasSchedule, Matrix.{Tightest.IsTightest, Closed.{IsClosed, IsWidest}, Way.{shorter, narrower, HasRoom}}, Windows.Window.IsWindow}, proofs.{WindowEnds.window_of_ends, Horizons.length-horizon_bounds, Tightest.{IsTight, row_is_schedule}, Closure.{narrower-closed, narrower-tight, schedule_before, schedule_last}, Widest.{widest-closed, widest-tight, horizon_named}}}
+use Rattle.stn_conflict.{specs.{declared.links.{Link.Link, Side.TheVariants.{Upper, Lower}}, Arcs.{Arc, arc, arc_of, bound_at, IsChain, weight_of}}, proofs.Chains.chain_before}
 
 -- the bound is about some of the events, and its sides are not crossed
 pub record IsInOrder (events : ℕ) (bound : Difference) : Type 0 where

@@ -1,16 +1,7 @@
 -- The known ids, each once and in order.
-use Rattle.std.proofs.Common.{◌≡◌, Bool, true, false, ◌&&◌, ◌||◌, eqb, List, [], ◌∷◌, ◌++◌, Ordering, Less, Equal, Greater, is_eq, ◌<◌, refl, sym, ap, subst, ◌∙◌, ◌↔◌, IsTrue, map, arith}
-use Rattle.std.proofs.{lemmas.Bool.false≢true, lemmas.List.Folds.Any-from_list_any, lemmas.List.Folds.list_any-from_Any, lemmas.List.Sorted.Contains-permutation, lemmas.List.Sorted.IsPermutation-sym, lemmas.Map.Keys.sorted_head, lemmas.Map.Keys.sorted_tail, lemmas.Map.Views.Contains-from_any, lemmas.Map.Views.list_any-from_Contains}
-use Rattle.std.proofs.lemmas.List.Kept.{Contains-dedup, Contains-from_dedup, IsStrictlySortedBy-dedup}
-use Rattle.std.specs.{Cmp.IsEquivalence, Cmp.Equal-is, Cmp.eq_by_cmp_equiv, Cmp.ranks, List.AllByRecursion, List.Any, List.Contains, List.dedup, List.list_any, List.Sorted.IsPermutation, List.Sorted.IsSorted, List.Sorted.IsStrictlySortedBy, Set.is_member, FinMap.contains_key-keys}
-use Rattle.std.specs.Ordering.{MatchOrdering, nat_cmp, ordering_then, ordering_reverse}
-use Rattle.stn_records.specs.{Id.SiteCounter, Id.id_cmp, Content.Content, Content.is_known, Content.same_ids, ContentLaws.ids_total, ContentLaws.ids_exact, ContentLaws.ids_decide}
+use Rattle.std.{proofs.{Common.{◌≡◌, Bool, true, false, ◌&&◌, ◌||◌, eqb, List, [], ◌∷◌, ◌++◌, Ordering, Less, Equal, Greater, is_eq, ◌<◌, refl, sym, ap, subst, ◌∙◌, ◌↔◌, IsTrue, map, arith}, lemmas.{Bool.{false≢true, eq-eqb, ne_eqb, Decides.same_from_decides}, List.{Folds.{Any-from_list_any, list_any-from_Any}, Sorted.{Contains-permutation, IsPermutation-sym}, Kept.{Contains-dedup, Contains-from_dedup, IsStrictlySortedBy-dedup}}, Map.{Keys.{sorted_head, sorted_tail}, Views.{Contains-from_any, list_any-from_Contains}}}, Math.Bool.{or_assoc, or_comm}}, specs.{Cmp.{IsEquivalence, Equal-is, eq_by_cmp_equiv, ranks}, List.{AllByRecursion, Any, Contains, dedup, list_any, Sorted.{IsPermutation, IsSorted, IsStrictlySortedBy}}, Set.is_member, FinMap.contains_key-keys, Ordering.{MatchOrdering, nat_cmp, ordering_then, ordering_reverse}, Bool.Decides}}
+use Rattle.stn_records.{specs.{Id.{SiteCounter, id_cmp}, Content.{Content, is_known, same_ids}, ContentLaws.{ids_total, ids_exact, ids_decide}}, proofs.{KnownIds.member-append, Replaced.with_ids_member}}
 use Rattle.std.specs.FinMap as fin
-use Rattle.std.proofs.lemmas.Bool.{eq-eqb, ne_eqb}
-use Rattle.std.proofs.lemmas.Bool.Decides.{same_from_decides}
-use Rattle.std.specs.Bool.{Decides}
-use Rattle.std.proofs.Math.Bool.{or_assoc, or_comm}
-use Rattle.stn_records.proofs.{KnownIds.member-append, Replaced.with_ids_member}
 use Rattle.stn_questions.specs.Records.{AreKnown}
 
 pub laws : IsEquivalence same_ids

@@ -1,19 +1,10 @@
 -- How long the steps of a plan last, by its bounds.
-use Rattle.std.proofs.Common.{◌≡◌, ℕ, ℤ, zero, suc, ◌+◌, ◌*◌, ◌<◌, ◌≤◌, List, [], ◌∷◌, ◌++◌, length, drop, get_or, Result, Ok, Err, refl, sym, ap, ◌∙◌, arith, length-append, length-drop, ⊎_elim}
-use Rattle.std.proofs.lemmas.List.{get_or-drop, get_or_append_left, get_or-append_right, get_or_at}
-use Rattle.std.proofs.lemmas.Bool.{cases_lt}
-use Rattle.std.specs.Result.{result_unwrap_or}
-use Rattle.stn_lift.proofs.FewBounds.{length-duration_bounds}
-use Rattle.stn_net.specs.{Difference.Difference, Horizon.horizon_bounds, Schedule.times_of}
-use Rattle.stn_net.proofs.Horizons.{length-horizon_bounds}
+use Rattle.std.{proofs.{Common.{◌≡◌, ℕ, ℤ, zero, suc, ◌+◌, ◌*◌, ◌<◌, ◌≤◌, List, [], ◌∷◌, ◌++◌, length, drop, get_or, Result, Ok, Err, refl, sym, ap, ◌∙◌, arith, length-append, length-drop, ⊎_elim}, lemmas.{List.{get_or-drop, get_or_append_left, get_or-append_right, get_or_at}, Bool.cases_lt}}, specs.Result.result_unwrap_or}
+use Rattle.stn_lift.{proofs.{FewBounds.length-duration_bounds, Steps.length-activities}, specs.{declared.{plan.fault.PlanFault.{PlanFault, TheVariants.{TooLong, Syntax, Number, Negative, TooManySteps, Memory}}, fault.{LiftFault.LiftFault, BaseFault.BaseFault}}, Plan.Steps.{PlannedStep, plan_of, is_memory}, Activities.{Activity, activities}, BaseBounds.{duration_bound, duration_bounds, duration_of, events_interfere, event_times, orders, lifted_bounds}, PlanSource.{files, of_lift, steps_in, lifted, activities_of, source_with, base_of, base_bounds, events_of, IsSoundSource}}}
+use Rattle.stn_net.{specs.{Difference.Difference, Horizon.horizon_bounds, Schedule.times_of}, proofs.Horizons.length-horizon_bounds}
 use Rattle.stn_pddl.specs.{declared.fault.DomainFault.DomainFault, Schemas.ActionSchema, Domains.domain_of}
-use Rattle.stn_lift.specs.{declared.plan.fault.PlanFault.PlanFault, Plan.Steps.PlannedStep, Plan.Steps.plan_of, Plan.Steps.is_memory, declared.fault.LiftFault.LiftFault, declared.fault.BaseFault.BaseFault, Activities.Activity, Activities.activities}
 use Rattle.stn_text.specs.Faults.{Fails}
-use Rattle.stn_lift.specs.declared.plan.fault.PlanFault.TheVariants.{TooLong, Syntax, Number, Negative, TooManySteps, Memory}
-use Rattle.stn_lift.specs.BaseBounds.{duration_bound, duration_bounds, duration_of, events_interfere, event_times, orders, lifted_bounds}
-use Rattle.stn_lift.specs.PlanSource.{files, of_lift, steps_in, lifted, activities_of, source_with, base_of, base_bounds, events_of, IsSoundSource}
-use Rattle.stn_lift.proofs.Steps.{length-activities}
-use Rattle.stn_questions.specs.{Steps.planned_steps, Durations.least_of, Durations.AreDurations}
+use Rattle.stn_questions.specs.{Steps.planned_steps, Durations.{least_of, AreDurations}}
 
 duration_at : (duration : ℕ → ℤ) (steps place : ℕ) (d : Difference) → place < steps → get_or (duration_bounds duration steps) place d ≡ duration_bound place (duration place)
 unfolding duration_bounds
@@ -62,15 +53,6 @@ unfolding lifted
 plan_was_read domain plan based =
     let found = has_base domain plan (lifted domain plan) based in
     read_in (domain_of domain) (plan_of plan) found.0 found.1
-
--- a plan that was read before has no fault but lack of memory
-pub only_memory : (fault : PlanFault) (meaning : Result (List PlannedStep) PlanFault) (steps : List PlannedStep) → Fails is_memory fault meaning → meaning ≡ Ok steps → fault ≡ Memory
-only_memory Memory meaning steps fails read = refl
-only_memory TooLong meaning steps fails read = cc
-only_memory (Syntax line) meaning steps fails read = cc
-only_memory (Number line) meaning steps fails read = cc
-only_memory (Negative line) meaning steps fails read = cc
-only_memory TooManySteps meaning steps fails read = cc
 
 -- after the horizon bounds come those of the durations
 bounds_last : (first middle last : List Difference) (events place : ℕ) (d : Difference) → length first ≡ events → place < length middle

@@ -1,17 +1,9 @@
 -- Where there are tightest differences along which chains lead, each event has its level and its way.
-use Rattle.std.proofs.Common.{◌≡◌, inl, inr, ℕ, zero, suc, ◌+◌, ◌*◌, ◌<◌, ◌≤◌, List, [], ◌∷◌, ◌++◌, length, refl, sym, subst, ap, ◌∙◌, arith}
-use Rattle.std.specs.Prelude.{ℤ, ◌+ℤ◌, ◌≤ℤ◌}
-use Rattle.std.specs.List.{AllByRecursion}
-use Rattle.std.proofs.lemmas.Bool.{cases_lt, cases_eq}
-use Rattle.std.proofs.lemmas.Int.{ints}
-use Rattle.std.proofs.lemmas.List.{length_push}
+use Rattle.std.{proofs.{Common.{◌≡◌, inl, inr, ℕ, zero, suc, ◌+◌, ◌*◌, ◌<◌, ◌≤◌, List, [], ◌∷◌, ◌++◌, length, refl, sym, subst, ap, ◌∙◌, arith}, lemmas.{Bool.{cases_lt, cases_eq}, Int.ints, List.length_push}}, specs.{Prelude.{ℤ, ◌+ℤ◌, ◌≤ℤ◌}, List.AllByRecursion}}
 use Rattle.stn_time.proofs.Each.{each_parted, each_pushed}
-use Rattle.stn_net.specs.Difference.{Difference, NamesEvents}
-use Rattle.stn_conflict.specs.{declared.links.Link.Link, declared.links.Side.Side, declared.links.Side.TheVariants.Upper, declared.links.Side.TheVariants.Lower, Arcs.arc, Arcs.arc_of, Arcs.bound_at, Arcs.IsChain, Arcs.weight_of, Named.IsTight, Named.IsTightChain, Named.IsLevel, Named.IsStep, Named.IsFirstStep, Named.IsWay}
-use Rattle.stn_conflict.proofs.{Tightness.link_reaches, Tightness.tight_from_sum, Tightness.sum_from_tight, Chains.chain-push, Chains.chain-unpush, Chains.last_of, OneCycle.level_unique, Steps.rank_within}
-use Rattle.stn_questions.proofs.Found.{AreFound, tightest_found}
-use Rattle.stn_net.proofs.Told.{Told, both_told, told_as, same_told, least_below}
-use Rattle.stn_questions.proofs.Chosen.{first_below, first_of_some}
+use Rattle.stn_net.{specs.Difference.{Difference, NamesEvents}, proofs.Told.{Told, both_told, told_as, same_told, least_below}}
+use Rattle.stn_conflict.{specs.{declared.links.{Link.Link, Side.{Side, TheVariants.{Upper, Lower}}}, Arcs.{arc, arc_of, bound_at, IsChain, weight_of}, Named.{IsTight, IsTightChain, IsLevel, IsStep, IsFirstStep, IsWay}}, proofs.{Tightness.{link_reaches, tight_from_sum, sum_from_tight}, Chains.{chain-push, chain-unpush, last_of}, OneCycle.level_unique, Steps.rank_within}}
+use Rattle.stn_questions.proofs.{Found.{AreFound, tightest_found}, Chosen.{first_below, first_of_some}}
 
 -- the ends of a side of a bound are its events
 pub ends_within : (events : ℕ) (bound : Difference) (side : Side) → NamesEvents events bound → ((arc bound side).from ≤ events) × ((arc bound side).to ≤ events)

@@ -1,12 +1,9 @@
 -- Texts that grow by a line.
-use Rattle.std.proofs.Common.{◌≡◌, ℕ, ℤ, zero, suc, ◌+◌, List, [], ◌∷◌, ◌++◌, length, map, take, get_or, ◌<◌, refl, sym, ap, ◌∙◌, arith, append_assoc}
-use Rattle.std.proofs.lemmas.List.{append-nil, take_more, length-map, length-take, get_or_read, map_more}
-use Rattle.std.proofs.lemmas.List.Concat.{flat_map-append}
-use Rattle.std.specs.List.{flat_map, range_with_len}
+use Rattle.std.{proofs.{Common.{◌≡◌, ℕ, ℤ, zero, suc, ◌+◌, List, [], ◌∷◌, ◌++◌, length, map, take, get_or, ◌<◌, refl, sym, ap, ◌∙◌, arith, append_assoc}, lemmas.List.{append-nil, take_more, length-map, length-take, get_or_read, map_more, Concat.flat_map-append}}, specs.List.{flat_map, range_with_len}}
 use Rattle.stn_net.specs.Difference.{Difference}
 use Rattle.stn_lift.specs.Plan.Steps.{PlannedStep}
 use Rattle.stn_site.specs.Lines.{line}
-use Rattle.stn_questions.specs.{Durations.least_of, Steps.name_text, Steps.name_lines, Steps.step_line, Steps.step_lines}
+use Rattle.stn_questions.specs.{Durations.least_of, Steps.{name_text, name_lines, step_line, step_lines}}
 
 -- a line of five parts, one after the other
 pub line_in_parts : (front first second third fourth fifth t1 t2 t3 t4 t5 t6 : List ℕ) → t1 ≡ front ++ first → t2 ≡ t1 ++ second → t3 ≡ t2 ++ third → t4 ≡ t3 ++ fourth

@@ -1,12 +1,7 @@
 -- One list says which events are ready.
-use Rattle.std.proofs.Common.{◌≡◌, ℕ, ℤ, zero, suc, ◌+◌, ◌<◌, Bool, true, false, cond, eqb, List, [], ◌∷◌, length, get_or, All, Some, refl, sym, ap, subst, ◌∙◌, arith, ⊎_elim}
-use Rattle.std.proofs.{lemmas.Bool.cases_lt, lemmas.Bool.Decides.nat_tests, lemmas.Int.ints, lemmas.List.Elements.All-tail, lemmas.List.Sums.sum_by-cons}
-use Rattle.std.specs.List.{AllPairs}
-use Rattle.std.proofs.lemmas.Bool.{eq-eqb}
-use Rattle.stn_net.specs.Difference.{Difference}
-use Rattle.stn_net.specs.Windows.Dispatch.{IsReady, AreReadyTimes}
-use Rattle.stn_questions.specs.{declared.ready_event.ReadyEvent.ReadyEvent, Ready.IsBefore, Ready.AreReadyEvents}
-use Rattle.stn_questions.proofs.ReadyLists.{counted, HasTimes}
+use Rattle.std.{proofs.{Common.{◌≡◌, ℕ, ℤ, zero, suc, ◌+◌, ◌<◌, Bool, true, false, cond, eqb, List, [], ◌∷◌, length, get_or, All, Some, refl, sym, ap, subst, ◌∙◌, arith, ⊎_elim}, lemmas.{Bool.{cases_lt, eq-eqb, Decides.nat_tests}, Int.ints, List.{Elements.All-tail, Sums.sum_by-cons}}}, specs.List.AllPairs}
+use Rattle.stn_net.specs.{Difference.Difference, Windows.Dispatch.{IsReady, AreReadyTimes}}
+use Rattle.stn_questions.{specs.{declared.ready_event.ReadyEvent.ReadyEvent, Ready.{IsBefore, AreReadyEvents}}, proofs.ReadyLists.{counted, HasTimes}}
 
 abbrev one_or_none : Bool → ℕ
 one_or_none same = cond same 1 0

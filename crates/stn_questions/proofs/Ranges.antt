@@ -1,9 +1,6 @@
 -- How far two events can be apart: every time between two such times is one.
-use Rattle.std.proofs.Common.{◌≡◌, ℕ, ℤ, ◌+ℤ◌, ◌-ℤ◌, ◌≤ℤ◌, neg_ℤ, List, get_or, refl, arith}
-use Rattle.std.specs.Int.{int_min}
-use Rattle.std.proofs.lemmas.Int.{ints, clamps}
-use Rattle.stn_net.specs.{Difference.Difference, Schedule.IsSchedule, Schedule.HasSchedule}
-use Rattle.stn_net.specs.Matrix.Tightest.{IsTightest}
+use Rattle.std.{proofs.{Common.{◌≡◌, ℕ, ℤ, ◌+ℤ◌, ◌-ℤ◌, ◌≤ℤ◌, neg_ℤ, List, get_or, refl, arith}, lemmas.Int.{ints, clamps}}, specs.Int.int_min}
+use Rattle.stn_net.specs.{Difference.Difference, Schedule.{IsSchedule, HasSchedule}, Matrix.Tightest.IsTightest}
 use Rattle.stn_questions.specs.Repair.Ranges.{CanBeApart, IsRange}
 
 -- a range has one pair of ends, where there is a schedule

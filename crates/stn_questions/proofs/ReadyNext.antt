@@ -1,14 +1,10 @@
 -- The first of the events that are ready is the one that comes next, and all may run until the same time.
-use Rattle.std.proofs.Common.{◌≡◌, ℕ, ℤ, ◌+ℤ◌, ◌-ℤ◌, ◌≤ℤ◌, ◌<ℤ◌, suc, Bool, List, [], ◌∷◌, get_or, All, sym, ap, subst, ◌∙◌, arith, ⊎_elim}
-use Rattle.std.proofs.lemmas.Int.{ints, clamps, by_lt_z}
-use Rattle.std.specs.{Int.int_min, List.flat_map}
-use Rattle.stn_net.specs.{Difference.Difference, Schedule.IsSchedule, declared.windows.answers.Next.TheVariants.Run, Windows.Dispatch.LeavesNoneBefore, Windows.Dispatch.IsReady, Windows.Dispatch.IsFirstReady}
-use Rattle.stn_net.proofs.{OneAnswer.one_next, WindowEnds.lesser_schedule}
+use Rattle.std.{proofs.{Common.{◌≡◌, ℕ, ℤ, ◌+ℤ◌, ◌-ℤ◌, ◌≤ℤ◌, ◌<ℤ◌, suc, Bool, List, [], ◌∷◌, get_or, All, sym, ap, subst, ◌∙◌, arith, ⊎_elim}, lemmas.Int.{ints, clamps, by_lt_z}}, specs.{Int.int_min, List.flat_map}}
+use Rattle.stn_net.{specs.{Difference.Difference, Schedule.IsSchedule, declared.windows.answers.Next.TheVariants.Run, Windows.Dispatch.{LeavesNoneBefore, IsReady, IsFirstReady}}, proofs.{OneAnswer.one_next, WindowEnds.lesser_schedule}}
 use Rattle.stn_lift.specs.PlanSource.{PlanSource}
 use Rattle.stn_records.specs.Content.{Content}
 use Rattle.stn_site.specs.{Bounds.all_bounds, Report.done_events}
-use Rattle.stn_questions.specs.{declared.ready_event.ReadyEvent.ReadyEvent, Ready.AreReadyEvents, Ready.AreReadyLines, Ready.IsReadyAnswer, Ready.IsReadyText, Ready.ready_line, Ready.BeginsWithNext}
-use Rattle.stn_questions.proofs.{OneReady.stands, OneReady.first_before, ReadyLists.HasTimes}
+use Rattle.stn_questions.{specs.{declared.ready_event.ReadyEvent.ReadyEvent, Ready.{AreReadyEvents, AreReadyLines, IsReadyAnswer, IsReadyText, ready_line, BeginsWithNext}}, proofs.{OneReady.{stands, first_before}, ReadyLists.HasTimes}}
 
 module _ (bounds : List Difference) (done : List Bool) (now : ℤ) where
   -- an event that is ready is so later too, as long as in some schedule no event that is left comes before that

@@ -1,6 +1,5 @@
 -- Why a window ends where it does, and why two events come no closer and no further apart.
-use Rattle.std.proofs.Common.{◌≡◌, ℕ, ℤ, neg_ℤ, ◌+◌, List, ◌++◌, Option, Some, None, Result, Ok, Err, refl, subst, ap, ◌∙◌}
-use Rattle.std.specs.Prelude.{◌↔◌, if◌then◌else◌, is_ok, IsNone, IfOk, IfSome, MatchOption, OnOk}
+use Rattle.std.{proofs.Common.{◌≡◌, ℕ, ℤ, neg_ℤ, ◌+◌, List, ◌++◌, Option, Some, None, Result, Ok, Err, refl, subst, ap, ◌∙◌}, specs.Prelude.{◌↔◌, if◌then◌else◌, is_ok, IsNone, IfOk, IfSome, MatchOption, OnOk}}
 use Rattle.stn_net.specs.{Difference.Difference, Schedule.HasSchedule}
 use Rattle.stn_lift.specs.PlanSource.{PlanSource, events_of}
 use Rattle.stn_records.specs.Content.{Content}

@@ -1,24 +1,12 @@
 -- Each plan and each state have an answer to each question about events that the plan has.
-use Rattle.std.proofs.Common.{◌≡◌, inl, inr, ℕ, ℤ, ◌⊎◌, ◌≤◌, ◌<◌, true, ◌||◌, List, [], ◌∷◌, ◌++◌, neg_ℤ, map, Less, refl, sym, ap, ◌∙◌, arith}
-use Rattle.std.specs.{List.AllByRecursion, List.flat_map, List.Sorted.IsStrictlySortedBy, Set.is_member, FinMap.is_sorted, FinMap.contains_key-keys, FinMap.Entries.below_all}
+use Rattle.std.{proofs.{Common.{◌≡◌, inl, inr, ℕ, ℤ, ◌⊎◌, ◌≤◌, ◌<◌, true, ◌||◌, List, [], ◌∷◌, ◌++◌, neg_ℤ, map, Less, refl, sym, ap, ◌∙◌, arith}, lemmas.{Bool.{cases_lt, and_parts}, Map.Views.{Contains-from_any, list_any-from_Contains}}}, specs.{List.{AllByRecursion, flat_map, Sorted.IsStrictlySortedBy}, Set.is_member, FinMap.{is_sorted, contains_key-keys, Entries.below_all}}}
 use Rattle.std.specs.FinMap as fin
-use Rattle.std.proofs.lemmas.Bool.{cases_lt, and_parts}
-use Rattle.std.proofs.lemmas.Map.Views.{Contains-from_any, list_any-from_Contains}
-use Rattle.stn_net.specs.{Difference.Difference, Matrix.Tightest.IsTightest}
-use Rattle.stn_net.specs.Windows.Window.{IsWindow}
-use Rattle.stn_net.proofs.WindowEnds.{window_of_ends}
+use Rattle.stn_net.{specs.{Difference.Difference, Matrix.Tightest.IsTightest, Windows.Window.IsWindow}, proofs.WindowEnds.window_of_ends}
 use Rattle.stn_lift.specs.PlanSource.{PlanSource, events_of}
-use Rattle.stn_records.specs.{Id.SiteCounter, Id.id_cmp, Id.same_ids, Content.Content, Content.IdSet, Content.with_ids, Content.replaced_set, Content.is_known}
-use Rattle.stn_records.proofs.{Entries.in_order, Entries.less_is, Replaced.with_ids_member}
-use Rattle.stn_conflict.specs.{declared.links.Link.Link, Arcs.weight_of, Named.IsWay}
-use Rattle.stn_conflict.proofs.CycleSums.{weight_of_way}
+use Rattle.stn_records.{specs.{Id.{SiteCounter, id_cmp, same_ids}, Content.{Content, IdSet, with_ids, replaced_set, is_known}}, proofs.{Entries.{in_order, less_is}, Replaced.with_ids_member}}
+use Rattle.stn_conflict.{specs.{declared.links.Link.Link, Arcs.weight_of, Named.IsWay}, proofs.CycleSums.weight_of_way}
 use Rattle.stn_site.specs.{Bounds.all_bounds, Report.IsConflictPart}
-use Rattle.stn_questions.specs.Repair.Ranges.{IsRange}
-use Rattle.stn_questions.proofs.Ranges.{range_of_ends}
-use Rattle.stn_questions.specs.{declared.asked.Question.Question, Answer.IsAnswer, Answer.AsksOfNoEvent, Records.AreKnown, Records.record_line, Steps.steps_text, Bounds.bounds_text}
-use Rattle.stn_questions.specs.declared.asked.Question.TheVariants.{Records, Steps, Bounds, Why, WhyApart}
-use Rattle.stn_questions.specs.Why.{end_text, IsReasonPart}
-use Rattle.stn_questions.proofs.{Found.AreFound, Found.possible_found, Found.tightest_found, Levels.some_way, SomeReport.IsSoundState, SomeReport.differences, SomeReport.some_conflict, KnownOnce.laws, KnownOnce.same_is}
+use Rattle.stn_questions.{specs.{Repair.Ranges.IsRange, declared.asked.Question.{Question, TheVariants.{Records, Steps, Bounds, Why, WhyApart}}, Answer.{IsAnswer, AsksOfNoEvent}, Records.{AreKnown, record_line}, Steps.steps_text, Bounds.bounds_text, Why.{end_text, IsReasonPart}}, proofs.{Ranges.range_of_ends, Found.{AreFound, possible_found, tightest_found}, Levels.some_way, SomeReport.{IsSoundState, differences, some_conflict}, KnownOnce.{laws, same_is}}}
 
 -- ---- the known ids
 module _ {X : Type 0} where

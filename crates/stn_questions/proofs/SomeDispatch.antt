@@ -1,20 +1,13 @@
 -- From each time on, each plan and each state have what comes next, a rehearsal and a text of the events that are ready.
-use Rattle.std.proofs.Common.{◌≡◌, ◌⊎◌, inl, inr, ℕ, ℤ, ◌+◌, Bool, List, ◌++◌, length, codes, refl}
-use Rattle.std.specs.List.{flat_map}
-use Rattle.stn_net.specs.{Event.event_text, Schedule.HasSchedule, declared.windows.answers.Next.Next, Windows.Dispatch.IsNext, Windows.Rehearsal.IsRehearsal, Windows.Rehearsal.IsRehearseFault}
-use Rattle.stn_net.specs.Matrix.Table.{Table}
-use Rattle.stn_net.specs.declared.windows.answers.Next.TheVariants.{Run, AllDone, Overdue}
+use Rattle.std.{proofs.Common.{◌≡◌, ◌⊎◌, inl, inr, ℕ, ℤ, ◌+◌, Bool, List, ◌++◌, length, codes, refl}, specs.List.flat_map}
+use Rattle.stn_net.{specs.{Event.event_text, Schedule.HasSchedule, declared.windows.answers.Next.{Next, TheVariants.{Run, AllDone, Overdue}}, Windows.{Dispatch.IsNext, Rehearsal.{IsRehearsal, IsRehearseFault}}, Matrix.Table.Table}, proofs.{Fixed.{table_of, exact_of_tightest}, SomeNext.{AreFlagged, some_next as next_by_table}, SomeRehearsal.rehearsed_or_overdue, Rehearsals.{rehearsed_schedule, rehearsed_rising, rehearsed_in_time, rehearsed_once}}}
 use Rattle.stn_net.specs.declared.windows.answers.RehearseFault.TheVariants as fault
-use Rattle.stn_net.proofs.{Fixed.table_of, Fixed.exact_of_tightest, SomeNext.AreFlagged, SomeNext.some_next as next_by_table, SomeRehearsal.rehearsed_or_overdue}
-use Rattle.stn_net.proofs.Rehearsals.{rehearsed_schedule, rehearsed_rising, rehearsed_in_time, rehearsed_once}
 use Rattle.stn_lift.specs.PlanSource.{PlanSource, events_of}
 use Rattle.stn_records.specs.Content.{Content, AllProper}
 use Rattle.stn_conflict.proofs.Tightness.{schedule_before}
 use Rattle.stn_site.specs.{Bounds.all_bounds, Lines.line}
-use Rattle.stn_replica.specs.Dispatch.{IsRestWith}
-use Rattle.stn_replica.proofs.Rest.{rest_of_plan}
-use Rattle.stn_questions.specs.Ready.{IsReadyWith, ready_line}
-use Rattle.stn_questions.proofs.{Found.possible_found, Found.tightest_found, SomeReport.IsSoundState, SomeReport.differences, SomeReady.some_ready_events}
+use Rattle.stn_replica.{specs.Dispatch.IsRestWith, proofs.Rest.rest_of_plan}
+use Rattle.stn_questions.{specs.Ready.{IsReadyWith, ready_line}, proofs.{Found.{possible_found, tightest_found}, SomeReport.{IsSoundState, differences}, SomeReady.some_ready_events}}
 
 module _ (source : PlanSource) (state : Content) (sound : IsSoundState source state) where
   -- all bounds have a schedule, or none

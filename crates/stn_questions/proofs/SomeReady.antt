@@ -1,15 +1,7 @@
 -- The events that are ready have a list in their order.
-use Rattle.std.proofs.Common.{◌≡◌, ◌⊎◌, inl, inr, ℕ, ℤ, zero, suc, ◌+◌, ◌<◌, Bool, eqb, cond, List, [], ◌∷◌, ◌++◌, get_or, All, Option, Some, None, refl, ◌∙◌, arith}
-use Rattle.std.specs.List.{AllPairs, Sorted.IsPermutation}
-use Rattle.std.proofs.{lemmas.Bool.cases_lt, lemmas.Int.ints, lemmas.Int.by_lt_z}
-use Rattle.std.proofs.lemmas.List.{Elements.All-nil, Elements.All-cons, Elements.All-push, Kept.AllPairs-cons}
-use Rattle.std.proofs.lemmas.List.Sorted.{IsPermutation-refl, IsPermutation-cons, IsPermutation-middle, IsPermutation-trans, All-permutation, sum_by-IsPermutation}
-use Rattle.stn_net.specs.Difference.{Difference}
-use Rattle.stn_net.specs.Matrix.Table.{Table}
-use Rattle.stn_net.specs.Windows.Dispatch.{AreReadyTimes}
-use Rattle.stn_net.proofs.{Readiness.left_within, ReadyTimes.some_ready_times, SomeNext.AreFlagged}
-use Rattle.stn_questions.specs.{declared.ready_event.ReadyEvent.ReadyEvent, Ready.IsBefore, Ready.AreReadyEvents}
-use Rattle.stn_questions.proofs.{OneReady.first_before, ReadyLists.counted, ReadyLists.HasTimes, ReadyLists.HasEach, ReadyLists.pushed_other, ReadyLists.each_pushed, ReadyLists.each_kept}
+use Rattle.std.{proofs.{Common.{◌≡◌, ◌⊎◌, inl, inr, ℕ, ℤ, zero, suc, ◌+◌, ◌<◌, Bool, eqb, cond, List, [], ◌∷◌, ◌++◌, get_or, All, Option, Some, None, refl, ◌∙◌, arith}, lemmas.{Bool.cases_lt, Int.{ints, by_lt_z}, List.{Elements.{All-nil, All-cons, All-push}, Kept.AllPairs-cons, Sorted.{IsPermutation-refl, IsPermutation-cons, IsPermutation-middle, IsPermutation-trans, All-permutation, sum_by-IsPermutation}}}}, specs.List.{AllPairs, Sorted.IsPermutation}}
+use Rattle.stn_net.{specs.{Difference.Difference, Matrix.Table.Table, Windows.Dispatch.AreReadyTimes}, proofs.{Readiness.left_within, ReadyTimes.some_ready_times, SomeNext.AreFlagged}}
+use Rattle.stn_questions.{specs.{declared.ready_event.ReadyEvent.ReadyEvent, Ready.{IsBefore, AreReadyEvents}}, proofs.{OneReady.first_before, ReadyLists.{counted, HasTimes, HasEach, pushed_other, each_pushed, each_kept}}}
 
 -- ---- an order
 before_or_after : (x y : ReadyEvent) → IsBefore x y ⊎ IsBefore y x

@@ -1,17 +1,11 @@
 -- Each plan and each state have a report.
-use Rattle.std.proofs.Common.{◌⊎◌, inl, inr, ℕ, zero, suc, ◌≤◌, Bool, List, [], ◌++◌, codes, neg_ℤ, refl, arith}
-use Rattle.std.specs.Prelude.{ℤ, All}
-use Rattle.std.specs.List.{flat_map}
-use Rattle.std.proofs.lemmas.Int.{ints}
-use Rattle.std.proofs.lemmas.List.Elements.{All-append}
-use Rattle.stn_net.specs.{Difference.Difference, Difference.IsBoundWithin}
+use Rattle.std.{proofs.{Common.{◌⊎◌, inl, inr, ℕ, zero, suc, ◌≤◌, Bool, List, [], ◌++◌, codes, neg_ℤ, refl, arith}, lemmas.{Int.ints, List.Elements.All-append}}, specs.{Prelude.{ℤ, All}, List.flat_map}}
+use Rattle.stn_net.specs.Difference.{Difference, IsBoundWithin}
 use Rattle.stn_lift.specs.PlanSource.{PlanSource, events_of, base_bounds, IsSoundSource}
 use Rattle.stn_records.specs.Content.{Content}
-use Rattle.stn_conflict.specs.Arcs.{weight_of}
-use Rattle.stn_conflict.proofs.Known.{known_within, known_first}
-use Rattle.stn_site.specs.{Bounds.all_bounds, Bounds.live_bounds, Names.live_ids, Lines.line, Lines.window_line, Lines.conflict_line, Lines.link_line, Report.is_done, Report.heading, Report.IsWindowLines, Report.IsConflictPart, Report.IsReport}
-use Rattle.stn_questions.proofs.Found.{AreFound, IsFirstRefused, IsInOrder, possible_found, window_found, found_or_refused}
-use Rattle.stn_questions.proofs.Cycles.{some_cycle}
+use Rattle.stn_conflict.{specs.Arcs.weight_of, proofs.Known.{known_within, known_first}}
+use Rattle.stn_site.specs.{Bounds.{all_bounds, live_bounds}, Names.live_ids, Lines.{line, window_line, conflict_line, link_line}, Report.{is_done, heading, IsWindowLines, IsConflictPart, IsReport}}
+use Rattle.stn_questions.proofs.{Found.{AreFound, IsFirstRefused, IsInOrder, possible_found, window_found, found_or_refused}, Cycles.some_cycle}
 
 -- a window for each of the first events
 some_windows : (bounds : List Difference) (events : ℕ) (far : ℕ → ℕ → ℤ) (done : ℕ → Bool) → AreFound bounds events far → (n : ℕ) → n ≤ events

@@ -2,8 +2,7 @@
 use Rattle.std.specs.Prelude.{◌≡◌, ◌<◌, ℕ, List}
 use Rattle.stn_lift.specs.PlanSource.{PlanSource, events_of}
 use Rattle.stn_records.specs.Content.{Content}
-use Rattle.stn_questions.specs.{declared.asked.Question.Question, Records.IsRecordsText, Steps.steps_text, Bounds.bounds_text, Why.IsWhyText, Why.IsApartText, Why.NamesNoEvent}
-use Rattle.stn_questions.specs.declared.asked.Question.TheVariants.{Records, Steps, Bounds, Why, WhyApart}
+use Rattle.stn_questions.specs.{declared.asked.Question.{Question, TheVariants.{Records, Steps, Bounds, Why, WhyApart}}, Records.IsRecordsText, Steps.steps_text, Bounds.bounds_text, Why.{IsWhyText, IsApartText, NamesNoEvent}}
 
 -- the text answers the question about a plan and a state
 abbrev pub IsAnswer : PlanSource → Content → Question → List ℕ → Type 0

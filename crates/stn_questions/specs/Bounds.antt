@@ -1,12 +1,11 @@
 -- What `bounds` prints.
-use Rattle.std.specs.Prelude.{ℕ, ℤ, neg_ℤ, List, ◌++◌, length, codes, if◌then◌else◌}
-use Rattle.std.specs.{List.flat_map, List.range_with_len, Ordering.int_eq}
+use Rattle.std.specs.{Prelude.{ℕ, ℤ, neg_ℤ, List, ◌++◌, length, codes, if◌then◌else◌}, List.{flat_map, range_with_len}, Ordering.int_eq}
 use Rattle.stn_time.specs.{Time.horizon, Text.printed}
 use Rattle.stn_net.specs.{Difference.Difference, Event.event_text}
 use Rattle.stn_lift.specs.PlanSource.{PlanSource, base_bounds}
 use Rattle.stn_records.specs.{Id.SiteCounter, Content.Content}
 use Rattle.stn_conflict.specs.Arcs.{bound_at}
-use Rattle.stn_site.specs.{declared.names.BoundName.BoundName, Bounds.all_bounds, Bounds.live_bounds, Lines.line, Names.live_ids, Names.name_in, Names.name_text}
+use Rattle.stn_site.specs.{declared.names.BoundName.BoundName, Bounds.{all_bounds, live_bounds}, Lines.line, Names.{live_ids, name_in, name_text}}
 
 -- the lower side of a bound: `*` where it is open, that is, at the lower horizon; else its time
 abbrev pub lower_text : ℤ → List ℕ

@@ -1,10 +1,8 @@
 -- For proofs alone: no public clause cites these words.
 -- What a search finds of the events that are left.
 use Rattle.std.specs.Prelude.{◌≡◌, ℕ, ℤ, ◌+◌, ◌≤◌, int_le, if◌then◌else◌, Bool, List, length, Option, Some, None}
-use Rattle.stn_net.specs.{Event.most_events, Difference.Difference, Schedule.HasSchedule, Schedule.times_of}
-use Rattle.stn_net.specs.Windows.{Dispatch.IsOverdue, Soonest.AreSoonest}
-use Rattle.stn_questions.specs.declared.foresight.Forecast.{Forecast as ForecastOfCode}
-use Rattle.stn_questions.specs.declared.foresight.Forecast.TheVariants.{Conflict, Overdue, Soonest}
+use Rattle.stn_net.specs.{Event.most_events, Difference.Difference, Schedule.{HasSchedule, times_of}, Windows.{Dispatch.IsOverdue, Soonest.AreSoonest}}
+use Rattle.stn_questions.specs.declared.foresight.Forecast.{Forecast as ForecastOfCode, TheVariants.{Conflict, Overdue, Soonest}}
 
 -- the soonest times of so many events and the origin
 pub record AreSoonestOf (bounds : List Difference) (events : ℕ) (done : List Bool) (now : ℤ) (times : List ℤ) : Type 0 where

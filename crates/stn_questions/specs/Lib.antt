@@ -1,7 +1,6 @@
 pub mod Answer
 pub mod Bounds
 pub mod Durations
-pub mod Picture
 pub mod Ready
 pub mod Records
 pub mod Repair

@@ -1,11 +1,9 @@
 -- What `ready` prints.
-use Rattle.std.specs.Prelude.{◌≡◌, ◌⊎◌, ℕ, ℤ, ◌==◌, ◌≤ℤ◌, Bool, List, ◌∷◌, ◌++◌, codes, All, Some, count_by}
-use Rattle.std.specs.List.{flat_map, AllPairs}
-use Rattle.stn_net.specs.{Difference.Difference, Event.event_text, Schedule.HasSchedule, Windows.Dispatch.IsReady, Windows.Dispatch.AreReadyTimes, Windows.Dispatch.ComesFirst, Windows.Dispatch.IsNext, declared.windows.answers.Next.Next}
-use Rattle.stn_net.specs.declared.windows.answers.Next.TheVariants.{Run, AllDone, Overdue}
+use Rattle.std.specs.{Prelude.{◌≡◌, ◌⊎◌, ℕ, ℤ, ◌==◌, ◌≤ℤ◌, Bool, List, ◌∷◌, ◌++◌, codes, All, Some, count_by}, List.{flat_map, AllPairs}}
+use Rattle.stn_net.specs.{Difference.Difference, Event.event_text, Schedule.HasSchedule, Windows.Dispatch.{IsReady, AreReadyTimes, ComesFirst, IsNext}, declared.windows.answers.Next.{Next, TheVariants.{Run, AllDone, Overdue}}}
 use Rattle.stn_lift.specs.PlanSource.{PlanSource}
 use Rattle.stn_records.specs.Content.{Content}
-use Rattle.stn_site.specs.{Bounds.all_bounds, Report.done_events, Lines.line, Lines.times_text}
+use Rattle.stn_site.specs.{Bounds.all_bounds, Report.done_events, Lines.{line, times_text}}
 use Rattle.stn_questions.specs.declared.ready_event.ReadyEvent.{ReadyEvent}
 
 -- the first event has the earlier first time; where the first times are equal, it has no greater number

@@ -1,10 +1,7 @@
 -- What `steps` prints.
-use Rattle.std.specs.Prelude.{ℕ, ℤ, ◌+◌, List, [], ◌∷◌, ◌++◌, codes, decimal}
-use Rattle.std.specs.{List.flat_map, List.range_with_len, Result.result_unwrap_or}
+use Rattle.std.specs.{Prelude.{ℕ, ℤ, ◌+◌, List, [], ◌∷◌, ◌++◌, codes, decimal, map}, List.{flat_map, range_with_len}, Result.result_unwrap_or}
 use Rattle.stn_time.specs.Text.{printed}
-use Rattle.stn_lift.specs.Plan.Steps.{PlannedStep, plan_of}
-use Rattle.stn_lift.specs.BaseBounds.{duration_of}
-use Rattle.stn_lift.specs.PlanSource.{PlanSource, bare, files, activities_of}
+use Rattle.stn_lift.specs.{Plan.Steps.{PlannedStep, plan_of}, BaseBounds.duration_of, PlanSource.{PlanSource, bare, files, activities_of}}
 use Rattle.stn_site.specs.Lines.{line}
 
 -- the action, and after a space each of its arguments
@@ -27,6 +24,18 @@ step_lines duration before (step ∷ steps) = step_line (before + 1) step (durat
 -- the steps of a plan text, in the order of its lines
 abbrev pub planned_steps : List ℕ → List PlannedStep
 planned_steps plan = result_unwrap_or (plan_of plan) []
+
+-- the name of a step: its action and its arguments
+abbrev pub step_name : PlannedStep → List ℕ
+step_name step = words_text step.action step.args
+
+-- the names of the steps of a plan text, and those of the steps of a plan, which a bare plan has not
+abbrev pub plan_names : List ℕ → List (List ℕ)
+plan_names plan = map step_name (planned_steps plan)
+
+abbrev pub source_names : PlanSource → List (List ℕ)
+source_names (bare steps) = []
+source_names (files domain plan) = plan_names plan
 
 -- the names of the steps after so many others, each in a line
 abbrev pub name_lines : ℕ → List PlannedStep → List ℕ

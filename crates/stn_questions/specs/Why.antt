@@ -1,13 +1,11 @@
 -- What `why` prints of an event, and of two.
-use Rattle.std.specs.Prelude.{◌≡◌, ◌⊎◌, ◌<◌, ℕ, ℤ, neg_ℤ, ◌+◌, List, ◌++◌, codes}
-use Rattle.std.specs.List.{flat_map}
+use Rattle.std.specs.{Prelude.{◌≡◌, ◌⊎◌, ◌<◌, ℕ, ℤ, neg_ℤ, ◌+◌, List, ◌++◌, codes}, List.flat_map}
 use Rattle.stn_time.specs.Text.{printed}
-use Rattle.stn_net.specs.{Difference.Difference, Event.event_text, Schedule.HasSchedule}
-use Rattle.stn_net.specs.Windows.Window.{IsWindow}
+use Rattle.stn_net.specs.{Difference.Difference, Event.event_text, Schedule.HasSchedule, Windows.Window.IsWindow}
 use Rattle.stn_lift.specs.PlanSource.{PlanSource, base_bounds, events_of}
 use Rattle.stn_records.specs.Content.{Content}
-use Rattle.stn_conflict.specs.{declared.links.Link.Link, declared.links.BothWays.BothWays, Arcs.weight_of, Named.IsWay, Named.IsWayOf}
-use Rattle.stn_site.specs.{Bounds.all_bounds, Bounds.live_bounds, Names.live_ids, Lines.line, Lines.times_text, Lines.window_line, Lines.link_line, Report.is_done, Report.IsConflictPart}
+use Rattle.stn_conflict.specs.{declared.links.{Link.Link, BothWays.BothWays}, Arcs.weight_of, Named.{IsWay, IsWayOf}}
+use Rattle.stn_site.specs.{Bounds.{all_bounds, live_bounds}, Names.live_ids, Lines.{line, times_text, window_line, link_line}, Report.{is_done, IsConflictPart}}
 use Rattle.stn_questions.specs.Repair.Ranges.{IsRange}
 
 -- `<word> <time>`, and the line of each link

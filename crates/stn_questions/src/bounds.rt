@@ -1,5 +1,4 @@
-ghost use Rattle.std.specs.Prelude.{◌≡◌, ◌+◌, ◌^◌, ◌<◌, ◌++◌, length, IfOk, OnOk, OnErr};
-ghost use Rattle.std.specs.List.{flat_map, range_with_len};
+ghost use Rattle.std.specs.{Prelude.{◌≡◌, ◌+◌, ◌^◌, ◌<◌, ◌++◌, length, IfOk, OnOk, OnErr}, List.{flat_map, range_with_len}};
 ghost use Rattle.stn_questions.specs.Bounds.{lower_text, upper_text, bound_text, named_line, listed_line, bounds_text};
 
 use std::alloc::Allocator;

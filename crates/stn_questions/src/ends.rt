@@ -1,12 +1,8 @@
-ghost use Rattle.std.specs.Prelude.{◌≡◌, ◌<◌, ◌≤◌, ◌++◌, neg_ℤ, length, codes, All, IfOk, OnOk, MatchOption};
-ghost use Rattle.std.specs.List.{flat_map};
-ghost use Rattle.stn_time.specs.Text.{printed};
-ghost use Rattle.stn_time.specs.Time.{IsWithinHorizon};
+ghost use Rattle.std.specs.{Prelude.{◌≡◌, ◌<◌, ◌≤◌, ◌++◌, neg_ℤ, length, codes, All, IfOk, OnOk, MatchOption}, List.flat_map};
+ghost use Rattle.stn_time.specs.{Text.printed, Time.IsWithinHorizon};
 ghost use Rattle.stn_net.specs.Schedule.{HasSchedule};
 ghost use Rattle.stn_lift.specs.PlanSource.{events_of, base_bounds};
-ghost use Rattle.stn_site.specs.Bounds.{all_bounds, live_bounds};
-ghost use Rattle.stn_site.specs.Names.{live_ids};
-ghost use Rattle.stn_site.specs.Lines.{line, link_line};
+ghost use Rattle.stn_site.specs.{Bounds.{all_bounds, live_bounds}, Names.live_ids, Lines.{line, link_line}};
 ghost use Rattle.stn_questions.specs.Why.{HoldEnds, end_text, ends_text};
 
 use std::alloc::Allocator;

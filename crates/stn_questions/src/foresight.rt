@@ -2,10 +2,7 @@
 //! matrix.
 
 ghost use Rattle.std.specs.Prelude.{◌≡◌, ◌⊎◌, ℕ, ◌+◌, length, IfOk, IfErr, MatchOption};
-ghost use Rattle.stn_net.specs.Schedule.{HasSchedule};
-ghost use Rattle.stn_net.specs.Windows.Dispatch.{IsNext, CanWaitUntil};
-ghost use Rattle.stn_net.specs.Windows.Rehearsal.{IsRehearseFault};
-ghost use Rattle.stn_net.specs.declared.windows.answers.RehearseFault.TheVariants.{Overdue, Memory as want_of_memory};
+ghost use Rattle.stn_net.specs.{Schedule.HasSchedule, Windows.{Dispatch.{IsNext, CanWaitUntil}, Rehearsal.IsRehearseFault}, declared.windows.answers.RehearseFault.TheVariants.{Overdue, Memory as want_of_memory}};
 ghost use Rattle.stn_lift.specs.PlanSource.{events_of};
 ghost use Rattle.stn_records.specs.Content.{AllProper};
 ghost use Rattle.stn_site.specs.Bounds.{all_bounds};

@@ -1,20 +1,9 @@
 ghost use Rattle.std.specs.Prelude.{◌≡◌, ◌⊎◌, ℕ, ℤ, ◌+◌, Bool, List, length, All};
-ghost use Rattle.stn_net.specs.Difference.{IsBoundWithin};
-ghost use Rattle.stn_net.specs.Schedule.{HasSchedule};
+ghost use Rattle.stn_net.specs.{Difference.IsBoundWithin, Schedule.HasSchedule, Windows.{Dispatch.IsNext, Rehearsal.{IsRehearsal, IsRehearseFault}}, declared.windows.answers.{Next.{Next, TheVariants.Run}, RehearseFault.TheVariants.Overdue}};
 ghost use Rattle.stn_lift.specs.PlanSource.{PlanSource, IsSoundSource, events_of};
 ghost use Rattle.stn_records.specs.Content.{Content};
-ghost use Rattle.stn_net.specs.Windows.Dispatch.{IsNext};
-ghost use Rattle.stn_net.specs.Windows.Rehearsal.{IsRehearsal, IsRehearseFault};
-ghost use Rattle.stn_net.specs.declared.windows.answers.Next.{Next};
-ghost use Rattle.stn_net.specs.declared.windows.answers.Next.TheVariants.{Run};
-ghost use Rattle.stn_net.specs.declared.windows.answers.RehearseFault.TheVariants.{Overdue};
-ghost use Rattle.stn_site.specs.Bounds.{all_bounds, live_bounds};
-ghost use Rattle.stn_site.specs.Report.{IsReport, done_events};
-ghost use Rattle.stn_site.specs.Held.{Held};
-ghost use Rattle.stn_site.specs.Calls.{Accepted, CameBy, TookSame, TookSameItems};
-ghost use Rattle.stn_questions.specs.declared.asked.Question.{Question};
-ghost use Rattle.stn_questions.specs.Answer.{AsksOfNoEvent, AsksOfPlan, IsAnswer};
-ghost use Rattle.stn_questions.specs.Ready.{BeginsWithNext, IsReadyText, IsReadyWith};
+ghost use Rattle.stn_site.specs.{Bounds.{all_bounds, live_bounds}, Report.{IsReport, done_events}, Held.Held, Calls.{Accepted, CameBy, TookSame, TookSameItems}};
+ghost use Rattle.stn_questions.specs.{declared.asked.Question.Question, Answer.{AsksOfNoEvent, AsksOfPlan, IsAnswer}, Ready.{BeginsWithNext, IsReadyText, IsReadyWith}};
 
 use stn_conflict::{negative_cycle_is_conflict, one_way};
 use stn_records::counts_same;

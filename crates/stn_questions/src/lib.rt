@@ -1,6 +1,6 @@
 //! Questions that people ask of a plan: which records, steps and bounds it has, what may run from now on,
 //! why an event's window ends where it does, why two events come no closer and no further apart, and what
-//! mends a conflict; and a picture of the plan. They change nothing.
+//! mends a conflict. They change nothing.
 #![tactic(auto)]
 
 pub use answer::print_answer;
@@ -13,10 +13,7 @@ pub use laws::{
     every_state_has_a_rehearsal, every_state_has_a_report, one_answer, one_ready_text,
     ready_begins_with_next, same_answers,
 };
-pub use picture::{
-    Span, bars_are_on_the_line, lines_are_escaped, one_picture, print_picture, same_pictures,
-    steps_have_rows,
-};
+pub use names::{source_names, step_names};
 pub use ready::print_ready_with;
 pub use ready_event::ReadyEvent;
 pub use records::print_records;
@@ -34,7 +31,7 @@ mod bounds;
 mod ends;
 mod foresight;
 mod laws;
-mod picture;
+mod names;
 mod ready;
 mod ready_event;
 mod records;

@@ -1,15 +1,8 @@
-ghost use Rattle.std.specs.Prelude.{◌≡◌, ℕ, ℤ, ◌+◌, ◌≤◌, ◌≤ℤ◌, ◌++◌, List, length, codes, IfOk, OnOk, OnErr, MatchOption};
-ghost use Rattle.std.specs.List.{flat_map};
-ghost use Rattle.stn_net.specs.Difference.{Difference};
-ghost use Rattle.stn_net.specs.Event.{event_text, most_events};
-ghost use Rattle.stn_net.specs.Schedule.{HasSchedule, times_of};
-ghost use Rattle.stn_net.specs.Windows.Dispatch.{IsLeft};
-ghost use Rattle.stn_net.specs.Windows.Leading.{AreReadyAt, IsLeastLatest};
+ghost use Rattle.std.specs.{Prelude.{◌≡◌, ℕ, ℤ, ◌+◌, ◌≤◌, ◌≤ℤ◌, ◌++◌, List, length, codes, IfOk, OnOk, OnErr, MatchOption}, List.flat_map};
+ghost use Rattle.stn_net.specs.{Difference.Difference, Event.{event_text, most_events}, Schedule.{HasSchedule, times_of}, Windows.{Dispatch.IsLeft, Leading.{AreReadyAt, IsLeastLatest}}};
 ghost use Rattle.stn_lift.specs.PlanSource.{events_of};
-ghost use Rattle.stn_site.specs.Bounds.{all_bounds};
-ghost use Rattle.stn_site.specs.Lines.{line};
-ghost use Rattle.stn_questions.specs.Foresight.{lesser_of};
-ghost use Rattle.stn_questions.specs.Ready.{AreReadyEvents, AreReadyLines, IsReadyAnswer, IsReadyWith, ready_line};
+ghost use Rattle.stn_site.specs.{Bounds.all_bounds, Lines.line};
+ghost use Rattle.stn_questions.specs.{Foresight.lesser_of, Ready.{AreReadyEvents, AreReadyLines, IsReadyAnswer, IsReadyWith, ready_line}};
 
 use crate::foresight::next_with;
 use crate::ready_event::ReadyEvent;

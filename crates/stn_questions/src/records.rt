@@ -1,5 +1,4 @@
-ghost use Rattle.std.specs.Prelude.{◌≡◌, ◌↔◌, ◌++◌, ℕ, List, map, Option, IsTrue, IfOk, OnOk, OnErr};
-ghost use Rattle.std.specs.List.{Any, flat_map};
+ghost use Rattle.std.specs.{Prelude.{◌≡◌, ◌↔◌, ◌++◌, ℕ, List, map, Option, IsTrue, IfOk, OnOk, OnErr}, List.{Any, flat_map}};
 ghost use Rattle.stn_questions.specs.Records.{AreKnown, IsRecordsText, amends_text, held_text, word_where, record_line};
 
 use crate::bounds::append_bound;

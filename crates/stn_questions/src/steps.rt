@@ -1,12 +1,8 @@
-ghost use Rattle.std.specs.Prelude.{◌≡◌, ◌≤◌, ◌++◌, ℕ, List, Ok, length, map, decimal, IfOk, OnOk, OnErr};
-ghost use Rattle.std.specs.List.{flat_map, range_with_len};
+ghost use Rattle.std.specs.{Prelude.{◌≡◌, ◌≤◌, ◌++◌, ℕ, List, Ok, length, map, decimal, IfOk, OnOk, OnErr}, List.{flat_map, range_with_len}};
 ghost use Rattle.stn_net.specs.Event.{most_steps};
-ghost use Rattle.stn_lift.specs.Plan.Steps.{plan_of};
-ghost use Rattle.stn_lift.specs.Plan.Views.{planned_step, word_of};
-ghost use Rattle.stn_lift.specs.PlanSource.{files};
+ghost use Rattle.stn_lift.specs.{Plan.{Steps.plan_of, Views.{planned_step, word_of}}, PlanSource.files};
 ghost use Rattle.stn_site.specs.Lines.{line};
-ghost use Rattle.stn_questions.specs.Durations.{least_of, AreDurations};
-ghost use Rattle.stn_questions.specs.Steps.{words_text, name_text, name_lines, step_line, step_lines, planned_steps, steps_text};
+ghost use Rattle.stn_questions.specs.{Durations.{least_of, AreDurations}, Steps.{words_text, name_text, name_lines, step_line, step_lines, planned_steps, steps_text}};
 
 use std::alloc::{AllocError, Allocator};
 use stn_lift::{Base, Plan, PlanFault, Source, Step};
@@ -80,7 +76,7 @@ fn append_planned<A: Allocator + Copy>(
 }
 
 // The plan of the text of one that was read before, so that nothing but memory can be lacking.
-fn read_again<'a, A: Allocator + Copy>(alloc: A, text: &'a [u8]) -> Result<Plan<'a, A>, Memory>
+pub fn read_again<'a, A: Allocator + Copy>(alloc: A, text: &'a [u8]) -> Result<Plan<'a, A>, Memory>
     requires { plan_of text.now ≡ Ok (planned_steps text.now) }
     ensures { IfOk result (λ plan. plan.steps ≡ planned_steps text.now) }
 {
@@ -163,7 +159,7 @@ fn append_name<'a, A: Allocator, B: Allocator>(
 }
 
 // Appends an action and its arguments, with a space before each of these.
-fn append_words<B: Allocator>(
+pub fn append_words<B: Allocator>(
     action: &[u8],
     arguments: &[&[u8]],
     out: &mut Vec<u8, B>,

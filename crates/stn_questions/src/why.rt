@@ -1,7 +1,6 @@
 ghost use Rattle.std.specs.Prelude.{◌≡◌, ◌↔◌, ◌<◌, ◌≤◌, ◌++◌, ℕ, List, IfOk, OnOk, OnErr, IsErrOf};
 ghost use Rattle.stn_lift.specs.PlanSource.{events_of};
-ghost use Rattle.stn_questions.specs.Why.{HoldEnds, IsWhyPart, IsWhyText};
-ghost use Rattle.stn_questions.specs.declared.why.WhyFault.TheVariants.{Memory as want_of_memory};
+ghost use Rattle.stn_questions.specs.{Why.{HoldEnds, IsWhyPart, IsWhyText}, declared.why.WhyFault.TheVariants.Memory as want_of_memory};
 
 use crate::ends::{append_ends, ends_of, times_of};
 use std::alloc::{AllocError, Allocator};

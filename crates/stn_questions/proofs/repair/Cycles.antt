@@ -1,17 +1,10 @@
 -- A record without which the others have a schedule lies on each negative cycle.
-use Rattle.std.proofs.Common.{◌≡◌, ◌≢◌, ℕ, ℤ, ◌+◌, ◌-◌, ◌<◌, ◌≤◌, true, false, not, cond, List, [], ◌∷◌, ◌++◌, length, map, get_or, refl, sym, ap, subst, ◌∙◌, inl, inr, ⊎_elim, arith, ◌⊎◌, length-append}
-use Rattle.std.specs.{Prelude.◌-ℤ◌, Prelude.◌≤ℤ◌, Prelude.nat_lt, List.Contains}
-use Rattle.std.proofs.{lemmas.Bool.cases_lt, lemmas.Bool.false≢true, lemmas.Bool.le-ltb, lemmas.Int.ints}
-use Rattle.std.proofs.lemmas.List.{get_or_append_left, get_or-append_right, get_or-map, length-map}
-use Rattle.std.proofs.lemmas.List.Elements.{All-contains, Contains-append_left, Contains-append_right, Contains-get_or}
-use Rattle.stn_net.specs.{Difference.Difference, Schedule.Meets, Schedule.HasSchedule}
-use Rattle.stn_conflict.specs.{declared.links.Link.Link, Arcs.bound_at, Arcs.IsChain, Arcs.weight_of, Arcs.IsNegativeCycle}
-use Rattle.stn_conflict.proofs.Tightness.{arc_kept}
-use Rattle.stn_records.specs.{Id.SiteCounter, Id.same_ids, ContentLaws.ids_decide, declared.record.Mark.TheVariants.Plain, declared.record.Record.Record}
-use Rattle.stn_site.specs.{Bounds.bounds_of, Names.id_at, Names.name_in}
-use Rattle.stn_site.specs.declared.names.BoundName.TheVariants.{Plan as of_plan, Record as of_record}
-use Rattle.stn_questions.specs.{Repair.Repairs.without, Repair.Repairs.others, Repair.Links.IsLinkOf}
-use Rattle.stn_questions.proofs.repair.Elements.{first_of, later_of, first_or_later, none_of_nothing, kept_by, mapped}
+use Rattle.std.{proofs.{Common.{◌≡◌, ◌≢◌, ℕ, ℤ, ◌+◌, ◌-◌, ◌<◌, ◌≤◌, true, false, not, cond, List, [], ◌∷◌, ◌++◌, length, map, get_or, refl, sym, ap, subst, ◌∙◌, inl, inr, ⊎_elim, arith, ◌⊎◌, length-append}, lemmas.{Bool.{cases_lt, false≢true, le-ltb}, Int.ints, List.{get_or_append_left, get_or-append_right, get_or-map, length-map, Elements.{All-contains, Contains-append_left, Contains-append_right, Contains-get_or}}}}, specs.{Prelude.{◌-ℤ◌, ◌≤ℤ◌, nat_lt}, List.Contains}}
+use Rattle.stn_net.specs.{Difference.Difference, Schedule.{Meets, HasSchedule}}
+use Rattle.stn_conflict.{specs.{declared.links.Link.Link, Arcs.{bound_at, IsChain, weight_of, IsNegativeCycle}}, proofs.Tightness.arc_kept}
+use Rattle.stn_records.specs.{Id.{SiteCounter, same_ids}, ContentLaws.ids_decide, declared.record.{Mark.TheVariants.Plain, Record.Record}}
+use Rattle.stn_site.specs.{Bounds.bounds_of, Names.{id_at, name_in}, declared.names.BoundName.TheVariants.{Plan as of_plan, Record as of_record}}
+use Rattle.stn_questions.{specs.Repair.{Repairs.{without, others}, Links.IsLinkOf}, proofs.repair.Elements.{first_of, later_of, first_or_later, none_of_nothing, kept_by, mapped}}
 
 -- over a chain of links whose bounds are met, times grow by its weight at most
 chain_kept : (bounds : List Difference) (time : ℕ → ℤ) (links : List Link) (x y : ℕ) → ((link : Link) → Contains links link → link.place < length bounds → Meets time (bound_at bounds link.place))

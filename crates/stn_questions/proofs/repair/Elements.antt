@@ -1,9 +1,6 @@
 -- What a list has, and schedules of fewer bounds.
-use Rattle.std.proofs.Common.{◌≡◌, ℕ, ℤ, zero, suc, Bool, true, false, cond, List, [], ◌∷◌, map, filter, refl, sym, ap, subst, ◌∙◌, inl, inr, ⊎_elim, arith, All, ◌⊎◌}
-use Rattle.std.specs.List.{Contains}
-use Rattle.std.proofs.lemmas.Bool.{false≢true}
-use Rattle.std.proofs.lemmas.List.Elements.{All-contains, All-contains_itself, All-weaker}
-use Rattle.stn_net.specs.{Difference.Difference, Schedule.Meets, Schedule.IsSchedule, Schedule.HasSchedule}
+use Rattle.std.{proofs.{Common.{◌≡◌, ℕ, ℤ, zero, suc, Bool, true, false, cond, List, [], ◌∷◌, map, filter, refl, sym, ap, subst, ◌∙◌, inl, inr, ⊎_elim, arith, All, ◌⊎◌}, lemmas.{Bool.false≢true, List.Elements.{All-contains, All-contains_itself, All-weaker}}}, specs.List.Contains}
+use Rattle.stn_net.specs.{Difference.Difference, Schedule.{Meets, IsSchedule, HasSchedule}}
 
 module _ {X : Type 0} where
   pub first_of : (x : X) (xs : List X) → Contains (x ∷ xs) x

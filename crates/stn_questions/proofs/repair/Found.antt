@@ -1,9 +1,8 @@
 -- The repairs among one record more.
-use Rattle.std.proofs.Common.{◌≡◌, ℕ, ◌+◌, ◌<◌, List, [], ◌∷◌, ◌++◌, length, take, get_or, refl, sym, ap, subst, ◌∙◌, inl, inr, ⊎_elim}
-use Rattle.std.proofs.lemmas.List.{take_more}
+use Rattle.std.proofs.{Common.{◌≡◌, ℕ, ◌+◌, ◌<◌, List, [], ◌∷◌, ◌++◌, length, take, get_or, refl, sym, ap, subst, ◌∙◌, inl, inr, ⊎_elim}, lemmas.List.take_more}
 use Rattle.stn_net.specs.{Difference.Difference, Schedule.HasSchedule}
 use Rattle.stn_records.specs.{Id.SiteCounter, declared.record.Record.Record}
-use Rattle.stn_questions.specs.{declared.repair.Repair.Repair, Repair.Repairs.others, Repair.Repairs.IsRepair, Repair.Repairs.AreRepairs}
+use Rattle.stn_questions.specs.{declared.repair.Repair.Repair, Repair.Repairs.{others, IsRepair, AreRepairs}}
 
 module _ (base : List Difference) (live : List (SiteCounter × Record)) where
   none_more : (front : List (SiteCounter × Record)) (repairs : List Repair) (entry : SiteCounter × Record) → AreRepairs base live front repairs

@@ -1,14 +1,9 @@
 -- What is kept has a schedule, and has none with any one record that is dropped.
-use Rattle.std.proofs.Common.{◌≡◌, true, false, not, List, [], ◌∷◌, ◌++◌, map, filter, refl, sym, ap, subst, ◌∙◌, inl, inr, ⊎_elim, ◌⊎◌, append_assoc}
-use Rattle.std.specs.{List.Contains, Set.is_member}
-use Rattle.std.proofs.{lemmas.Bool.false≢true, lemmas.List.append-nil, lemmas.Map.Made.is_member-Decides}
-use Rattle.std.proofs.lemmas.List.Elements.{Contains-append_left, Contains-append_right, Contains-append_cases}
+use Rattle.std.{proofs.{Common.{◌≡◌, true, false, not, List, [], ◌∷◌, ◌++◌, map, filter, refl, sym, ap, subst, ◌∙◌, inl, inr, ⊎_elim, ◌⊎◌, append_assoc}, lemmas.{Bool.false≢true, List.{append-nil, Elements.{Contains-append_left, Contains-append_right, Contains-append_cases}}, Map.Made.is_member-Decides}}, specs.{List.Contains, Set.is_member}}
 use Rattle.stn_net.specs.{Difference.Difference, Schedule.HasSchedule}
-use Rattle.stn_records.specs.{Id.SiteCounter, Id.same_ids, Record.same_marks, declared.record.Mark.Mark, declared.record.Record.Record, ContentLaws.ids_decide}
-use Rattle.stn_records.specs.declared.record.Mark.TheVariants.{Plain, Done}
+use Rattle.stn_records.specs.{Id.{SiteCounter, same_ids}, Record.same_marks, declared.record.{Mark.{Mark, TheVariants.{Plain, Done}}, Record.Record}, ContentLaws.ids_decide}
 use Rattle.stn_site.specs.Bounds.{bounds_of}
-use Rattle.stn_questions.specs.Repair.Dropped.{marked, facts_first, AreRefused, AreDropped, kept_bounds}
-use Rattle.stn_questions.proofs.repair.Elements.{first_of, later_of, first_or_later, none_of_nothing, kept_by, from_filter, mapped, from_map, fewer_have}
+use Rattle.stn_questions.{specs.Repair.Dropped.{marked, facts_first, AreRefused, AreDropped, kept_bounds}, proofs.repair.Elements.{first_of, later_of, first_or_later, none_of_nothing, kept_by, from_filter, mapped, from_map, fewer_have}}
 
 abbrev pub Records : Type 0
 Records = List (SiteCounter × Record)

@@ -1,14 +1,9 @@
 -- Lists that have grown by one more of the live records, and their bounds.
-use Rattle.std.proofs.Common.{◌≡◌, ℕ, ◌+◌, ◌<◌, Bool, true, false, cond, not, List, [], ◌∷◌, ◌++◌, length, map, filter, take, get_or, refl, sym, ap, subst, ◌∙◌, ◌↔◌, IsTrue, All}
-use Rattle.std.specs.{List.Contains, Set.is_member}
-use Rattle.std.proofs.{lemmas.Bool.false≢true, lemmas.List.append-nil, lemmas.List.take_more, lemmas.List.map-append, lemmas.Map.Made.is_member-Decides}
-use Rattle.std.proofs.lemmas.List.Elements.{All-append, All-filter, filter-append}
+use Rattle.std.{proofs.{Common.{◌≡◌, ℕ, ◌+◌, ◌<◌, Bool, true, false, cond, not, List, [], ◌∷◌, ◌++◌, length, map, filter, take, get_or, refl, sym, ap, subst, ◌∙◌, ◌↔◌, IsTrue, All}, lemmas.{Bool.false≢true, List.{append-nil, take_more, map-append, Elements.{All-append, All-filter, filter-append}}, Map.Made.is_member-Decides}}, specs.{List.Contains, Set.is_member}}
 use Rattle.stn_net.specs.Difference.{Difference, NamesEvents}
-use Rattle.stn_records.specs.{Id.SiteCounter, Id.same_ids, Record.same_marks, declared.record.Mark.Mark, declared.record.Record.Record, Content.listed, ContentLaws.ids_decide}
-use Rattle.stn_records.specs.declared.record.Mark.TheVariants.{Plain, Done}
-use Rattle.stn_site.specs.Bounds.{bounds_of}
-use Rattle.stn_site.proofs.Named.{records_from_bounds, bounds_from_records}
-use Rattle.stn_questions.specs.{Repair.Repairs.without, Repair.Dropped.marked, Repair.Dropped.facts_first}
+use Rattle.stn_records.specs.{Id.{SiteCounter, same_ids}, Record.same_marks, declared.record.{Mark.{Mark, TheVariants.{Plain, Done}}, Record.Record}, Content.listed, ContentLaws.ids_decide}
+use Rattle.stn_site.{specs.Bounds.bounds_of, proofs.Named.{records_from_bounds, bounds_from_records}}
+use Rattle.stn_questions.specs.Repair.{Repairs.without, Dropped.{marked, facts_first}}
 
 -- the records as they were listed
 pub records_listed : (records : List (SiteCounter × Record)) → map (λ (one : SiteCounter × Mark × Difference). (one.0, record { mark = one.1; bound = one.2 })) (map listed records) ≡ records

@@ -1,10 +1,6 @@
 -- Each id is that of one live record.
-use Rattle.std.proofs.Common.{◌≡◌, not, Some, sym, ◌∙◌}
-use Rattle.std.specs.{List.Contains, FinMap.entries, FinMap.get}
-use Rattle.stn_records.specs.{Id.SiteCounter, declared.record.Record.Record, Content.Content, Content.is_replaced, Content.live_of, ContentLaws.ids_total, ContentLaws.ids_exact}
-use Rattle.stn_records.proofs.Gets.{entries_from_get}
-use Rattle.std.proofs.lemmas.List.Elements.{All-contains}
-use Rattle.std.proofs.lemmas.Option.{same_Some}
+use Rattle.std.{proofs.{Common.{◌≡◌, not, Some, sym, ◌∙◌}, lemmas.{List.Elements.All-contains, Option.same_Some}}, specs.{List.Contains, FinMap.{entries, get}}}
+use Rattle.stn_records.{specs.{Id.SiteCounter, declared.record.Record.Record, Content.{Content, is_replaced, live_of}, ContentLaws.{ids_total, ids_exact}}, proofs.Gets.entries_from_get}
 use Rattle.stn_questions.proofs.repair.Elements.{from_filter}
 
 added : (state : Content) (id : SiteCounter) (one : Record) → Contains (entries state.additions) (id, one) → get state.additions id ≡ Some one

@@ -1,10 +1,8 @@
 -- A plan and a state have one text of what mends a conflict.
-use Rattle.std.proofs.Common.{◌≡◌, ℕ, List, [], ◌∷◌, ◌++◌, sym, ap, ◌∙◌, ⊎_elim, map, filter}
-use Rattle.std.specs.{List.flat_map, Set.is_member}
+use Rattle.std.{proofs.Common.{◌≡◌, ℕ, List, [], ◌∷◌, ◌++◌, sym, ap, ◌∙◌, ⊎_elim, map, filter}, specs.{List.flat_map, Set.is_member}}
 use Rattle.stn_net.specs.Difference.{Difference}
-use Rattle.stn_records.specs.{Id.SiteCounter, Id.same_ids, declared.record.Record.Record}
-use Rattle.stn_questions.specs.{declared.repair.Repair.Repair, Repair.Repairs.others, Repair.Repairs.IsRepair, Repair.Repairs.AreRepairs, Repair.Dropped.facts_first, Repair.Dropped.AreRefused, Repair.Dropped.AreDropped, Repair.Text.repair_line, Repair.Text.drop_line, Repair.Text.SaysRepairs, Repair.Text.SaysWhatMends}
-use Rattle.stn_questions.proofs.Ranges.{one_range}
+use Rattle.stn_records.specs.{Id.{SiteCounter, same_ids}, declared.record.Record.Record}
+use Rattle.stn_questions.{specs.{declared.repair.Repair.Repair, Repair.{Repairs.{others, IsRepair, AreRepairs}, Dropped.{facts_first, AreRefused, AreDropped}, Text.{repair_line, drop_line, SaysRepairs, SaysWhatMends}}}, proofs.Ranges.one_range}
 
 one_repair : (bounds : List Difference) (id : SiteCounter) (bound : Difference) (one other : Repair) → IsRepair bounds id bound one → IsRepair bounds id bound other → one ≡ other
 one_repair bounds id bound one other p q =

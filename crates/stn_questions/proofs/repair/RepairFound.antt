@@ -1,16 +1,10 @@
 -- The repair by a record, by the tightest differences of its events over the others.
-use Rattle.std.proofs.Common.{◌≡◌, ℕ, ℤ, pos, neg_ℤ, ◌+◌, ◌<◌, ◌≤◌, List, ◌++◌, length, get_or, refl, sym, ap, subst, ◌∙◌, arith, All}
-use Rattle.std.specs.List.{Any}
-use Rattle.std.proofs.{lemmas.List.get_or_read, lemmas.List.length-map, lemmas.List.Elements.All-from_recursion, lemmas.List.Elements.All-weaker}
-use Rattle.std.proofs.Common.{length-append}
-use Rattle.stn_conflict.proofs.CycleSums.{places_of_chain}
-use Rattle.stn_net.specs.{Difference.Difference, Difference.NamesEvents, Schedule.HasSchedule, Schedule.times_of}
-use Rattle.stn_net.specs.Matrix.Tightest.{IsTightest}
-use Rattle.stn_conflict.specs.{declared.links.Link.Link, Arcs.IsNegativeCycle, Distances.AreDistancesFrom, Distances.AreDistancesTo}
+use Rattle.std.{proofs.{Common.{◌≡◌, ℕ, ℤ, pos, neg_ℤ, ◌+◌, ◌<◌, ◌≤◌, List, ◌++◌, length, get_or, refl, sym, ap, subst, ◌∙◌, arith, All, length-append}, lemmas.List.{get_or_read, length-map, Elements.{All-from_recursion, All-weaker}}}, specs.List.Any}
+use Rattle.stn_conflict.{proofs.CycleSums.places_of_chain, specs.{declared.links.Link.Link, Arcs.IsNegativeCycle, Distances.{AreDistancesFrom, AreDistancesTo}}}
+use Rattle.stn_net.specs.{Difference.{Difference, NamesEvents}, Schedule.{HasSchedule, times_of}, Matrix.Tightest.IsTightest}
 use Rattle.stn_records.specs.{Id.SiteCounter, declared.record.Record.Record}
 use Rattle.stn_site.specs.Bounds.{bounds_of}
-use Rattle.stn_questions.specs.{Repair.Ranges.IsRange, Repair.Repairs.others, Repair.Repairs.IsRepair, Repair.Links.IsLinkOf}
-use Rattle.stn_questions.proofs.{Ranges.range_of_ends, repair.Cycles.lies_on}
+use Rattle.stn_questions.{specs.Repair.{Ranges.IsRange, Repairs.{others, IsRepair}, Links.IsLinkOf}, proofs.{Ranges.range_of_ends, repair.Cycles.lies_on}}
 
 pub repair_found : (base own rest : List Difference) (events n : ℕ) (id : SiteCounter) (bound : Difference) (from to place : ℕ) (back least far : ℤ) (there here : List ℤ)
     → own ≡ base → n ≡ events → NamesEvents events bound → from ≡ bound.from → to ≡ bound.to → place ≡ to

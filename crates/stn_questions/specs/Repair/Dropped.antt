@@ -1,9 +1,7 @@
 -- The records to drop, so that the rest has a schedule.
-use Rattle.std.specs.Prelude.{◌≡◌, ◌⊎◌, List, [], ◌∷◌, ◌++◌, not, filter, map}
-use Rattle.std.specs.Set.{is_member}
+use Rattle.std.specs.{Prelude.{◌≡◌, ◌⊎◌, List, [], ◌∷◌, ◌++◌, not, filter, map}, Set.is_member}
 use Rattle.stn_net.specs.{Difference.Difference, Schedule.HasSchedule}
-use Rattle.stn_records.specs.{Id.SiteCounter, Id.same_ids, Record.same_marks, declared.record.Mark.Mark, declared.record.Record.Record}
-use Rattle.stn_records.specs.declared.record.Mark.TheVariants.{Plain, Done}
+use Rattle.stn_records.specs.{Id.{SiteCounter, same_ids}, Record.same_marks, declared.record.{Mark.{Mark, TheVariants.{Plain, Done}}, Record.Record}}
 use Rattle.stn_site.specs.Bounds.{bounds_of}
 
 -- the records with the mark, in their order

@@ -1,7 +1,7 @@
 -- The records without which the others have a schedule.
 use Rattle.std.specs.Prelude.{◌≡◌, ◌⊎◌, List, [], ◌∷◌, ◌++◌, not, filter}
 use Rattle.stn_net.specs.{Difference.Difference, Schedule.HasSchedule}
-use Rattle.stn_records.specs.{Id.SiteCounter, Id.same_ids, declared.record.Record.Record}
+use Rattle.stn_records.specs.{Id.{SiteCounter, same_ids}, declared.record.Record.Record}
 use Rattle.stn_site.specs.Bounds.{bounds_of}
 use Rattle.stn_questions.specs.{declared.repair.Repair.Repair, Repair.Ranges.IsRange}
 

@@ -1,11 +1,10 @@
 -- What `repairs` prints.
-use Rattle.std.specs.Prelude.{◌≡◌, ◌⊎◌, ℕ, List, ◌++◌, codes}
-use Rattle.std.specs.List.{flat_map}
+use Rattle.std.specs.{Prelude.{◌≡◌, ◌⊎◌, ℕ, List, ◌++◌, codes}, List.flat_map}
 use Rattle.stn_net.specs.{Difference.Difference, Schedule.HasSchedule}
 use Rattle.stn_lift.specs.PlanSource.{PlanSource, base_bounds}
-use Rattle.stn_records.specs.{Id.SiteCounter, Id.id_text, declared.record.Record.Record, Content.Content, Content.live_of}
+use Rattle.stn_records.specs.{Id.{SiteCounter, id_text}, declared.record.Record.Record, Content.{Content, live_of}}
 use Rattle.stn_site.specs.{Bounds.bounds_of, Lines.line}
-use Rattle.stn_questions.specs.{declared.repair.Repair.Repair, Repair.Repairs.AreRepairs, Repair.Dropped.AreDropped, Why.range_line}
+use Rattle.stn_questions.specs.{declared.repair.Repair.Repair, Repair.{Repairs.AreRepairs, Dropped.AreDropped}, Why.range_line}
 
 -- `<id> <from> <to> <least> <greatest>`
 abbrev pub repair_line : Repair → List ℕ

@@ -1,14 +1,12 @@
-ghost use Rattle.std.specs.Prelude.{◌≡◌, ◌++◌, ◌↔◌, All, IsTrue, IfOk, OnOk};
-ghost use Rattle.std.specs.List.{Contains};
+ghost use Rattle.std.specs.{Prelude.{◌≡◌, ◌++◌, ◌↔◌, All, IsTrue, IfOk, OnOk}, List.Contains};
 ghost use Rattle.stn_net.specs.Difference.{NamesEvents};
-ghost use Rattle.stn_net.specs.Matrix.Tightest.{IsExact};
 ghost use Rattle.stn_lift.specs.PlanSource.{base_bounds, events_of};
 ghost use Rattle.stn_site.specs.Bounds.{bounds_of};
 ghost use Rattle.stn_questions.specs.Repair.Dropped.{marked, facts_first, AreRefused, AreDropped};
 
 use std::alloc::Allocator;
+use stn_conflict::Network;
 use stn_lift::Base;
-use stn_net::Matrix;
 use stn_records::{Id, Mark, Record};
 use stn_time::Memory;
 
@@ -70,27 +68,14 @@ fn refused_ids<A: Allocator + Copy>(
     requires { All (NamesEvents (events_of base.now)) (bounds_of order.now) }
     ensures { IfOk result (λ refused. AreRefused (base_bounds base.now) order.now refused.items) }
 {
-    let mut kept = plan_matrix(alloc, base)?;
+    let mut kept = Network::new(alloc, base.events(), base.bounds(), &[])?;
     let mut refused = Vec::new(alloc);
     for &(id, record) in order {
-        if !kept.tighten(record.bound) {
+        if !kept.take(record.bound)? {
             refused.push(id)?;
         }
     }
     Ok(refused)
-}
-
-// The matrix of the plan's own bounds.
-fn plan_matrix<A: Allocator + Copy>(alloc: A, base: &Base<A>) -> Result<Matrix<A>, Memory>
-    ensures exact { IfOk result (λ matrix. IsExact (base_bounds base.now) matrix) }
-    ensures events { IfOk result (λ matrix. matrix.events ≡ events_of base.now) }
-{
-    let events = base.events();
-    let mut matrix = Matrix::bare(alloc, events)?;
-    for bound in &base.bounds()[usize::from(events)..] {
-        let _fits = matrix.tighten(*bound);
-    }
-    Ok(matrix)
 }
 
 fn is_among(ids: &[Id], id: Id) -> bool

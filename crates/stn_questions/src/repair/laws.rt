@@ -1,21 +1,10 @@
-ghost use Rattle.std.specs.Prelude.{◌≡◌, ◌++◌, ◌∷◌, [], ℕ, List, true};
-ghost use Rattle.std.specs.List.{Contains};
-ghost use Rattle.std.specs.Set.{is_member};
+ghost use Rattle.std.specs.{Prelude.{◌≡◌, ◌++◌, ◌∷◌, [], ℕ, List, true}, List.Contains, Set.is_member};
 ghost use Rattle.stn_net.specs.Schedule.{HasSchedule};
 ghost use Rattle.stn_lift.specs.PlanSource.{PlanSource, base_bounds};
-ghost use Rattle.stn_records.specs.Id.{SiteCounter, same_ids};
-ghost use Rattle.stn_records.specs.declared.record.Record.{Record};
-ghost use Rattle.stn_records.specs.Content.{Content, live_of};
-ghost use Rattle.stn_conflict.specs.declared.links.Link.{Link};
-ghost use Rattle.stn_conflict.specs.Arcs.{IsNegativeCycle};
-ghost use Rattle.stn_site.specs.declared.names.BoundName.TheVariants.{Record as of_record};
-ghost use Rattle.stn_site.specs.Bounds.{all_bounds};
-ghost use Rattle.stn_site.specs.Names.{live_ids, name_in};
-ghost use Rattle.stn_site.specs.Held.{Held};
-ghost use Rattle.stn_site.specs.Calls.{Accepted, CameBy, TookSame};
-ghost use Rattle.stn_questions.specs.Repair.Repairs.{others};
-ghost use Rattle.stn_questions.specs.Repair.Dropped.{AreDropped, kept_bounds};
-ghost use Rattle.stn_questions.specs.Repair.Text.{IsRepairsText};
+ghost use Rattle.stn_records.specs.{Id.{SiteCounter, same_ids}, declared.record.Record.Record, Content.{Content, live_of}};
+ghost use Rattle.stn_conflict.specs.{declared.links.Link.Link, Arcs.IsNegativeCycle};
+ghost use Rattle.stn_site.specs.{declared.names.BoundName.TheVariants.Record as of_record, Bounds.all_bounds, Names.{live_ids, name_in}, Held.Held, Calls.{Accepted, CameBy, TookSame}};
+ghost use Rattle.stn_questions.specs.Repair.{Repairs.others, Dropped.{AreDropped, kept_bounds}, Text.IsRepairsText};
 
 use stn_records::counts_same;
 

@@ -1,12 +1,10 @@
-ghost use Rattle.std.specs.Prelude.{◌≡◌, ◌++◌, ℕ, List, All, IfOk, OnOk, OnErr};
-ghost use Rattle.std.specs.List.{flat_map};
+ghost use Rattle.std.specs.{Prelude.{◌≡◌, ◌++◌, ℕ, List, All, IfOk, OnOk, OnErr}, List.flat_map};
 ghost use Rattle.stn_net.specs.Difference.{NamesEvents};
 ghost use Rattle.stn_lift.specs.PlanSource.{base_bounds, events_of};
 ghost use Rattle.stn_conflict.specs.Arcs.{IsNegativeCycle};
 ghost use Rattle.stn_records.specs.Content.{live_of};
 ghost use Rattle.stn_site.specs.Bounds.{all_bounds, bounds_of};
-ghost use Rattle.stn_questions.specs.Repair.Repairs.{AreRepairs};
-ghost use Rattle.stn_questions.specs.Repair.Text.{listed_id, repair_line, drop_line, SaysRepairs, SaysWhatMends, IsRepairsText};
+ghost use Rattle.stn_questions.specs.Repair.{Repairs.AreRepairs, Text.{listed_id, repair_line, drop_line, SaysRepairs, SaysWhatMends, IsRepairsText}};
 
 use crate::apart::append_range;
 use crate::repair::Repair;

@@ -1,12 +1,9 @@
-ghost use Rattle.std.specs.Prelude.{◌≡◌, ◌<◌, ◌+◌, ◌++◌, ◌↔◌, length, All, IsTrue, IfOk, MatchOption};
-ghost use Rattle.std.specs.List.{Any};
-ghost use Rattle.stn_net.specs.Difference.{NamesEvents};
-ghost use Rattle.stn_net.specs.Schedule.{HasSchedule};
+ghost use Rattle.std.specs.{Prelude.{◌≡◌, ◌<◌, ◌+◌, ◌++◌, ◌↔◌, length, All, IsTrue, IfOk, MatchOption}, List.Any};
+ghost use Rattle.stn_net.specs.{Difference.NamesEvents, Schedule.HasSchedule};
 ghost use Rattle.stn_lift.specs.PlanSource.{base_bounds, events_of};
 ghost use Rattle.stn_conflict.specs.Arcs.{IsNegativeCycle};
 ghost use Rattle.stn_site.specs.Bounds.{bounds_of};
-ghost use Rattle.stn_questions.specs.Repair.Repairs.{others, IsRepair, AreRepairs};
-ghost use Rattle.stn_questions.specs.Repair.Links.{IsLinkOf};
+ghost use Rattle.stn_questions.specs.Repair.{Repairs.{others, IsRepair, AreRepairs}, Links.IsLinkOf};
 
 use crate::repair::Repair;
 use crate::repair::live::{bounds_of, without};

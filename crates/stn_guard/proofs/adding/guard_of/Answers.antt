@@ -1,13 +1,8 @@
-use Rattle.std.proofs.Common.{◌≡◌, ℕ, ◌+◌, length, map, sym, ap, subst, ◌∙◌}
-use Rattle.std.specs.{List.range_with_len, Prelude.All}
-use Rattle.std.proofs.{lemmas.Option.MatchOption-at_some, lemmas.List.FromFn.length-map-range_with_len}
-use Rattle.stn_net.specs.{Difference.NamesEvents, Schedule.HasSchedule}
-use Rattle.stn_net.specs.Matrix.Tightest.{IsExact}
+use Rattle.std.{proofs.{Common.{◌≡◌, ℕ, ◌+◌, length, map, sym, ap, subst, ◌∙◌}, lemmas.{Option.MatchOption-at_some, List.FromFn.length-map-range_with_len}}, specs.{List.range_with_len, Prelude.All}}
+use Rattle.stn_net.specs.{Difference.NamesEvents, Schedule.HasSchedule, Matrix.Tightest.IsExact}
 use Rattle.stn_lift.specs.PlanSource.{events_of, base_bounds}
-use Rattle.stn_site.specs.Bounds.{all_bounds}
-use Rattle.stn_site.proofs.Printing.{if_some}
-use Rattle.stn_guard.specs.Adding.{owner_by}
-use Rattle.stn_guard.proofs.SiteGuard.{made_here}
+use Rattle.stn_site.{specs.Bounds.all_bounds, proofs.Printing.if_some}
+use Rattle.stn_guard.{specs.Adding.owner_by, proofs.SiteGuard.made_here}
 use Rattle.stn_guard.proofs.adding.guard_of.Goals as goal
 
 pub guard-requires-clause-one_each : goal.guard-requires-clause-one_each

@@ -1,9 +1,7 @@
-use Rattle.std.proofs.Common.{◌≡◌, ◌+◌, List, [], ◌∷◌, ◌++◌, take, sym, ap, subst, ◌∙◌}
-use Rattle.std.proofs.lemmas.List.{take_more}
+use Rattle.std.proofs.{Common.{◌≡◌, ◌+◌, List, [], ◌∷◌, ◌++◌, take, sym, ap, subst, ◌∙◌}, lemmas.List.take_more}
 use Rattle.stn_net.specs.Difference.{Difference}
 use Rattle.stn_records.specs.Id.{SiteCounter}
-use Rattle.stn_guard.specs.Putting.{PutsEach}
-use Rattle.stn_guard.proofs.Put.{puts_more}
+use Rattle.stn_guard.{specs.Putting.PutsEach, proofs.Put.puts_more}
 use Rattle.stn_guard.proofs.adding.put_each.Goals as goal
 
 pub loop-bound-preserved : goal.loop-bound-preserved

@@ -1,12 +1,6 @@
-use Rattle.std.proofs.Common.{◌≡◌, ◌+◌, List, ◌++◌, length, subst, ◌∙◌, rules}
-use Rattle.std.specs.Vec.{with_items}
-use Rattle.std.proofs.lemmas.List.{with_items_is}
-use Rattle.std.proofs.lemmas.Result.{IfOk-weaker}
-use Rattle.stn_net.specs.Difference.{Difference}
-use Rattle.stn_net.specs.Matrix.Table.{far_of}
-use Rattle.stn_guard.specs.{Owners.owner_of, Guard.Guards, Making.shared_arcs, Making.AreWindows, Making.IsGuardOf, Splitting.windows_of}
-use Rattle.stn_guard.proofs.Made.{made_guard, made_windows}
-use Rattle.stn_guard.proofs.Whole.{can_first, can_second, exact_after, owned_front, owned_behind, AreNamed, noted, whole_guard, begins_both}
+use Rattle.std.{proofs.{Common.{◌≡◌, ◌+◌, List, ◌++◌, length, subst, ◌∙◌, rules}, lemmas.{List.with_items_is, Result.IfOk-weaker}}, specs.Vec.with_items}
+use Rattle.stn_net.specs.{Difference.Difference, Matrix.Table.far_of}
+use Rattle.stn_guard.{specs.{Owners.owner_of, Guard.Guards, Making.{shared_arcs, AreWindows, IsGuardOf}, Splitting.windows_of}, proofs.{Made.{made_guard, made_windows}, Whole.{can_first, can_second, exact_after, owned_front, owned_behind, AreNamed, noted, whole_guard, begins_both}}}
 use Rattle.stn_guard.proofs.guarding.guard.Goals as goal
 
 pub split_shared-requires-clause-can : goal.split_shared-requires-clause-can

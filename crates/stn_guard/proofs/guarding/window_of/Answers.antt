@@ -1,8 +1,6 @@
 use Rattle.std.proofs.Common.{ap, ◌∙◌}
-use Rattle.stn_net.specs.Matrix.Table.{far_of}
-use Rattle.stn_net.proofs.WindowEnds.{window_of_exact}
-use Rattle.stn_guard.specs.{Making.window_bound, Splitting.ends_of}
-use Rattle.stn_guard.proofs.{Split.window_ordered, OneGuard.one_pair}
+use Rattle.stn_net.{specs.Matrix.Table.far_of, proofs.WindowEnds.window_of_exact}
+use Rattle.stn_guard.{specs.{Making.window_bound, Splitting.ends_of}, proofs.{Split.window_ordered, OneGuard.one_pair}}
 use Rattle.stn_guard.proofs.guarding.window_of.Goals as goal
 
 pub window_bound-requires-clause-ordered : goal.window_bound-requires-clause-ordered

@@ -1,7 +1,6 @@
 use Rattle.std.proofs.Common.{◌≡◌, ap, ◌∙◌, arith, rules}
 use Rattle.stn_net.specs.Matrix.Table.{far_of}
-use Rattle.stn_guard.specs.{Making.window_bound, Splitting.ends_of}
-use Rattle.stn_guard.proofs.Named.{windows_step}
+use Rattle.stn_guard.{specs.{Making.window_bound, Splitting.ends_of}, proofs.Named.windows_step}
 use Rattle.stn_guard.proofs.guarding.windows.Goals as goal
 
 pub loop-number-preserved : goal.loop-number-preserved

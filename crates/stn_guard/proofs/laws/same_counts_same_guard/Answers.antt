@@ -1,10 +1,8 @@
-use Rattle.std.proofs.Common.{◌≡◌, not, List, ◌++◌, filter, subst}
-use Rattle.std.specs.FinMap.{entries, contains_key}
+use Rattle.std.{proofs.Common.{◌≡◌, not, List, ◌++◌, filter, subst}, specs.FinMap.{entries, contains_key}}
 use Rattle.stn_net.specs.{Difference.Difference, Schedule.HasSchedule}
 use Rattle.stn_lift.specs.PlanSource.{base_bounds, events_of}
 use Rattle.stn_site.specs.Bounds.{bounds_of, all_bounds}
-use Rattle.stn_guard.specs.Making.{IsGuardOf}
-use Rattle.stn_guard.proofs.{OneGuard.one_made, SameOwners.same_guard}
+use Rattle.stn_guard.{specs.Making.IsGuardOf, proofs.{OneGuard.one_made, SameOwners.same_guard}}
 use Rattle.stn_guard.proofs.laws.same_counts_same_guard.Goals as goal
 
 pub returns : goal.returns

@@ -1,9 +1,6 @@
-use Rattle.std.proofs.Common.{◌≡◌, ℕ, true, false, inl, inr, sym, ◌∙◌}
-use Rattle.std.specs.Prelude.{◌↔◌}
-use Rattle.std.proofs.lemmas.Bool.{false≢true, false_from_ne_true}
+use Rattle.std.{proofs.{Common.{◌≡◌, ℕ, true, false, inl, inr, sym, ◌∙◌}, lemmas.Bool.{false≢true, false_from_ne_true}}, specs.Prelude.◌↔◌}
 use Rattle.stn_net.specs.Difference.{Difference}
-use Rattle.stn_guard.specs.Owners.{is_own, is_shared}
-use Rattle.stn_guard.proofs.Owned.{own_or_shared, shared_not_own}
+use Rattle.stn_guard.{specs.Owners.{is_own, is_shared}, proofs.Owned.{own_or_shared, shared_not_own}}
 use Rattle.stn_guard.proofs.laws.shared_is_no_sites_own.Goals as goal
 
 shared_if : (owner : ℕ → ℕ) (bound : Difference) → ((is_shared owner bound ≡ true) ↔ ((site : ℕ) → is_own owner site bound ≡ false))

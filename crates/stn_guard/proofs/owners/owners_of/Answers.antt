@@ -1,5 +1,4 @@
-use Rattle.std.proofs.Common.{◌≡◌, [], ◌∷◌, ◌++◌, sym, ap, ◌∙◌, arith}
-use Rattle.std.proofs.lemmas.List.FromFn.{map-range_with_len_more}
+use Rattle.std.proofs.{Common.{◌≡◌, [], ◌∷◌, ◌++◌, sym, ap, ◌∙◌, arith}, lemmas.List.FromFn.map-range_with_len_more}
 use Rattle.stn_site.proofs.Printing.{if_some}
 use Rattle.stn_guard.specs.Adding.{owner_by}
 use Rattle.stn_guard.proofs.owners.owners_of.Goals as goal

@@ -1,5 +1,4 @@
-use Rattle.std.proofs.Common.{◌≡◌, map}
-use Rattle.std.specs.List.{range_with_len}
+use Rattle.std.{proofs.Common.{◌≡◌, map}, specs.List.range_with_len}
 use Rattle.stn_guard.specs.Adding.{owner_by}
 use Rattle.stn_guard.proofs.owners.owners_of.Given as goal
 

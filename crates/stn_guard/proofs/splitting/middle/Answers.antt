@@ -1,5 +1,4 @@
-use Rattle.std.proofs.Common.{◌≡◌, ℤ, ◌-ℤ◌, to_z, of_z, w64, ◌∙◌, arith, rules}
-use Rattle.std.proofs.lemmas.Int.{ints}
+use Rattle.std.proofs.{Common.{◌≡◌, ℤ, ◌-ℤ◌, to_z, of_z, w64, ◌∙◌, arith, rules}, lemmas.Int.ints}
 use Rattle.stn_time.specs.Time.{IsWithinHorizon}
 use Rattle.stn_guard.specs.{declared.splitting.Arc.Arc, Splitting.LeavesTime}
 use Rattle.stn_guard.proofs.splitting.middle.Goals as goal

@@ -1,5 +1,4 @@
-use Rattle.stn_guard.specs.Making.{window_bound}
-use Rattle.stn_guard.proofs.Restricting.{taken}
+use Rattle.stn_guard.{specs.Making.window_bound, proofs.Restricting.taken}
 use Rattle.stn_guard.proofs.splitting.restrict.Goals as goal
 
 pub returns-clause-exact : goal.returns-clause-exact

@@ -1,7 +1,5 @@
-use Rattle.std.proofs.Common.{[], subst, arith}
-use Rattle.std.proofs.{lemmas.Int.ints, lemmas.List.Elements.All-head}
-use Rattle.stn_guard.specs.{Making.window_bound, Splitting.NamesEnds}
-use Rattle.stn_guard.proofs.Restricting.{Takes, leaves_known, nothing_to_split, two_to_split}
+use Rattle.std.proofs.{Common.{[], subst, arith}, lemmas.{Int.ints, List.Elements.All-head}}
+use Rattle.stn_guard.{specs.{Making.window_bound, Splitting.NamesEnds}, proofs.Restricting.{Takes, leaves_known, nothing_to_split, two_to_split}}
 use Rattle.stn_guard.proofs.splitting.split.Goals as goal
 
 pub returns-then-get-clause-splits : goal.returns-then-get-clause-splits

@@ -1,7 +1,6 @@
 use Rattle.std.proofs.Common.{◌≡◌, true, false, List, sym, subst, rules}
 use Rattle.stn_net.specs.Difference.{Difference}
-use Rattle.stn_guard.specs.{Owners.owner_of, Owners.is_shared, Splitting.CanSplit, Splitting.Splits}
-use Rattle.stn_guard.proofs.Steps.{splits_none, arcs_of_one}
+use Rattle.stn_guard.{specs.{Owners.{owner_of, is_shared}, Splitting.{CanSplit, Splits}}, proofs.Steps.{splits_none, arcs_of_one}}
 use Rattle.stn_guard.proofs.splitting.split_bound.Goals as goal
 
 pub returns-then-not-is_shared-clause-splits : goal.returns-then-not-is_shared-clause-splits

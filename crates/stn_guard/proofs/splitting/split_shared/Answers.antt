@@ -1,7 +1,5 @@
-use Rattle.std.proofs.Common.{[], ◌∷◌, take, refl, sym, subst, ◌∙◌}
-use Rattle.std.proofs.lemmas.List.{take_all}
-use Rattle.stn_guard.specs.{Owners.owner_of, Making.shared_arcs, Splitting.Splits}
-use Rattle.stn_guard.proofs.Steps.{splits_none, splits_on, arcs_more, can_here}
+use Rattle.std.proofs.{Common.{[], ◌∷◌, take, refl, sym, subst, ◌∙◌}, lemmas.List.take_all}
+use Rattle.stn_guard.{specs.{Owners.owner_of, Making.shared_arcs, Splitting.Splits}, proofs.Steps.{splits_none, splits_on, arcs_more, can_here}}
 use Rattle.stn_guard.proofs.splitting.split_shared.Goals as goal
 
 pub loop-bound-init : goal.loop-bound-init

@@ -1,7 +1,6 @@
 use Rattle.std.proofs.Common.{◌≡◌, ℕ, ℤ, neg_ℤ, List, [], ◌∷◌, refl, sym, ap, subst, ◌∙◌}
 use Rattle.stn_net.specs.Difference.{Difference}
-use Rattle.stn_guard.specs.{declared.splitting.Arc.Arc, Splitting.CanSplit, Splitting.Splits}
-use Rattle.stn_guard.proofs.Steps.{some_front, some_behind, splits_on}
+use Rattle.stn_guard.{specs.{declared.splitting.Arc.Arc, Splitting.{CanSplit, Splits}}, proofs.Steps.{some_front, some_behind, splits_on}}
 use Rattle.stn_guard.proofs.splitting.split_sides.Goals as goal
 
 abbrev upper : Difference → Arc

@@ -1,6 +1,4 @@
-use Rattle.std.proofs.Common.{◌≡◌, ℤ, pos, neg_ℤ, ◌+ℤ◌, ◌≤ℤ◌, to_z, of_z, w64, ap, ◌∙◌, arith}
-use Rattle.std.specs.Int.{int_min, int_max, int_div_euclid}
-use Rattle.std.proofs.lemmas.Int.{ints, clamps}
+use Rattle.std.{proofs.{Common.{◌≡◌, ℤ, pos, neg_ℤ, ◌+ℤ◌, ◌≤ℤ◌, to_z, of_z, w64, ap, ◌∙◌, arith}, lemmas.Int.{ints, clamps}}, specs.Int.{int_min, int_max, int_div_euclid}}
 use Rattle.stn_time.specs.Time.{IsWithinHorizon}
 use Rattle.stn_guard.proofs.Split.{half_of}
 use Rattle.stn_guard.proofs.splitting.split_time.Goals as goal

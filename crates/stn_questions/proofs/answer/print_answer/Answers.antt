@@ -1,5 +1,4 @@
-use Rattle.std.proofs.Common.{refl}
-use Rattle.std.proofs.lemmas.Result.{err_from_is_err_and}
+use Rattle.std.proofs.{Common.refl, lemmas.Result.err_from_is_err_and}
 use Rattle.stn_questions.specs.Bounds.{bounds_text}
 use Rattle.stn_questions.proofs.answer.print_answer.Goals as goal
 

@@ -1,10 +1,7 @@
-use Rattle.std.proofs.Common.{inl, inr}
-use Rattle.std.proofs.lemmas.{Option.MatchOption-at_some, Result.IfOk-weaker}
+use Rattle.std.proofs.{Common.{inl, inr}, lemmas.{Option.MatchOption-at_some, Result.IfOk-weaker}}
 use Rattle.stn_net.specs.Schedule.{HasSchedule}
-use Rattle.stn_site.specs.Bounds.{all_bounds}
-use Rattle.stn_site.proofs.Printing.{kept_err}
-use Rattle.stn_questions.specs.Why.{HoldEnds, IsApartText}
-use Rattle.stn_questions.proofs.Reasons.{reasons_appended}
+use Rattle.stn_site.{specs.Bounds.all_bounds, proofs.Printing.kept_err}
+use Rattle.stn_questions.{specs.Why.{HoldEnds, IsApartText}, proofs.Reasons.reasons_appended}
 use Rattle.stn_questions.proofs.apart.append_apart.Goals as goal
 
 pub text_of-requires : goal.text_of-requires

@@ -1,7 +1,6 @@
 use Rattle.std.proofs.Common.{◌++◌, ◌∙◌}
 use Rattle.stn_site.specs.Bounds.{all_bounds}
-use Rattle.stn_questions.specs.{Repair.Ranges.IsRange, Why.range_line}
-use Rattle.stn_questions.proofs.{Ranges.range_of_ends, Reasons.reason_part}
+use Rattle.stn_questions.{specs.{Repair.Ranges.IsRange, Why.range_line}, proofs.{Ranges.range_of_ends, Reasons.reason_part}}
 use Rattle.stn_questions.proofs.apart.text_of.Goals as goal
 
 pub returns : goal.returns

@@ -1,6 +1,4 @@
-use Rattle.std.proofs.Common.{◌≡◌, ℤ, neg_ℤ, Bool, true, false, ◌++◌, codes, cond, ap, ◌∙◌}
-use Rattle.std.proofs.lemmas.Result.{IfOk-equal}
-use Rattle.std.specs.Ordering.{int_eq}
+use Rattle.std.{proofs.{Common.{◌≡◌, ℤ, neg_ℤ, Bool, true, false, ◌++◌, codes, cond, ap, ◌∙◌}, lemmas.Result.IfOk-equal}, specs.Ordering.int_eq}
 use Rattle.stn_time.specs.{Time.horizon, Text.printed}
 use Rattle.stn_site.proofs.{Printing.appended_ok, Values.held_is}
 use Rattle.stn_questions.specs.Bounds.{lower_text}

@@ -1,5 +1,4 @@
-use Rattle.std.proofs.Common.{◌≡◌, ◌+◌, ◌++◌, ◌∙◌, length, ap, sym, length-append}
-use Rattle.std.specs.List.{flat_map, range_with_len}
+use Rattle.std.{proofs.Common.{◌≡◌, ◌+◌, ◌++◌, ◌∙◌, length, ap, sym, length-append}, specs.List.{flat_map, range_with_len}}
 use Rattle.stn_lift.specs.PlanSource.{base_bounds}
 use Rattle.stn_site.specs.{Bounds.live_bounds, Names.live_ids}
 use Rattle.stn_questions.specs.Bounds.{listed_line}

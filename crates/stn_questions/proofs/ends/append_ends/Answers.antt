@@ -1,5 +1,4 @@
-use Rattle.std.proofs.Common.{◌≡◌, ◌++◌, neg_ℤ, append_assoc, ◌∙◌}
-use Rattle.std.proofs.lemmas.Result.{on_ok_weaker}
+use Rattle.std.proofs.{Common.{◌≡◌, ◌++◌, neg_ℤ, append_assoc, ◌∙◌}, lemmas.Result.on_ok_weaker}
 use Rattle.stn_questions.specs.Why.{end_text}
 use Rattle.stn_questions.proofs.ends.append_ends.Goals as goal
 

@@ -1,5 +1,4 @@
-use Rattle.std.proofs.Common.{◌≡◌, neg_ℤ, arith}
-use Rattle.std.proofs.lemmas.Int.{ints}
+use Rattle.std.proofs.{Common.{◌≡◌, neg_ℤ, arith}, lemmas.Int.ints}
 use Rattle.stn_questions.proofs.ends.times_of.Goals as goal
 
 pub returns : goal.returns

@@ -1,7 +1,5 @@
-use Rattle.std.proofs.Common.{◌≡◌, ◌+◌, ◌++◌, length, ap, subst, ◌∙◌, arith}
-use Rattle.std.proofs.lemmas.Option.{MatchOption-at_some}
-use Rattle.stn_net.specs.{Schedule.times_of}
-use Rattle.stn_net.specs.Windows.{Dispatch.IsOverdue, Dispatch.CanWaitUntil, Soonest.AreLatest}
+use Rattle.std.proofs.{Common.{◌≡◌, ◌+◌, ◌++◌, length, ap, subst, ◌∙◌, arith}, lemmas.Option.MatchOption-at_some}
+use Rattle.stn_net.specs.{Schedule.times_of, Windows.{Dispatch.{IsOverdue, CanWaitUntil}, Soonest.AreLatest}}
 use Rattle.stn_lift.specs.PlanSource.{base_bounds, events_of, IsSoundSource}
 use Rattle.stn_site.specs.Bounds.{all_bounds, live_bounds}
 use Rattle.stn_questions.proofs.Foretold.{all_named}

@@ -1,8 +1,7 @@
 use Rattle.std.proofs.Common.{subst}
 use Rattle.stn_lift.specs.PlanSource.{PlanSource}
 use Rattle.stn_site.proofs.Items.{same_counts}
-use Rattle.stn_questions.specs.{Answer.IsAnswer, Ready.IsReadyText}
-use Rattle.stn_questions.proofs.{Counted.counted_answer, Counted.same_ready, OneAnswer.same_answer}
+use Rattle.stn_questions.{specs.{Answer.IsAnswer, Ready.IsReadyText}, proofs.{Counted.{counted_answer, same_ready}, OneAnswer.same_answer}}
 use Rattle.stn_questions.proofs.laws.same_answers.Goals as goal
 
 pub returns-clause-items : goal.returns-clause-items

@@ -1,5 +1,4 @@
-use Rattle.std.proofs.Common.{[], ◌∷◌, ◌++◌, ◌∙◌, ap, codes, append_assoc}
-use Rattle.std.proofs.lemmas.Result.{IfOk-weaker}
+use Rattle.std.proofs.{Common.{[], ◌∷◌, ◌++◌, ◌∙◌, ap, codes, append_assoc}, lemmas.Result.IfOk-weaker}
 use Rattle.stn_time.specs.Text.{printed}
 use Rattle.stn_site.proofs.Printing.{appended_ok}
 use Rattle.stn_questions.proofs.ready.append_line.Goals as goal

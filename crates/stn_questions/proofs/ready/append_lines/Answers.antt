@@ -1,5 +1,4 @@
-use Rattle.stn_questions.specs.Ready.{ready_line}
-use Rattle.stn_questions.proofs.Listing.{lines_grown}
+use Rattle.stn_questions.{specs.Ready.ready_line, proofs.Listing.lines_grown}
 use Rattle.stn_questions.proofs.ready.append_lines.Goals as goal
 
 pub loop-one-preserved : goal.loop-one-preserved

@@ -1,12 +1,8 @@
-use Rattle.std.proofs.Common.{◌≡◌, ◌+◌, ◌<ℤ◌, ◌≤ℤ◌, length, sym, ap, subst, ◌∙◌, arith}
-use Rattle.std.proofs.{lemmas.Int.ints, lemmas.Result.IfOk-weaker}
-use Rattle.stn_net.specs.{Schedule.times_of}
-use Rattle.stn_net.specs.Windows.{Dispatch.CanWaitUntil, Leading.IsLeastLatest, Leading.AreReadyAt, Soonest.AreEarliest, Soonest.AreLatest, Soonest.AreSoonest}
-use Rattle.stn_net.proofs.Ends.{none_past_waits}
+use Rattle.std.proofs.{Common.{◌≡◌, ◌+◌, ◌<ℤ◌, ◌≤ℤ◌, length, sym, ap, subst, ◌∙◌, arith}, lemmas.{Int.ints, Result.IfOk-weaker}}
+use Rattle.stn_net.{specs.{Schedule.times_of, Windows.{Dispatch.CanWaitUntil, Leading.{IsLeastLatest, AreReadyAt}, Soonest.{AreEarliest, AreLatest, AreSoonest}}}, proofs.Ends.none_past_waits}
 use Rattle.stn_lift.specs.PlanSource.{base_bounds, events_of, IsSoundSource}
 use Rattle.stn_site.specs.Bounds.{all_bounds}
-use Rattle.stn_questions.specs.Ready.{AreReadyEvents}
-use Rattle.stn_questions.proofs.Foretold.{all_in, all_named, found_earliest, found_latest, found_soonest, none_ready, none_after_last, there_unless}
+use Rattle.stn_questions.{specs.Ready.AreReadyEvents, proofs.Foretold.{all_in, all_named, found_earliest, found_latest, found_soonest, none_ready, none_after_last, there_unless}}
 use Rattle.stn_questions.proofs.ready.ready_events.Goals as goal
 
 pub returns-then-lt : goal.returns-then-lt

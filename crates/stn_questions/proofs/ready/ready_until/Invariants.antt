@@ -1,6 +1,5 @@
 use Rattle.std.proofs.Common.{◌≡◌, ℕ, ℤ, ◌≤ℤ◌, ◌≤◌, List, All, Some}
-use Rattle.stn_net.specs.{Difference.Difference, Schedule.times_of}
-use Rattle.stn_net.specs.Windows.{Dispatch.AreReadyTimes, Leading.AreReadyAt}
+use Rattle.stn_net.specs.{Difference.Difference, Schedule.times_of, Windows.{Dispatch.AreReadyTimes, Leading.AreReadyAt}}
 use Rattle.stn_questions.proofs.{Foretold.HasEachBelow, ReadyLists.counted}
 use Rattle.stn_questions.proofs.ready.ready_until.Given as goal
 

@@ -1,10 +1,7 @@
-use Rattle.std.proofs.Common.{◌≡◌, List, [], ◌∷◌, ◌++◌, ap, ◌∙◌, codes, map}
-use Rattle.std.proofs.lemmas.Result.{IfOk-weaker}
-use Rattle.std.specs.{Set.is_member, FinMap.entries, FinMap.get, FinMap.contains_key}
-use Rattle.stn_records.specs.{Id.SiteCounter, Id.same_ids, Id.id_text, Content.Content}
+use Rattle.std.{proofs.{Common.{◌≡◌, List, [], ◌∷◌, ◌++◌, ap, ◌∙◌, codes, map}, lemmas.Result.IfOk-weaker}, specs.{Set.is_member, FinMap.{entries, get, contains_key}}}
+use Rattle.stn_records.specs.{Id.{SiteCounter, same_ids, id_text}, Content.Content}
 use Rattle.stn_site.proofs.Printing.{appended_ok}
-use Rattle.stn_questions.specs.Records.{amends_text, held_text, word_where, is_amended}
-use Rattle.stn_questions.proofs.{KnownOnce.amended_is, Listing.line_in_parts}
+use Rattle.stn_questions.{specs.Records.{amends_text, held_text, word_where, is_amended}, proofs.{KnownOnce.amended_is, Listing.line_in_parts}}
 use Rattle.stn_questions.proofs.records.append_line.Goals as goal
 
 pub returns : goal.returns

@@ -1,6 +1,4 @@
-use Rattle.std.proofs.Common.{◌≡◌, ◌++◌, map, ap, ◌∙◌}
-use Rattle.std.proofs.lemmas.List.Filters.{dedup_is}
-use Rattle.std.specs.FinMap.{entries}
+use Rattle.std.{proofs.{Common.{◌≡◌, ◌++◌, map, ap, ◌∙◌}, lemmas.List.Filters.dedup_is}, specs.FinMap.entries}
 use Rattle.stn_records.specs.{Id.SiteCounter, declared.record.Record.Record, Content.Content}
 use Rattle.stn_questions.proofs.KnownOnce.{same_numbers, listed_ids, known_once}
 use Rattle.stn_questions.proofs.records.known_ids.Goals as goal

@@ -1,7 +1,6 @@
 use Rattle.std.proofs.Common.{[], ◌∷◌, ◌+◌, ◌++◌, ◌∙◌, ap, append_assoc, arith}
 use Rattle.stn_lift.specs.Plan.Views.{planned_step}
-use Rattle.stn_questions.specs.Steps.{name_text}
-use Rattle.stn_questions.proofs.Listing.{names_grown}
+use Rattle.stn_questions.{specs.Steps.name_text, proofs.Listing.names_grown}
 use Rattle.stn_questions.proofs.steps.append_name_lines.Goals as goal
 
 pub loop-before-preserved : goal.loop-before-preserved

@@ -1,5 +1,4 @@
-use Rattle.std.proofs.Common.{◌≡◌, ◌++◌, decimal}
-use Rattle.std.specs.List.{flat_map, range_with_len}
+use Rattle.std.{proofs.Common.{◌≡◌, ◌++◌, decimal}, specs.List.{flat_map, range_with_len}}
 use Rattle.stn_site.specs.Lines.{line}
 use Rattle.stn_questions.proofs.steps.append_numbers.Given as goal
 

@@ -1,5 +1,4 @@
-use Rattle.std.proofs.Common.{◌++◌, ◌∙◌, ap}
-use Rattle.std.proofs.lemmas.Result.{IfOk-equal}
+use Rattle.std.proofs.{Common.{◌++◌, ◌∙◌, ap}, lemmas.Result.IfOk-equal}
 use Rattle.stn_questions.specs.{Durations.least_of, Steps.step_lines}
 use Rattle.stn_questions.proofs.steps.append_planned.Goals as goal
 

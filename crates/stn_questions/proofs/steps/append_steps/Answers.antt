@@ -1,10 +1,6 @@
-use Rattle.std.proofs.Common.{◌≡◌, ◌≤◌, ◌++◌, Ok, length, sym, ap, subst, ◌∙◌, arith}
-use Rattle.std.proofs.lemmas.Result.{IfOk-equal}
-use Rattle.stn_lift.specs.BaseBounds.{duration_of}
-use Rattle.stn_lift.specs.Plan.Steps.{plan_of}
-use Rattle.stn_lift.specs.PlanSource.{bare, files, plan_source, activities_of, IsSoundSource}
-use Rattle.stn_questions.specs.{Durations.least_of, Steps.planned_steps, Steps.step_lines, Steps.steps_text}
-use Rattle.stn_questions.proofs.{Lasting.plan_was_read, Listing.step_lines-same}
+use Rattle.std.proofs.{Common.{◌≡◌, ◌≤◌, ◌++◌, Ok, length, sym, ap, subst, ◌∙◌, arith}, lemmas.Result.IfOk-equal}
+use Rattle.stn_lift.specs.{BaseBounds.duration_of, Plan.Steps.plan_of, PlanSource.{bare, files, plan_source, activities_of, IsSoundSource}}
+use Rattle.stn_questions.{specs.{Durations.least_of, Steps.{planned_steps, step_lines, steps_text}}, proofs.{Lasting.plan_was_read, Listing.step_lines-same}}
 use Rattle.stn_questions.proofs.steps.append_steps.Goals as goal
 
 pub append_planned-requires : goal.append_planned-requires

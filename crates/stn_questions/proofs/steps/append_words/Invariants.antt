@@ -1,5 +1,4 @@
-use Rattle.std.proofs.Common.{◌≡◌, ◌++◌, codes, map, take}
-use Rattle.std.specs.List.{flat_map}
+use Rattle.std.{proofs.Common.{◌≡◌, ◌++◌, codes, map, take}, specs.List.flat_map}
 use Rattle.stn_lift.specs.Plan.Views.{word_of}
 use Rattle.stn_questions.proofs.steps.append_words.Given as goal
 

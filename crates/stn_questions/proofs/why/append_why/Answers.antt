@@ -1,8 +1,6 @@
-use Rattle.std.proofs.Common.{inl, inr}
-use Rattle.std.proofs.lemmas.Result.{IfOk-weaker}
+use Rattle.std.proofs.{Common.{inl, inr}, lemmas.Result.IfOk-weaker}
 use Rattle.stn_site.proofs.Printing.{kept_err}
-use Rattle.stn_questions.specs.Why.{IsWhyText}
-use Rattle.stn_questions.proofs.Reasons.{reasons_appended}
+use Rattle.stn_questions.{specs.Why.IsWhyText, proofs.Reasons.reasons_appended}
 use Rattle.stn_questions.proofs.why.append_why.Goals as goal
 
 pub returns-in_ok-text-in-Some : goal.returns-in_ok-text-in-Some

@@ -1,7 +1,5 @@
 use Rattle.std.proofs.Common.{◌≡◌, ◌≤◌, ◌++◌, false, slice_index_or, ap, ◌∙◌, arith}
-use Rattle.stn_net.specs.Event.{most_events}
-use Rattle.stn_net.specs.Windows.Window.{IsWindow}
-use Rattle.stn_net.proofs.WindowEnds.{window_of_ends}
+use Rattle.stn_net.{specs.{Event.most_events, Windows.Window.IsWindow}, proofs.WindowEnds.window_of_ends}
 use Rattle.stn_site.specs.{Bounds.all_bounds, Lines.window_line, Report.is_done}
 use Rattle.stn_questions.proofs.Reasons.{reason_part}
 use Rattle.stn_questions.proofs.why.text_of.Goals as goal

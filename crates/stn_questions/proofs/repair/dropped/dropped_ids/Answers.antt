@@ -3,7 +3,7 @@ use Rattle.stn_net.specs.Difference.{NamesEvents}
 use Rattle.stn_lift.specs.PlanSource.{events_of}
 use Rattle.stn_records.specs.{Id.SiteCounter, declared.record.Record.Record}
 use Rattle.stn_site.specs.Bounds.{bounds_of}
-use Rattle.stn_questions.proofs.{repair.Listing.member_is, repair.Listing.ids_grow, repair.Listing.ids_stay, repair.Listing.turns_named, repair.dropped.dropped_ids.Goals.then-is_among+in_ok-push, repair.dropped.dropped_ids.Goals.else-is_among}
+use Rattle.stn_questions.proofs.repair.{Listing.{member_is, ids_grow, ids_stay, turns_named}, dropped.dropped_ids.Goals.{then-is_among+in_ok-push, else-is_among}}
 use Rattle.stn_questions.proofs.repair.dropped.dropped_ids.Goals as goal
 
 pub refused_ids-requires : goal.refused_ids-requires

@@ -1,6 +1,5 @@
-use Rattle.std.proofs.Common.{◌≡◌, filter, map, take}
-use Rattle.std.specs.Set.{is_member}
-use Rattle.stn_records.specs.{Id.SiteCounter, Id.same_ids, declared.record.Record.Record}
+use Rattle.std.{proofs.Common.{◌≡◌, filter, map, take}, specs.Set.is_member}
+use Rattle.stn_records.specs.{Id.{SiteCounter, same_ids}, declared.record.Record.Record}
 use Rattle.stn_questions.proofs.repair.dropped.dropped_ids.Given as goal
 
 abbrev pub invariant-loop-id : goal.invariant-loop-id

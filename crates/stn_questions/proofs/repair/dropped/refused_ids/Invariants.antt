@@ -6,5 +6,5 @@ use Rattle.stn_questions.proofs.repair.dropped.refused_ids.Given as goal
 abbrev pub invariant-loop-id : goal.invariant-loop-id
 invariant-loop-id g l = record {
   events : l.kept.events ≡ events_of l.base;
-  so_far : IsRefusedSoFar (base_bounds l.base) l.order l.id-index l.refused.items l.kept;
+  so_far : IsRefusedSoFar (base_bounds l.base) l.order l.id-index l.refused.items l.kept.bounds;
 }

@@ -1,6 +1,6 @@
 use Rattle.stn_lift.specs.PlanSource.{base_bounds}
 use Rattle.stn_records.specs.Content.{live_of}
-use Rattle.stn_questions.proofs.{repair.Largest.kept_possible, repair.Largest.kept_largest, repair.LiveOnce.live_once}
+use Rattle.stn_questions.proofs.repair.{Largest.{kept_possible, kept_largest}, LiveOnce.live_once}
 use Rattle.stn_questions.proofs.repair.laws.kept_is_largest.Goals as goal
 
 pub returns-clause-possible : goal.returns-clause-possible

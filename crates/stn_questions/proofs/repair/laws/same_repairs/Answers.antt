@@ -1,7 +1,6 @@
-use Rattle.std.proofs.Common.{subst}
+use Rattle.std.{proofs.Common.subst, specs.Prelude.List}
 use Rattle.stn_lift.specs.PlanSource.{PlanSource, base_bounds}
 use Rattle.stn_records.specs.{Id.SiteCounter, declared.record.Record.Record}
-use Rattle.std.specs.Prelude.{List}
 use Rattle.stn_site.proofs.Items.{same_counts}
 use Rattle.stn_questions.specs.Repair.Text.{SaysWhatMends, IsRepairsText}
 use Rattle.stn_questions.proofs.repair.laws.same_repairs.Goals as goal

@@ -1,8 +1,7 @@
-use Rattle.std.proofs.Common.{◌∙◌, ap, map}
-use Rattle.std.proofs.lemmas.Result.{IfOk-weaker}
+use Rattle.std.proofs.{Common.{◌∙◌, ap, map}, lemmas.Result.IfOk-weaker}
 use Rattle.stn_net.specs.Difference.{Difference}
 use Rattle.stn_lift.specs.PlanSource.{events_of}
-use Rattle.stn_records.specs.{Id.SiteCounter, declared.record.Mark.Mark, Content.Content, Content.listed, Content.live_of}
+use Rattle.stn_records.specs.{Id.SiteCounter, declared.record.Mark.Mark, Content.{Content, listed, live_of}}
 use Rattle.stn_site.proofs.Named.{live_named}
 use Rattle.stn_questions.proofs.repair.Listing.{records_listed}
 use Rattle.stn_questions.proofs.repair.live.live_records.Goals as goal

@@ -1,5 +1,4 @@
-use Rattle.std.proofs.Common.{◌≡◌, ◌++◌, take}
-use Rattle.std.specs.List.{flat_map}
+use Rattle.std.{proofs.Common.{◌≡◌, ◌++◌, take}, specs.List.flat_map}
 use Rattle.stn_questions.specs.Repair.Text.{listed_id}
 use Rattle.stn_questions.proofs.repair.print.append_ids.Given as goal
 

@@ -1,5 +1,4 @@
-use Rattle.std.proofs.Common.{◌++◌, ◌∙◌, ap, List, ℕ}
-use Rattle.std.specs.List.{flat_map}
+use Rattle.std.{proofs.Common.{◌++◌, ◌∙◌, ap, List, ℕ}, specs.List.flat_map}
 use Rattle.stn_lift.specs.PlanSource.{base_bounds}
 use Rattle.stn_records.specs.Id.{SiteCounter}
 use Rattle.stn_conflict.proofs.CycleSums.{negative_no_schedule}

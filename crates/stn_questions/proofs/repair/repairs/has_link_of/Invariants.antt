@@ -1,5 +1,4 @@
-use Rattle.std.proofs.Common.{take}
-use Rattle.std.specs.List.{Any}
+use Rattle.std.{proofs.Common.take, specs.List.Any}
 use Rattle.stn_questions.specs.Repair.Links.{IsLinkOf}
 use Rattle.stn_questions.proofs.repair.repairs.has_link_of.Given as goal
 

@@ -1,10 +1,8 @@
-use Rattle.std.proofs.Common.{◌≡◌, List, All, sym, ap, subst, ◌++◌, ◌∙◌, IfOk, MatchOption}
-use Rattle.std.proofs.lemmas.Bool.{iff_false}
-use Rattle.stn_net.specs.{Difference.Difference, Difference.NamesEvents, Schedule.HasSchedule}
+use Rattle.std.proofs.{Common.{◌≡◌, List, All, sym, ap, subst, ◌++◌, ◌∙◌, IfOk, MatchOption}, lemmas.Bool.iff_false}
+use Rattle.stn_net.specs.{Difference.{Difference, NamesEvents}, Schedule.HasSchedule}
 use Rattle.stn_lift.specs.PlanSource.{base_bounds, events_of}
 use Rattle.stn_site.specs.Bounds.{bounds_of}
-use Rattle.stn_questions.specs.Repair.Repairs.{without, IsRepair}
-use Rattle.stn_questions.proofs.{repair.Listing.others_named, repair.RepairFound.cycle_places, repair.RepairFound.not_on_cycle}
+use Rattle.stn_questions.{specs.Repair.Repairs.{without, IsRepair}, proofs.repair.{Listing.others_named, RepairFound.{cycle_places, not_on_cycle}}}
 use Rattle.stn_questions.proofs.repair.repairs.repair_by.Goals as goal
 
 pub has_link_of-requires : goal.has_link_of-requires

@@ -1,9 +1,7 @@
-use Rattle.std.proofs.Common.{refl}
-use Rattle.std.proofs.lemmas.Option.{MatchOption-at_some, MatchOption-at_none}
+use Rattle.std.proofs.{Common.refl, lemmas.Option.{MatchOption-at_some, MatchOption-at_none}}
 use Rattle.stn_net.specs.Schedule.{HasSchedule}
 use Rattle.stn_lift.specs.PlanSource.{base_bounds, events_of}
-use Rattle.stn_questions.specs.Repair.Repairs.{others, IsRepair}
-use Rattle.stn_questions.proofs.{repair.Listing.named_at, repair.Found.repairs_pass, repair.Found.repairs_grow, repair.repairs.repairs_on.Goals.in-Some+in_ok-push, repair.repairs.repairs_on.Goals.in_default}
+use Rattle.stn_questions.{specs.Repair.Repairs.{others, IsRepair}, proofs.repair.{Listing.named_at, Found.{repairs_pass, repairs_grow}, repairs.repairs_on.Goals.{in-Some+in_ok-push, in_default}}}
 use Rattle.stn_questions.proofs.repair.repairs.repairs_on.Goals as goal
 
 pub repair_by-requires-clause-bound_named : goal.repair_by-requires-clause-bound_named
