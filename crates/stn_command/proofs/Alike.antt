@@ -1,20 +1,16 @@
 -- What is said, and why not, depends on the plan and on what the site holds alone.
-use Rattle.std.proofs.Common.{◌≡◌, ◌⊎◌, inl, inr, ℕ, ℤ, pos, Bool, List, ◌∷◌, Vec, Option, Some, None, Result, Ok, Err, MatchResult, IsErrOf, sym, ap, subst, ◌∙◌}
+use Rattle.std.proofs.{Common.{◌≡◌, ◌⊎◌, inl, inr, ℕ, ℤ, pos, Bool, true, false, if◌then◌else◌, List, ◌∷◌, Vec, Option, Some, None, Result, Ok, Err, MatchResult, IsErrOf, sym, ap, subst, ◌∙◌}, lemmas.Option.none-some}
 use Rattle.stn_refusal.specs.{declared.failure.Failure.Failure, Refusals.out_of_memory}
-use Rattle.std.proofs.lemmas.Option.{none-some}
-use Rattle.stn_net.specs.Schedule.{times_of}
-use Rattle.stn_net.specs.{Failures.bound_failure, declared.bound.BoundFault.TheVariants.NoEvent}
-use Rattle.stn_net.specs.{Windows.Failures.rehearse_failure, declared.windows.answers.RehearseFault.RehearseFault}
+use Rattle.stn_net.specs.{Schedule.times_of, Failures.bound_failure, declared.{bound.BoundFault.TheVariants.NoEvent, windows.answers.RehearseFault.RehearseFault}, Windows.Failures.rehearse_failure}
 use Rattle.stn_net.specs.declared.windows.answers.RehearseFault.TheVariants as rehearse_fault
-use Rattle.stn_lift.specs.PlanSource.{PlanSource}
+use Rattle.stn_lift.specs.PlanSource.{PlanSource, steps_of}
+use Rattle.stn_guard.specs.Adding.{are_within}
 use Rattle.stn_records.specs.Content.{Content}
-use Rattle.stn_site.specs.{Held.Held, Held.holding_state, Names.broken_bound, Report.IsReport}
-use Rattle.stn_questions.specs.{Answer.IsAnswer, Steps.steps_text}
-use Rattle.stn_questions.specs.Picture.{IsPicture}
-use Rattle.stn_questions.specs.Repair.Text.{IsRepairsText}
-use Rattle.stn_command.specs.Dispatch.{done_or_not_chosen, check_text, IsOverdueAt}
+use Rattle.stn_site.specs.{Held.{Held, holding_state}, Names.broken_bound, Report.IsReport}
+use Rattle.stn_questions.specs.{Answer.IsAnswer, Steps.source_names, Repair.Text.IsRepairsText}
+use Rattle.stn_picture.specs.Picture.{IsPicture}
+use Rattle.stn_command.specs.{Dispatch.{done_or_not_chosen, check_text, IsOverdueAt}, Query.{Query, report, check, foresee, ask, repairs, draw, IsSaid, IsForeseen, IsCheckRefusal, IsRehearseRefusal, draw_refusal, IsForesightRefusal, IsQuestionRefusal, IsQueryRefusal, LacksMemory, Says}}
 use Rattle.stn_command.specs.declared.queries.Outlook.TheVariants as outlook
-use Rattle.stn_command.specs.Query.{Query, report, check, foresee, ask, repairs, draw, IsSaid, IsForeseen, IsCheckRefusal, IsRehearseRefusal, IsForesightRefusal, IsQuestionRefusal, IsQueryRefusal, LacksMemory, Says}
 
 module _ (one other : Held) (plan : one.source ≡ other.source) (state : one.state ≡ other.state) where
   along : (Holds : PlanSource → Content → Type 0) → Holds one.source one.state → Holds other.source other.state
@@ -28,7 +24,7 @@ module _ (one other : Held) (plan : one.source ≡ other.source) (state : one.st
   said_alike (foresee outlook.Rehearse now choice) text = along (λ s c. IsForeseen outlook.Rehearse (holding_state s c) (done_or_not_chosen choice s c) now text)
   said_alike (ask question) text = along (λ s c. IsAnswer s c question text)
   said_alike repairs text = along (λ s c. IsRepairsText s c text)
-  said_alike draw text = along (λ s c. IsPicture (steps_text s) s c text)
+  said_alike (draw look) text = along (λ s c. IsPicture look (source_names s) s c text)
 
   pub refused_alike : (query : Query) (cause : Option Failure) → IsQueryRefusal query one cause → IsQueryRefusal query other cause
   refused_alike report cause is = is
@@ -38,7 +34,7 @@ module _ (one other : Held) (plan : one.source ≡ other.source) (state : one.st
   refused_alike (foresee outlook.Rehearse now choice) cause is = along (λ s c. IsForesightRefusal (holding_state s c) outlook.Rehearse now choice cause) is
   refused_alike (ask question) cause is = along (λ s c. IsQuestionRefusal (holding_state s c) question cause) is
   refused_alike repairs cause is = is
-  refused_alike draw cause is = is
+  refused_alike (draw look) cause is = along (λ s c. cause ≡ draw_refusal look (holding_state s c)) is
 
   -- what is said of a site's copy of a plan is said of each other that holds the same
   pub said_of : {A : Type 0} (query : Query) (result : Result (Vec ℕ A) Failure) → Says query one result
@@ -65,7 +61,7 @@ lacks_where_free (foresee outlook.Rehearse now choice) held (inl (none, cause)) 
 lacks_where_free (foresee outlook.Rehearse now choice) held (inr (has, free)) = has
 lacks_where_free (ask question) held free = free
 lacks_where_free repairs held free = free
-lacks_where_free draw held free = free
+lacks_where_free (draw look) held free = free
 
 -- lack of memory is no cause that refuses a query
 pub not_memory : (query : Query) (held : Held) → ¬ IsQueryRefusal query held (Some out_of_memory)
@@ -81,7 +77,11 @@ not_memory (ask question) held (inl (none, is)) = cc
 not_memory (ask question) held (inr (inl (there, same, is))) = cc
 not_memory (ask question) held (inr (inr (there, apart, is))) = none-some out_of_memory (sym is)
 not_memory repairs held is = none-some out_of_memory (sym is)
-not_memory draw held is = none-some out_of_memory (sym is)
+not_memory (draw look) held is = of_test (are_within (steps_of held.source) look.owned) is
+  where
+    of_test : (t : Bool) → ¬ (Some out_of_memory ≡ (if t then None else Some (bound_failure NoEvent)))
+    of_test true same = none-some out_of_memory (sym same)
+    of_test false same = cc
 
 -- where nothing is said for lack of memory, it may run out
 pub memory_of : {A : Type 0} (held : Held) (query : Query) (result : Result (Vec ℕ A) Failure) → Says query held result → IsErrOf result out_of_memory → LacksMemory query held

@@ -1,12 +1,9 @@
 -- Where all steps are chosen, the events that don't count as left, by the steps of a plan and without them.
-use Rattle.std.proofs.Common.{◌≡◌, ℕ, ◌+◌, ◌*◌, ◌≤◌, false, ◌||◌, ◌&&◌, not, leb, [], ◌∷◌, None, ap, ◌∙◌, arith, rules}
-use Rattle.std.proofs.lemmas.List.FromFn.{fill_by_all, get_or-map-range_with_len, length-map-range_with_len}
-use Rattle.std.specs.List.{list_any}
-use Rattle.stn_replica.proofs.AllOwn.{has_all}
-use Rattle.stn_lift.specs.{BaseBounds.step_of, PlanSource.PlanSource, PlanSource.steps_of, PlanSource.events_of}
+use Rattle.std.{proofs.{Common.{◌≡◌, ℕ, ◌+◌, ◌*◌, ◌≤◌, false, ◌||◌, ◌&&◌, not, leb, [], ◌∷◌, None, ap, ◌∙◌, arith, rules}, lemmas.List.FromFn.{fill_by_all, get_or-map-range_with_len, length-map-range_with_len}}, specs.List.list_any}
+use Rattle.stn_replica.{proofs.AllOwn.has_all, specs.{declared.own.{StepRange.StepRange, Own.Own}, Own.{has, is_end, is_own, done_or_others}}}
+use Rattle.stn_lift.specs.{BaseBounds.step_of, PlanSource.{PlanSource, steps_of, events_of}}
 use Rattle.stn_records.specs.Content.{Content}
 use Rattle.stn_site.specs.Report.{is_done, done_events}
-use Rattle.stn_replica.specs.{declared.own.StepRange.StepRange, declared.own.Own.Own, Own.has, Own.is_end, Own.is_own, Own.done_or_others}
 use Rattle.stn_command.specs.Dispatch.{every_event, is_chosen, done_or_not_chosen}
 
 chosen_all : (own : Own) (range : StepRange) (steps event : ℕ) → own.steps.now ≡ range ∷ [] → range.first ≡ 0 → range.last ≡ steps → event ≤ 2 * steps

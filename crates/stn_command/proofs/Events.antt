@@ -1,11 +1,5 @@
 -- The event that a word names.
-use Rattle.std.proofs.Common.{◌≡◌, ◌≢◌, ℕ, ◌<◌, Bool, List, Some, None, find, refl, ap, ◌∙◌, arith, bytes_eq, zero-add, get_or}
-use Rattle.std.specs.List.{range_with_len}
-use Rattle.std.proofs.lemmas.Slice.Eq.{bytes_eq-Decides}
-use Rattle.std.proofs.lemmas.List.Recursion.{found_at, found_nowhere}
-use Rattle.std.proofs.lemmas.List.FromFn.{get_or-range_with_len, length-range_with_len}
-use Rattle.std.proofs.lemmas.Bool.{false_from_ne_true}
-use Rattle.std.proofs.lemmas.Option.{same_Some}
+use Rattle.std.{proofs.{Common.{◌≡◌, ◌≢◌, ℕ, ◌<◌, Bool, List, Some, None, find, refl, ap, ◌∙◌, arith, bytes_eq, zero-add, get_or}, lemmas.{Slice.Eq.bytes_eq-Decides, List.{Recursion.{found_at, found_nowhere}, FromFn.{get_or-range_with_len, length-range_with_len}}, Bool.false_from_ne_true, Option.same_Some}}, specs.List.range_with_len}
 use Rattle.stn_net.specs.Event.{event_text}
 use Rattle.stn_command.specs.Words.{event_below}
 

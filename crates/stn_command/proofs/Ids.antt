@@ -1,7 +1,5 @@
 -- The id that a word names.
-use Rattle.std.proofs.Common.{◌≡◌, ◌≢◌, ℕ, ◌+◌, ◌<◌, ◌^◌, Bool, true, false, ◌==◌, ◌&&◌, cond, List, [], ◌∷◌, ◌++◌, length, take, drop, Some, None, decimal, refl, sym, ap, ◌∙◌, arith, append_assoc, bytes_eq}
-use Rattle.std.specs.{Prelude.nat_le, List.before_first, List.after_first, List.position_or_len, Char.is_ascii_digit, Str.all_ascii_digits, Str.Parse.digits_value}
-use Rattle.std.proofs.{lemmas.Slice.Eq.bytes_eq-Decides, lemmas.Bool.Decides.nat_tests, lemmas.Bool.and_parts, lemmas.Bool.and_from, lemmas.Fmt.digits_decimal, lemmas.Fmt.digits_value-decimal, lemmas.List.take_at, lemmas.List.drop_at, lemmas.List.length_push}
+use Rattle.std.{proofs.{Common.{◌≡◌, ◌≢◌, ℕ, ◌+◌, ◌<◌, ◌^◌, Bool, true, false, ◌==◌, ◌&&◌, cond, List, [], ◌∷◌, ◌++◌, length, take, drop, Some, None, decimal, refl, sym, ap, ◌∙◌, arith, append_assoc, bytes_eq}, lemmas.{Slice.Eq.bytes_eq-Decides, Bool.{and_parts, and_from, Decides.nat_tests}, Fmt.{digits_decimal, digits_value-decimal}, List.{take_at, drop_at, length_push}}}, specs.{Prelude.nat_le, List.{before_first, after_first, position_or_len}, Char.is_ascii_digit, Str.{all_ascii_digits, Parse.digits_value}}}
 use Rattle.stn_text.proofs.Digits.{own}
 use Rattle.stn_records.specs.Id.{SiteCounter, IsId, id_text}
 use Rattle.stn_command.specs.Words.{around_dot, is_id, id_of}

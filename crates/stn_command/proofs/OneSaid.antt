@@ -5,17 +5,11 @@ use Rattle.stn_refusal.specs.{declared.failure.Failure.Failure, Refusals.refused
 use Rattle.stn_lift.specs.PlanSource.{PlanSource}
 use Rattle.stn_records.specs.Content.{Content}
 use Rattle.stn_site.specs.{Held.Held, Bounds.all_bounds, Report.IsReport}
-use Rattle.stn_questions.specs.{declared.asked.Question.Question, Answer.IsAnswer, Steps.steps_text, Steps.names_text}
-use Rattle.stn_questions.specs.Picture.{IsPicture}
-use Rattle.stn_questions.specs.Repair.Text.{IsRepairsText}
-use Rattle.stn_command.specs.Query.{Query, report, check, foresee, ask, repairs, draw, IsSaid, IsForeseen, IsRehearseRefusal, IsOutlookRefusal, IsQuestionRefusal, IsQueryRefusal}
-use Rattle.stn_command.specs.{Dispatch.done_or_not_chosen, declared.queries.Outlook.Outlook}
+use Rattle.stn_questions.{specs.{declared.asked.Question.Question, Answer.IsAnswer, Steps.{source_names, plan_names}, Repair.Text.IsRepairsText}, proofs.OneAnswer.one_ready_text}
+use Rattle.stn_picture.specs.{Chart.Look, Picture.IsPicture}
+use Rattle.stn_command.{specs.{Query.{Query, report, check, foresee, ask, repairs, draw, IsSaid, IsForeseen, IsRehearseRefusal, IsOutlookRefusal, IsQuestionRefusal, IsQueryRefusal}, Dispatch.done_or_not_chosen, declared.queries.Outlook.Outlook, Named.{IsNamed, Shown, listed, pictured}}, proofs.Foresight.{one_next_text, one_rest_text, one_overdue}}
 use Rattle.stn_command.specs.declared.queries.Outlook.TheVariants as outlook
-use Rattle.stn_command.specs.{Named.IsNamed, declared.names.Shown.Shown}
-use Rattle.stn_command.specs.declared.names.Shown.TheVariants as shown
 use Rattle.stn_net.specs.{Failures.bound_failure, declared.bound.BoundFault.TheVariants.NoEvent}
-use Rattle.stn_questions.proofs.OneAnswer.{one_ready_text}
-use Rattle.stn_command.proofs.Foresight.{one_next_text, one_rest_text, one_overdue}
 
 one_foreseen : (outlook : Outlook) (held : Held) (done : List Bool) (now : ℤ) (text other : List ℕ) → IsForeseen outlook held done now text → IsForeseen outlook held done now other → text ≡ other
 one_foreseen outlook.Next held done now text other p q = one_next_text held.source held.state done now text other p q
@@ -23,7 +17,8 @@ one_foreseen outlook.Ready held done now text other p q = one_ready_text (all_bo
 one_foreseen outlook.Rehearse held done now text other p q = one_rest_text held.source held.state done now text other p q
 
 abbrev pub OnePicture : Type 0
-OnePicture = (steps : List ℕ) → (source : PlanSource) → (state : Content) → (text other : List ℕ) → IsPicture steps source state text → IsPicture steps source state other → text ≡ other
+OnePicture = (look : Look) → (names : List (List ℕ)) → (source : PlanSource) → (state : Content) → (text other : List ℕ)
+    → IsPicture look names source state text → IsPicture look names source state other → text ≡ other
 
 pub one_text : ((source : PlanSource) → (state : Content) → (text other : List ℕ) → IsReport source state text → IsReport source state other → text ≡ other)
     → ((source : PlanSource) → (state : Content) → (question : Question) → (text other : List ℕ) → IsAnswer source state question text → IsAnswer source state question other → text ≡ other)
@@ -36,12 +31,12 @@ one_text reports answers mends pictures (foresee outlook now choice) held text o
     one_foreseen outlook held (done_or_not_chosen choice held.source held.state) now text other p q
 one_text reports answers mends pictures (ask question) held text other p q = answers held.source held.state question text other p q
 one_text reports answers mends pictures repairs held text other p q = mends held.source held.state text other p q
-one_text reports answers mends pictures draw held text other p q = pictures (steps_text held.source) held.source held.state text other p q
+one_text reports answers mends pictures (draw look) held text other p q = pictures look (source_names held.source) held.source held.state text other p q
 
 -- the same by the names that another plan's text gives
 pub one_named : OnePicture → (shown : Shown) (plan : List ℕ) (held : Held) (text other : List ℕ) → IsNamed shown plan held text → IsNamed shown plan held other → text ≡ other
-one_named pictures shown.Steps plan held text other p q = p ∙ sym q
-one_named pictures shown.Picture plan held text other p q = pictures (names_text plan) held.source held.state text other p q
+one_named pictures listed plan held text other p q = p ∙ sym q
+one_named pictures (pictured look) plan held text other p q = pictures look (plan_names plan) held.source held.state text other p q
 
 -- one test, and what stands against a query where it holds
 one_of : {P Q : Type 0} (found cause other : Option Failure) → ¬ (P × Q) → (P × (cause ≡ found)) ⊎ (Q × (cause ≡ None))
@@ -92,4 +87,4 @@ one_refusal (foresee outlook now choice) held cause other p q =
     (outlook_refused outlook held (done_or_not_chosen choice held.source held.state) now) p q
 one_refusal (ask question) held cause other p q = question_refused held question cause other p q
 one_refusal repairs held cause other p q = p ∙ sym q
-one_refusal draw held cause other p q = p ∙ sym q
+one_refusal (draw look) held cause other p q = p ∙ sym q

@@ -1,34 +1,26 @@
 -- Each plan and each state have a text of what mends a conflict.
-use Rattle.std.proofs.Common.{◌≡◌, ◌⊎◌, inl, inr, ℕ, ℤ, ◌+◌, List, [], ◌∷◌, ◌++◌, not, filter, map, codes, take, neg_ℤ, refl, arith}
-use Rattle.std.specs.{Prelude.All, List.flat_map, Set.is_member}
-use Rattle.std.proofs.lemmas.Int.{ints}
-use Rattle.std.proofs.lemmas.List.Elements.{All-append, All-filter, All-head, All-push, All-tail, All-take, All-weaker}
-use Rattle.stn_net.specs.{Difference.Difference, Difference.IsBoundWithin, Horizon.horizon_bounds, Schedule.Meets, Schedule.HasSchedule}
+use Rattle.std.{proofs.{Common.{◌≡◌, ◌⊎◌, inl, inr, ℕ, ℤ, ◌+◌, List, [], ◌∷◌, ◌++◌, not, filter, map, codes, take, neg_ℤ, refl, arith}, lemmas.{Int.ints, List.Elements.{All-append, All-filter, All-head, All-push, All-tail, All-take, All-weaker}}}, specs.{Prelude.All, List.flat_map, Set.is_member}}
+use Rattle.stn_net.specs.{Difference.{Difference, IsBoundWithin}, Horizon.horizon_bounds, Schedule.{Meets, HasSchedule}}
 use Rattle.stn_lift.specs.PlanSource.{PlanSource, events_of, base_bounds, IsSoundSource}
-use Rattle.stn_records.specs.{Id.SiteCounter, Id.same_ids, Record.same_marks, declared.record.Record.Record, Content.Content, Content.live_of}
-use Rattle.stn_records.specs.declared.record.Mark.TheVariants.{Plain, Done}
+use Rattle.stn_records.specs.{Id.{SiteCounter, same_ids}, Record.same_marks, declared.record.{Record.Record, Mark.TheVariants.{Plain, Done}}, Content.{Content, live_of}}
 use Rattle.stn_conflict.proofs.Known.{known_within, known_first}
-use Rattle.stn_site.specs.{Bounds.bounds_of, Lines.line}
-use Rattle.stn_site.proofs.Named.{records_from_bounds, bounds_from_records}
-use Rattle.stn_questions.specs.{declared.repair.Repair.Repair, Repair.Repairs.without, Repair.Repairs.others, Repair.Repairs.IsRepair, Repair.Repairs.AreRepairs, Repair.Dropped.marked, Repair.Dropped.facts_first, Repair.Dropped.AreRefused, Repair.Text.repair_line, Repair.Text.drop_line, Repair.Text.IsRepairsText}
-use Rattle.stn_questions.proofs.Ranges.{range_of_ends}
-use Rattle.stn_questions.proofs.Found.{AreFound, IsInOrder, possible_found, tightest_found, found_or_refused}
-use Rattle.stn_questions.proofs.SomeReport.{IsSoundState}
+use Rattle.stn_site.{specs.{Bounds.bounds_of, Lines.line}, proofs.Named.{records_from_bounds, bounds_from_records}}
+use Rattle.stn_questions.{specs.{declared.repair.Repair.Repair, Repair.{Repairs.{without, others, IsRepair, AreRepairs}, Dropped.{marked, facts_first, AreRefused}, Text.{repair_line, drop_line, IsRepairsText}}}, proofs.{Ranges.range_of_ends, Found.{AreFound, IsInOrder, possible_found, tightest_found, found_or_refused}, SomeReport.IsSoundState}}
 
 abbrev Entries : Type 0
 Entries = List (SiteCounter × Record)
 
 -- the bounds begin with the horizon bounds of so many events, and each is one of these events, with sides in order
-record IsBegun (events : ℕ) (bounds : List Difference) : Type 0 where
-  horizon : take events bounds ≡ horizon_bounds events
-  each : All (IsInOrder events) bounds
+pub record IsBegun (events : ℕ) (bounds : List Difference) : Type 0 where
+  pub horizon : take events bounds ≡ horizon_bounds events
+  pub each : All (IsInOrder events) bounds
 
 -- so are the bounds of the records
-abbrev InOrder : ℕ → Entries → Type 0
+abbrev pub InOrder : ℕ → Entries → Type 0
 InOrder events records = All (λ entry. IsInOrder events entry.1.bound) records
 
 -- there are the tightest differences, or no schedule
-found_or_none : (events : ℕ) (bounds : List Difference) → IsBegun events bounds → ((far : ℕ → ℕ → ℤ) × AreFound bounds events far) ⊎ (¬ HasSchedule bounds)
+pub found_or_none : (events : ℕ) (bounds : List Difference) → IsBegun events bounds → ((far : ℕ → ℕ → ℤ) × AreFound bounds events far) ⊎ (¬ HasSchedule bounds)
 found_or_none events bounds begun =
     elim (found_or_refused events bounds begun.horizon (known_within events bounds begun.horizon) begun.each) [
       | inl found ↦ inl found
@@ -36,7 +28,7 @@ found_or_none events bounds begun =
     ]
 
 -- more bounds
-more_begun : (events : ℕ) (bounds more : List Difference) → IsBegun events bounds → All (IsInOrder events) more → IsBegun events (bounds ++ more)
+pub more_begun : (events : ℕ) (bounds more : List Difference) → IsBegun events bounds → All (IsInOrder events) more → IsBegun events (bounds ++ more)
 more_begun events bounds more begun each = record {
   horizon = known_first events bounds more begun.horizon;
   each = All-append (IsInOrder events) bounds more begun.each each;
@@ -69,7 +61,7 @@ module _ (base : List Difference) (events : ℕ) (begun : IsBegun events base) (
             )
       ]
 
-  some_repairs : (rest : Entries) → InOrder events rest → (repairs : List Repair) × AreRepairs base live rest repairs
+  pub some_repairs : (rest : Entries) → InOrder events rest → (repairs : List Repair) × AreRepairs base live rest repairs
   some_repairs [] left = ([], refl)
   some_repairs (entry ∷ rest) left =
       let (later, are) = some_repairs rest (All-tail (λ (e : SiteCounter × Record). IsInOrder events e.1.bound) entry rest left) in
@@ -92,7 +84,7 @@ some_refused events kept (entry ∷ rest) begun each =
     ]
 
 -- the plan's own bounds have a schedule, so none of them is crossed
-base_begun : (source : PlanSource) → IsSoundSource source → IsBegun (events_of source) (base_bounds source)
+pub base_begun : (source : PlanSource) → IsSoundSource source → IsBegun (events_of source) (base_bounds source)
 base_begun source sound = record {
   horizon = sound.horizon;
   each = λ k d below.
@@ -100,15 +92,19 @@ base_begun source sound = record {
       record { named = sound.named k d below; ordered = omega (arith, ints, met.0, met.1) };
 }
 
+-- the bounds of live records are in order
+pub live_in_order : (source : PlanSource) (state : Content) → IsSoundState source state → InOrder (events_of source) (live_of state)
+live_in_order source state sound =
+    All-weaker (λ (e : SiteCounter × Record). IsBoundWithin (events_of source) e.1.bound) (λ e. IsInOrder (events_of source) e.1.bound)
+    (λ e one. record { named = one.named; ordered = one.ordered }) (live_of state) (records_from_bounds (IsBoundWithin (events_of source)) (live_of state) sound.live)
+
 pub some_repairs_text : (source : PlanSource) (state : Content) → IsSoundState source state → (text : List ℕ) × IsRepairsText source state text
 some_repairs_text source state sound =
     let base = base_bounds source in
     let live = live_of state in
     let events = events_of source in
     let begun = base_begun source sound.based in
-    let each : InOrder (events_of source) (live_of state) =
-    All-weaker (λ (e : SiteCounter × Record). IsBoundWithin (events_of source) e.1.bound) (λ e. IsInOrder (events_of source) e.1.bound)
-    (λ e one. record { named = one.named; ordered = one.ordered }) (live_of state) (records_from_bounds (IsBoundWithin (events_of source)) (live_of state) sound.live) in
+    let each = live_in_order source state sound in
     elim (found_or_none (events_of source) (base_bounds source ++ bounds_of (live_of state))
     (more_begun events base (bounds_of live) begun (bounds_from_records (IsInOrder (events_of source)) live each))) [
       | inl (far, found) ↦ (line (codes "ok"), inl (possible_found (base_bounds source ++ bounds_of (live_of state)) (events_of source) far found, refl))

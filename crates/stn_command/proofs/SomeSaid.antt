@@ -1,22 +1,15 @@
 -- What a site holds has an answer to each query, or a cause that refuses it.
-use Rattle.std.proofs.Common.{◌≡◌, ◌⊎◌, inl, inr, ℕ, ℤ, pos, ◌+◌, ◌<◌, arith, ⊎_elim, Bool, true, false, List, ◌∷◌, codes, length, Some, None, refl}
-use Rattle.std.proofs.{lemmas.Bool.cases_eq, lemmas.Bool.cases_lt, lemmas.Option.none-some}
-use Rattle.std.proofs.lemmas.List.FromFn.{length-map-range_with_len}
-use Rattle.std.specs.Prelude.{not, ◌||◌}
+use Rattle.std.{proofs.{Common.{◌≡◌, ◌⊎◌, inl, inr, ℕ, ℤ, pos, ◌+◌, ◌<◌, arith, ⊎_elim, Bool, true, false, List, ◌∷◌, codes, length, Some, None, refl}, lemmas.{Bool.{cases_eq, cases_lt}, Option.none-some, List.FromFn.length-map-range_with_len}}, specs.Prelude.{not, ◌||◌}}
 use Rattle.stn_net.specs.Schedule.{times_of}
 use Rattle.stn_refusal.specs.declared.code.Code.TheVariants as code
-use Rattle.stn_refusal.specs.{declared.refusal.Refusal.Refusal, declared.failure.Failure.TheVariants.Refused, Refusals.refusal, Refusals.refusal_at, Refusals.refusal_of}
+use Rattle.stn_refusal.specs.{declared.{refusal.Refusal.Refusal, failure.Failure.TheVariants.Refused}, Refusals.{refusal, refusal_at, refusal_of}}
 use Rattle.stn_lift.specs.PlanSource.{PlanSource, events_of, steps_of}
 use Rattle.stn_site.specs.{Held.Held, Lines.line, Names.broken_bound, Report.is_done}
-use Rattle.stn_questions.specs.{declared.asked.Question.Question, Answer.AsksOfNoEvent, Answer.AsksOfSameEvent, Steps.steps_text, Steps.names_text}
-use Rattle.stn_questions.specs.declared.asked.Question.TheVariants.{Records, Steps, Bounds, Why, WhyApart}
-use Rattle.stn_questions.proofs.{SomeReport.IsSoundState, SomeReport.some_report, SomeAnswer.some_answer, SomeDispatch.possible_or_none, SomeDispatch.some_next, SomeDispatch.some_rest, SomeDispatch.some_ready}
-use Rattle.stn_command.specs.{declared.queries.Outlook.Outlook, declared.names.Shown.Shown, Named.IsNamed}
+use Rattle.stn_questions.{specs.{declared.asked.Question.{Question, TheVariants.{Records, Steps, Bounds, Why, WhyApart}}, Answer.{AsksOfNoEvent, AsksOfSameEvent}, Steps.{source_names, names_text, plan_names}}, proofs.{SomeReport.{IsSoundState, some_report}, SomeAnswer.some_answer, SomeDispatch.{possible_or_none, some_next, some_rest, some_ready}}}
+use Rattle.stn_guard.specs.Adding.{are_within}
+use Rattle.stn_picture.specs.Chart.{Look}
+use Rattle.stn_command.{specs.{declared.queries.Outlook.Outlook, Named.{IsNamed, Shown, listed, pictured}, Dispatch.{Choice, is_chosen, done_or_not_chosen, check_text, next_text, runs_text}, Query.{Query, report, check, foresee, ask, repairs, draw, IsSoundSite, IsForeseen, IsSaid, IsOutlookRefusal, has_steps, IsQueryRefusal}}, proofs.{OneSaid.one_refusal, SomeRepairs.some_repairs_text, SomePicture.some_picture}}
 use Rattle.stn_command.specs.declared.queries.Outlook.TheVariants as outlook
-use Rattle.stn_command.specs.declared.names.Shown.TheVariants as shown
-use Rattle.stn_command.specs.Dispatch.{Choice, is_chosen, done_or_not_chosen, check_text, next_text, runs_text}
-use Rattle.stn_command.specs.Query.{Query, report, check, foresee, ask, repairs, draw, IsSoundSite, IsForeseen, IsSaid, IsOutlookRefusal, has_steps, IsQueryRefusal}
-use Rattle.stn_command.proofs.{OneSaid.one_refusal, SomeRepairs.some_repairs_text, SomePicture.some_picture}
 
 -- something is said to the query, which nothing refuses, or a cause refuses it
 abbrev pub IsSaidOrRefused : Query → Held → Type 0
@@ -107,13 +100,18 @@ module _ (held : Held) (sound : IsSoundSite held) where
         ]
       ]
 
+  -- the plan has all owned steps, or not
+  drawn : (look : Look) (t : Bool) → are_within (steps_of held.source) look.owned ≡ t → IsSaidOrRefused (draw look) held
+  drawn look true e = (let (text, is) = some_picture held.source held.state state_sound look (source_names held.source) in inl (text, rw e refl, is))
+  drawn look false e = inr (refusal code.NoEvent, rw e refl)
+
   pub said_or_refused : (query : Query) → IsSaidOrRefused query held
   said_or_refused report = (let (text, is) = some_report held.source held.state state_sound in inl (text, refl, is))
   said_or_refused (check times) = checked times
   said_or_refused (foresee outlook now choice) = of_chosen outlook now choice
   said_or_refused (ask question) = asked question
   said_or_refused repairs = (let (text, is) = some_repairs_text held.source held.state state_sound in inl (text, refl, is))
-  said_or_refused draw = (let (text, is) = some_picture (steps_text held.source) held.source held.state state_sound in inl (text, refl, is))
+  said_or_refused (draw look) = drawn look (are_within (steps_of held.source) look.owned) refl
 
   -- where nothing refuses the query, something is said
   pub some_said : (query : Query) → IsQueryRefusal query held None → (text : List ℕ) × IsSaid query held text
@@ -132,5 +130,5 @@ module _ (held : Held) (sound : IsSoundSite held) where
       ]
 
   pub some_named : (shown : Shown) (plan : List ℕ) → (text : List ℕ) × IsNamed shown plan held text
-  some_named shown.Steps plan = (names_text plan, refl)
-  some_named shown.Picture plan = some_picture (names_text plan) held.source held.state state_sound
+  some_named listed plan = (names_text plan, refl)
+  some_named (pictured look) plan = some_picture held.source held.state state_sound look (plan_names plan)

@@ -1,10 +1,8 @@
 -- The steps that words give to sites, one word after the other.
-use Rattle.std.proofs.Common.{◌≡◌, ℕ, ◌+◌, ◌<◌, ◌≤◌, List, [], length, map, get_or, drop, Result, Ok, Err, ap, ◌∙◌}
-use Rattle.std.specs.Borrow.{Bor}
-use Rattle.std.proofs.lemmas.List.{at_drop_more, at_drop_all}
+use Rattle.std.{proofs.{Common.{◌≡◌, ℕ, ◌+◌, ◌<◌, ◌≤◌, List, [], length, map, get_or, drop, Result, Ok, Err, ap, ◌∙◌}, lemmas.List.{at_drop_more, at_drop_all}}, specs.Borrow.Bor}
 use Rattle.stn_guard.specs.declared.owners.OwnedSteps.{OwnedSteps}
 use Rattle.stn_refusal.specs.declared.failure.Failure.{Failure}
-use Rattle.stn_command.specs.{Steps.owned_after, Steps.owned_too, Words.and_then}
+use Rattle.stn_command.specs.{Steps.{owned_after, owned_too}, Words.and_then}
 
 abbrev pub owned_said : List OwnedSteps → List (Bor (List ℕ)) → Result (List OwnedSteps) Failure
 owned_said given words = owned_after given (map (λ word. word.now) words)

@@ -2,10 +2,8 @@
 use Rattle.std.specs.Prelude.{ℕ, List, ◌++◌, codes, Option}
 use Rattle.stn_net.specs.Difference.{Difference}
 use Rattle.stn_records.specs.Id.{SiteCounter, id_text}
-use Rattle.stn_site.specs.{Calls.Accepted, Calls.added, Calls.amended, Calls.withdrew, Held.Held, Held.difference, Held.plain, Held.executed, Lines.line, Refusals.add_refusal, Refusals.amend_refusal, Refusals.done_refusal, Refusals.withdraw_refusal, declared.faults.ReplicaFault.ReplicaFault}
-use Rattle.stn_command.specs.{declared.changes.AskedBound.AskedBound, declared.changes.Change.Change, declared.changes.Made.Made}
-use Rattle.stn_command.specs.declared.changes.Change.TheVariants.{Add, Amend, Withdraw, Done}
-use Rattle.stn_command.specs.declared.changes.Made.TheVariants.{Added, Amended, Withdrawn}
+use Rattle.stn_site.specs.{Calls.{Accepted, added, amended, withdrew}, Held.{Held, difference, plain, executed}, Lines.line, Refusals.{add_refusal, amend_refusal, done_refusal, withdraw_refusal}, declared.faults.ReplicaFault.ReplicaFault}
+use Rattle.stn_command.specs.declared.changes.{AskedBound.AskedBound, Change.{Change, TheVariants.{Add, Amend, Withdraw, Done}}, Made.{Made, TheVariants.{Added, Amended, Withdrawn}}}
 
 abbrev pub bound_of : AskedBound → Difference
 bound_of bound = difference bound.from bound.to bound.lo bound.hi

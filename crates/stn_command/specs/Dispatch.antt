@@ -1,14 +1,12 @@
 -- What is said of times for the events, of what comes next, and of the rest of the plan.
-use Rattle.std.specs.Prelude.{◌≡◌, ◌⊎◌, ℕ, ◌+◌, ℤ, Bool, true, false, not, ◌&&◌, ◌||◌, List, ◌++◌, map, codes, Option, Some, None}
-use Rattle.std.specs.List.{flat_map, list_any, range_with_len}
+use Rattle.std.specs.{Prelude.{◌≡◌, ◌⊎◌, ℕ, ◌+◌, ℤ, Bool, true, false, not, ◌&&◌, ◌||◌, List, ◌++◌, map, codes, Option, Some, None}, List.{flat_map, list_any, range_with_len}}
 use Rattle.stn_time.specs.Text.{printed}
-use Rattle.stn_net.specs.{Event.event_text, Schedule.HasSchedule, declared.windows.answers.Next.Next, Windows.Dispatch.IsNext, Windows.Rehearsal.IsRehearseFault}
-use Rattle.stn_net.specs.declared.windows.answers.Next.TheVariants.{Run, AllDone, Overdue}
+use Rattle.stn_net.specs.{Event.event_text, Schedule.HasSchedule, declared.windows.answers.Next.{Next, TheVariants.{Run, AllDone, Overdue}}, Windows.{Dispatch.IsNext, Rehearsal.IsRehearseFault}}
 use Rattle.stn_net.specs.declared.windows.answers.RehearseFault.TheVariants as rehearse_fault
 use Rattle.stn_lift.specs.PlanSource.{PlanSource, events_of}
 use Rattle.stn_records.specs.Content.{Content}
 use Rattle.stn_site.specs.{declared.names.BoundName.BoundName, Bounds.all_bounds, Lines.line, Names.name_text, Report.is_done}
-use Rattle.stn_replica.specs.{Dispatch.IsRestWith, Own.has, Own.is_end, declared.own.StepRange.StepRange}
+use Rattle.stn_replica.specs.{Dispatch.IsRestWith, Own.{has, is_end}, declared.own.StepRange.StepRange}
 
 -- events of a plan: those of the steps of some ranges, or of all steps where none are given; or the starts of these steps alone
 pub record Choice : Type 0 where

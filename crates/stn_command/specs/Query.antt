@@ -1,31 +1,28 @@
 -- What a site is asked about its plan and what it holds, what is said of it, and why that is refused.
-use Rattle.std.specs.Prelude.{◌≡◌, ◌≢◌, ◌⊎◌, ℕ, ℤ, pos, Bool, true, false, List, [], ◌∷◌, length, All, Vec, Option, Some, None, option_map, unwrap_or, Result, Ok, Err}
-use Rattle.std.specs.List.{list_all}
+use Rattle.std.specs.{Prelude.{◌≡◌, ◌≢◌, ◌⊎◌, ℕ, ℤ, pos, Bool, true, false, List, [], ◌∷◌, length, All, if◌then◌else◌, Vec, Option, Some, None, option_map, unwrap_or, Result, Ok, Err}, List.list_all}
 use Rattle.stn_refusal.specs.declared.code.Code.TheVariants as code
-use Rattle.stn_refusal.specs.{declared.failure.Failure.Failure, Refusals.refused_of, Refusals.out_of_memory}
-use Rattle.stn_net.specs.{Failures.bound_failure, Difference.IsBoundWithin, Schedule.times_of}
-use Rattle.stn_net.specs.declared.bound.BoundFault.TheVariants.{NoEvent, SameEvent}
+use Rattle.stn_refusal.specs.{declared.failure.Failure.Failure, Refusals.{refused_of, out_of_memory}}
+use Rattle.stn_net.specs.{Failures.bound_failure, Difference.IsBoundWithin, Schedule.times_of, declared.bound.BoundFault.TheVariants.{NoEvent, SameEvent}}
 use Rattle.stn_lift.specs.PlanSource.{events_of, steps_of, IsSoundSource}
 use Rattle.stn_records.specs.Content.{AllProper}
-use Rattle.stn_site.specs.{Bounds.all_bounds, Bounds.live_bounds, Held.Held, Names.broken_bound, Report.IsReport}
+use Rattle.stn_site.specs.{Bounds.{all_bounds, live_bounds}, Held.Held, Names.broken_bound, Report.IsReport}
 use Rattle.stn_replica.specs.Own.{is_within}
-use Rattle.stn_questions.specs.{declared.asked.Question.Question, Answer.IsAnswer, Answer.AsksOfNoEvent, Answer.AsksOfSameEvent, Ready.IsReadyWith, Steps.steps_text}
-use Rattle.stn_questions.specs.Picture.{IsPicture}
-use Rattle.stn_questions.specs.Repair.Text.{IsRepairsText}
-use Rattle.stn_command.specs.{declared.queries.Query.Query as QueryOfCode, declared.queries.Choice.Choice as ChoiceOfCode, declared.queries.Outlook.Outlook, Words.no_such_word}
+use Rattle.stn_guard.specs.Adding.{are_within}
+use Rattle.stn_questions.specs.{declared.asked.Question.Question, Answer.{IsAnswer, AsksOfNoEvent, AsksOfSameEvent}, Ready.IsReadyWith, Steps.source_names, Repair.Text.IsRepairsText}
+use Rattle.stn_picture.specs.{Chart.{Look, seen_look}, Picture.IsPicture}
+use Rattle.stn_command.specs.{declared.queries.{Query.Query as QueryOfCode, Choice.Choice as ChoiceOfCode, Outlook.Outlook}, Words.no_such_word, Dispatch.{Choice, done_or_not_chosen, check_text, IsNextText, IsRestText, IsOverdueAt, IsRefusedRehearsal}}
 use Rattle.stn_command.specs.declared.queries.Query.TheVariants as asked
 use Rattle.stn_command.specs.declared.queries.Outlook.TheVariants as outlook
-use Rattle.stn_command.specs.Dispatch.{Choice, done_or_not_chosen, check_text, IsNextText, IsRestText, IsOverdueAt, IsRefusedRehearsal}
 
 -- the report; whether times for the events from 1 on are a schedule; of the chosen events, what comes next from a time on, which may run,
--- or how the rest runs; another question; what mends a conflict; the picture
+-- or how the rest runs; another question; what mends a conflict; the picture, drawn so
 pub data Query : Type 0 where
   report : Query
   check : (times : List ℤ) → Query
   foresee : (outlook : Outlook) (now : ℤ) (choice : Choice) → Query
   ask : (question : Question) → Query
   repairs : Query
-  draw : Query
+  draw : (look : Look) → Query
 
 -- the choice that the code has
 abbrev pub seen_choice : ChoiceOfCode → Choice
@@ -38,7 +35,7 @@ seen_query (asked.Check times) = check times.now
 seen_query (asked.Foresee outlook now choice) = foresee outlook now (seen_choice choice)
 seen_query (asked.Ask question) = ask question
 seen_query asked.Repairs = repairs
-seen_query asked.Draw = draw
+seen_query (asked.Draw look) = draw (seen_look look)
 
 -- what is true of each site: its plan has a base, its live records are of bounds of the plan, and each record that says that an event was
 -- executed fixes its time
@@ -60,7 +57,7 @@ IsSaid (check times) held text = text ≡ check_text (broken_bound held.source h
 IsSaid (foresee outlook now choice) held text = IsForeseen outlook held (done_or_not_chosen choice held.source held.state) now text
 IsSaid (ask question) held text = IsAnswer held.source held.state question text
 IsSaid repairs held text = IsRepairsText held.source held.state text
-IsSaid draw held text = IsPicture (steps_text held.source) held.source held.state text
+IsSaid (draw look) held text = IsPicture look (source_names held.source) held.source held.state text
 
 -- why a check is refused: there is not one time for each event
 abbrev pub IsCheckRefusal : Held → List ℤ → Option Failure → Type 0
@@ -92,6 +89,10 @@ IsQuestionRefusal held question cause = (AsksOfNoEvent held.source question × (
     ⊎ ((¬ AsksOfNoEvent held.source question) × AsksOfSameEvent question × (cause ≡ Some (bound_failure SameEvent)))
     ⊎ ((¬ AsksOfNoEvent held.source question) × (¬ AsksOfSameEvent question) × (cause ≡ None))
 
+-- why a picture is: the plan has not all steps that sites are said to own
+abbrev pub draw_refusal : Look → Held → Option Failure
+draw_refusal look held = if are_within (steps_of held.source) look.owned then None else Some (bound_failure NoEvent)
+
 -- why a query is refused, or that it is not
 abbrev pub IsQueryRefusal : Query → Held → Option Failure → Type 0
 IsQueryRefusal report held cause = cause ≡ None
@@ -99,7 +100,7 @@ IsQueryRefusal (check times) held cause = IsCheckRefusal held times cause
 IsQueryRefusal (foresee outlook now choice) held cause = IsForesightRefusal held outlook now choice cause
 IsQueryRefusal (ask question) held cause = IsQuestionRefusal held question cause
 IsQueryRefusal repairs held cause = cause ≡ None
-IsQueryRefusal draw held cause = cause ≡ None
+IsQueryRefusal (draw look) held cause = cause ≡ draw_refusal look held
 
 -- where memory may run out: nothing refuses the query; or the plan has all steps that a rehearsal chooses, and an event may be overdue
 abbrev pub LacksMemory : Query → Held → Type 0

@@ -1,7 +1,6 @@
 -- What single words say.
-use Rattle.std.specs.Prelude.{ℕ, ℤ, ◌+◌, ◌==◌, Bool, ◌&&◌, nat_le, if◌then◌else◌, List, [], ◌∷◌, find, Option, Some, None, Result, Ok, Err}
-use Rattle.std.specs.{List.range_with_len, List.before_first, List.after_first, Str.bytes_eq, Str.Parse.digits_value}
-use Rattle.stn_refusal.specs.{declared.code.Code.TheVariants.Line, declared.failure.Failure.Failure, Refusals.refused_at}
+use Rattle.std.specs.{Prelude.{ℕ, ℤ, ◌+◌, ◌==◌, Bool, ◌&&◌, nat_le, if◌then◌else◌, List, [], ◌∷◌, find, Option, Some, None, Result, Ok, Err}, List.{range_with_len, before_first, after_first}, Str.{bytes_eq, Parse.digits_value}}
+use Rattle.stn_refusal.specs.{declared.{code.Code.TheVariants.Line, failure.Failure.Failure}, Refusals.refused_at}
 use Rattle.stn_time.specs.{TimeOf.time_of, Failures.time_failure, declared.reading.TimeFault.TimeFault}
 use Rattle.stn_net.specs.Event.{most_events, event_text}
 use Rattle.stn_records.specs.Id.{most_sites, most_counter, SiteCounter, id_text}

@@ -1,9 +1,7 @@
 //! Changes of what a site holds.
 
 ghost use Rattle.std.specs.Prelude.{◌≡◌, ◌++◌, None, take, vec_len, unwrap_or, OnOk, OnErr, IfOk, IfErr};
-ghost use Rattle.stn_site.specs.Calls.{Leaves};
-ghost use Rattle.stn_site.specs.Held.{next_id};
-ghost use Rattle.stn_site.specs.Lines.{line};
+ghost use Rattle.stn_site.specs.{Calls.Leaves, Held.next_id, Lines.line};
 ghost use Rattle.stn_records.specs.Id.{id_text};
 ghost use Rattle.stn_site.specs.declared.faults.ReplicaFault.TheVariants as fault;
 ghost use Rattle.stn_command.specs.Change.{change_call, change_refusal, made_by, made_text};

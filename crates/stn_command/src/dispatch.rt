@@ -1,11 +1,10 @@
 //! What is said of times, of what comes next, and of the rest of the plan.
 
 ghost use Rattle.std.specs.Prelude.{◌≡◌, ◌⊎◌, ◌++◌, ◌+◌, List, ℕ, length, codes, OnOk, IfErr};
-ghost use Rattle.stn_net.specs.Event.{event_text};
+ghost use Rattle.stn_net.specs.{Event.event_text, declared.windows.answers.RehearseFault.TheVariants.{Overdue, Memory as want_of_memory}};
 ghost use Rattle.stn_lift.specs.PlanSource.{events_of};
 ghost use Rattle.stn_records.specs.Content.{AllProper};
 ghost use Rattle.stn_site.specs.Lines.{line};
-ghost use Rattle.stn_net.specs.declared.windows.answers.RehearseFault.TheVariants.{Overdue, Memory as want_of_memory};
 ghost use Rattle.stn_command.specs.Dispatch.{check_text, run_line, runs_text, next_text, IsNextText, IsRestText, IsOverdueAt, IsRefusedRehearsal};
 
 use std::alloc::Allocator;

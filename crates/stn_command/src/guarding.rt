@@ -1,7 +1,6 @@
 //! What is printed of a guard.
 
-ghost use Rattle.std.specs.Prelude.{◌≡◌, ◌++◌, option_map, take, vec_len, OnOk, OnErr};
-ghost use Rattle.std.specs.List.{flat_map};
+ghost use Rattle.std.specs.{Prelude.{◌≡◌, ◌++◌, option_map, take, vec_len, OnOk, OnErr}, List.flat_map};
 ghost use Rattle.stn_command.specs.Guarding.{added_line, guard_text};
 
 use crate::changes::Made;

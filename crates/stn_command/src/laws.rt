@@ -1,17 +1,12 @@
 ghost use Rattle.std.specs.Prelude.{◌≡◌, ◌⊎◌, ℕ, None, Some, List, Option};
-ghost use Rattle.stn_refusal.specs.declared.refusal.Refusal.{Refusal};
-ghost use Rattle.stn_refusal.specs.declared.failure.Failure.{Failure};
-ghost use Rattle.stn_refusal.specs.declared.failure.Failure.TheVariants.{Refused};
-ghost use Rattle.stn_site.specs.Held.{Held};
+ghost use Rattle.stn_refusal.specs.declared.{refusal.Refusal.Refusal, failure.Failure.{Failure, TheVariants.Refused}};
+ghost use Rattle.stn_site.specs.{Held.Held, Report.done_events};
 ghost use Rattle.stn_lift.specs.PlanSource.{PlanSource};
 ghost use Rattle.stn_records.specs.Content.{Content};
-ghost use Rattle.stn_site.specs.Report.{done_events};
-ghost use Rattle.stn_command.specs.Dispatch.{every_event, done_or_not_chosen};
-ghost use Rattle.stn_command.specs.Named.{IsNamed};
-ghost use Rattle.stn_command.specs.declared.names.Shown.{Shown};
-ghost use Rattle.stn_command.specs.Query.{Query, IsSoundSite, IsSaid, IsQueryRefusal};
+ghost use Rattle.stn_command.specs.{Dispatch.{every_event, done_or_not_chosen}, Named.{IsNamed, Shown}, Query.{Query, IsSoundSite, IsSaid, IsQueryRefusal}};
 
-use stn_questions::{one_answer, one_picture, one_repairs_text};
+use stn_picture::one_picture;
+use stn_questions::{one_answer, one_repairs_text};
 use stn_site::one_report;
 
 /// The law that what a site holds has one answer to each query, also by the names of another plan's steps, and one

@@ -6,16 +6,19 @@ ghost use Rattle.stn_lift.specs.PlanSource.{events_of, steps_of};
 ghost use Rattle.stn_records.specs.Content.{AllProper};
 ghost use Rattle.stn_refusal.specs.Refusals.{out_of_memory};
 ghost use Rattle.stn_replica.specs.Own.{done_or_others};
-ghost use Rattle.stn_command.specs.Dispatch.{done_or_not_chosen};
+ghost use Rattle.stn_guard.specs.Adding as adding;
+ghost use Rattle.stn_picture.specs.Chart.{seen_look};
+ghost use Rattle.stn_command.specs.{Dispatch.done_or_not_chosen, Query.{report, check, ask, repairs, seen_query, seen_choice, IsSaid, IsQueryRefusal, LacksMemory, Says, Foresees}};
 ghost use Rattle.stn_command.specs.Query as asked;
-ghost use Rattle.stn_command.specs.Query.{report, check, ask, repairs, draw, seen_query, seen_choice, IsSaid, IsQueryRefusal, LacksMemory, Says, Foresees};
 
 use crate::dispatch::{append_check, append_next, append_rest};
 use crate::words::no_such_word;
 use std::alloc::Allocator;
+use stn_guard::OwnedSteps;
 use stn_net::BoundFault;
+use stn_picture::{Look, print_picture};
 use stn_questions::{
-    Question, WhyFault, print_answer, print_picture, print_ready_with, print_repairs, print_steps,
+    Question, WhyFault, print_answer, print_ready_with, print_repairs, source_names,
 };
 use stn_refusal::{Failure, Fault};
 use stn_replica::{Own, StepRange, flags_among};
@@ -54,14 +57,14 @@ pub enum Query<'a> {
     Ask(Question),
     /// What mends a conflict.
     Repairs,
-    /// The picture of the plan.
-    Draw,
+    /// The picture of the plan, drawn so.
+    Draw(Look<'a>),
 }
 
 /// Appends what is said to a query about a site's copy of the plan. After an error nothing is appended.
 ///
 /// Refused as 70 where a check has not one time for each event, 4 where a question is about an event that the plan has not,
-/// or a step is chosen that it has not, 5 where a question is about an event and itself, 7 where an event of a rehearsal is
+/// or a step is chosen or said to be owned that it has not, 5 where a question is about an event and itself, 7 where an event of a rehearsal is
 /// overdue; or where memory runs out.
 #[tactic(auto, using(crate::proofs::Alike::memory_of, crate::proofs::Alike::lacks_where_free))]
 pub fn append_said<A: Allocator + Copy, B: Allocator>(
@@ -89,13 +92,13 @@ pub fn say<A: Allocator + Copy>(
 ) -> Result<Vec<u8, A>, Failure>
     ensures { Says (seen_query query.now) plan.now result }
 {
-    match *query {
+    match query {
         Query::Report => report(plan),
-        Query::Check(times) => check(plan, times),
-        Query::Foresee(outlook, now, choice) => foresee(plan, outlook, now, &choice),
-        Query::Ask(question) => tell(plan, question),
+        Query::Check(times) => check(plan, *times),
+        Query::Foresee(outlook, now, choice) => foresee(plan, *outlook, *now, choice),
+        Query::Ask(question) => tell(plan, *question),
         Query::Repairs => repairs(plan),
-        Query::Draw => draw(plan),
+        Query::Draw(look) => draw(plan, look),
     }
 }
 
@@ -260,12 +263,24 @@ fn repairs<A: Allocator + Copy>(plan: &SitePlan<A>) -> Result<Vec<u8, A>, Failur
 }
 
 // The picture of the plan.
-fn draw<A: Allocator + Copy>(plan: &SitePlan<A>) -> Result<Vec<u8, A>, Failure>
-    ensures { Says draw plan.now result }
+fn draw<'x, A: Allocator + Copy>(
+    plan: &SitePlan<A>,
+    look: &'x Look<'x>,
+) -> Result<Vec<u8, A>, Failure>
+    ensures { Says (asked.draw (seen_look look.now)) plan.now result }
 {
-    let mut steps = Vec::new(plan.alloc());
-    print_steps(plan, &mut steps)?;
+    if !are_within(look.owned, plan.base().steps()) {
+        return Err(Failure::from(BoundFault::NoEvent));
+    }
+    let names = source_names(plan)?;
     let mut text = Vec::new(plan.alloc());
-    print_picture(plan, &steps, &mut text)?;
+    print_picture(plan, look, &names, &mut text)?;
     Ok(text)
+}
+
+/// Whether a plan of so many steps has all steps that sites are said to own.
+pub fn are_within(owned: &[OwnedSteps], steps: u16) -> bool
+    ensures { result ≡ adding.are_within steps owned.now }
+{
+    owned.iter().all(|one| one.steps.is_within(steps))
 }

@@ -1,7 +1,6 @@
 //! The steps that words name.
 
-ghost use Rattle.std.specs.Prelude.{◌≡◌, ◌⊎◌, ◌<◌, ◌==◌, Ok, Err, map, option_map, IfOk, MatchResult};
-ghost use Rattle.std.specs.List.{slice_split};
+ghost use Rattle.std.specs.{Prelude.{◌≡◌, ◌⊎◌, ◌<◌, ◌==◌, Ok, Err, map, option_map, IfOk, MatchResult}, List.slice_split};
 ghost use Rattle.stn_refusal.specs.Refusals.{out_of_memory};
 ghost use Rattle.stn_command.specs.Steps as named;
 ghost use Rattle.stn_command.specs.Words.{each_read};

@@ -1,20 +1,11 @@
 -- What the rows hold after a parse without a fault, where each argument takes one value, asks for help, takes any number of texts or is a
 -- flag.
-use Rattle.std.proofs.Common.{◌≡◌, ◌≢◌, ◌⊎◌, ◌∙◌, ℕ, Bool, codes, true, false, not, cond, List, [], ◌∷◌, ◌++◌, Option, Some, None, refl, sym, ap, subst, inl, inr, arith, length, zero, suc, is_some, ◌&&◌, ◌==◌, option_map}
-use Rattle.std.specs.Prelude.{IsSomeAnd, IfSome, find, fold, slice_get, option_and_then}
-use Rattle.std.specs.{List.list_any, Option.option_map_or, Str.bytes_eq, Str.chars}
-use Rattle.std.proofs.{lemmas.Bool.ne_eqb, lemmas.Bool.or_parts, lemmas.Option.same_Some, lemmas.Slice.Eq.bytes_eq-Decides}
-use Rattle.clap.specs.{Lexer.long_of, Lexer.short_of, Facts.explicit_source, Facts.parser_of_value, Facts.unwrap_or_range, Values.Accepts, Values.is_request, Values.refused_kind, ValueTests.accepts, Takes.is_given, declared.builder.action.ArgAction.ArgAction, declared.builder.value_parser.ValueParser.ValueParser, declared.builder.value_parser.ValueParser.TheVariants.String}
-use Rattle.clap.proofs.{ValueTestLemmas.accepts-Accepts, FaultLemmas.request_fault}
-use Rattle.clap.specs.Walk.{Row, Rule, Text, Held, Names, Outcome, Step, Waiting, Walk, action_of, arg_by_id, arg_by_index, arg_by_long, arg_by_short, at_row, attached_value, after_flag, bundle_met, finished, first_of, has_row, long_met, most_values, nothing_held, option_met, option_word, plain_word, positional_held, reacted, reading_by, rows_after, settled, settled_rows, short_met, subcommand_met, takes_several, takes_values, to_positional, used, values_or_missing, walk, walk_from, walked, stronger, with_default, without, word_met}
+use Rattle.std.{proofs.{Common.{◌≡◌, ◌≢◌, ◌⊎◌, ◌∙◌, ℕ, Bool, codes, true, false, not, cond, List, [], ◌∷◌, ◌++◌, Option, Some, None, refl, sym, ap, subst, inl, inr, arith, length, zero, suc, is_some, ◌&&◌, ◌==◌, option_map}, lemmas.{Bool.{ne_eqb, or_parts}, Option.same_Some, Slice.Eq.bytes_eq-Decides}}, specs.{Prelude.{IsSomeAnd, IfSome, find, fold, slice_get, option_and_then}, List.list_any, Option.option_map_or, Str.{bytes_eq, chars}}}
+use Rattle.clap.{specs.{Lexer.{long_of, short_of}, Facts.{explicit_source, parser_of_value, unwrap_or_range}, Values.{Accepts, is_request, refused_kind}, ValueTests.accepts, Takes.is_given, declared.{builder.{action.ArgAction.ArgAction, value_parser.ValueParser.{ValueParser, TheVariants.String}}, parser.matches.ValueSource.TheVariants.{CommandLine, DefaultValue}}, Walk.{Row, Rule, Text, Held, Names, Outcome, Step, Waiting, Walk, action_of, arg_by_id, arg_by_index, arg_by_long, arg_by_short, at_row, attached_value, after_flag, bundle_met, finished, first_of, has_row, long_met, most_values, nothing_held, option_met, option_word, plain_word, positional_held, reacted, reading_by, rows_after, settled, settled_rows, short_met, subcommand_met, takes_several, takes_values, to_positional, used, values_or_missing, walk, walk_from, walked, stronger, with_default, without, word_met}, Simple.{App, Shape, argument_words, built, entered, label_of, names_of, rows_at, subcommand_of}, Kinds.{Kinds, check_kinds, or_else, range_kinds, request_kinds, value_kinds}, Faults.{stray_fault, other_fault, action_fault, bundle_fault, bundle_step_fault, check_fault, defaults_fault, entered_fault, fault_of, flags_fault, flag_word_fault, level_fault, long_fault, option_fault, positional_fault, react_fault, repeat_fault, settle_fault, short_fault, step_fault, turn_fault, use_fault, values_fault, walk_fault, word_fault}}, proofs.{ValueTestLemmas.accepts-Accepts, FaultLemmas.request_fault}}
 use Rattle.clap.specs.Walk as walk
 use Rattle.stn_line.specs.Given.{Each, HasWordsAmong, IsGiven}
-use Rattle.clap.specs.Simple.{App, Shape, argument_words, built, entered, label_of, names_of, rows_at, subcommand_of}
-use Rattle.clap.specs.Kinds.{Kinds, check_kinds, or_else, range_kinds, request_kinds, value_kinds}
-use Rattle.clap.specs.Faults.{stray_fault, other_fault, action_fault, bundle_fault, bundle_step_fault, check_fault, defaults_fault, entered_fault, fault_of, flags_fault, flag_word_fault, level_fault, long_fault, option_fault, positional_fault, react_fault, repeat_fault, settle_fault, short_fault, step_fault, turn_fault, use_fault, values_fault, walk_fault, word_fault}
 use Rattle.clap.specs.declared.builder.action.ArgAction.TheVariants as action
 use Rattle.clap.specs.declared.builder.value_parser.ValueParser.TheVariants as parser
-use Rattle.clap.specs.declared.parser.matches.ValueSource.TheVariants.{CommandLine, DefaultValue}
 use Rattle.clap.specs.declared.error.kind.ErrorKind.TheVariants as kind
 
 pub find_each : {X : Type 0} (P : X → Type 0) (f : X → Bool) (xs : List X) (a : X) → Each P xs → find f xs ≡ Some a → P a × (f a ≡ true)
@@ -489,10 +480,6 @@ level_given commands s words plain none =
     let fit : Fit s.rules (finished s.rules end) = defaults_fit s.rules s.rules (settled s.rules end).rows plain.rules settled_fit in
     let checks = no_second (defaults_fault (settled s.rules end).rows s.rules) _ (no_second (settle_fault s.rules s.args_override_self end) _ rest) in
     all_given s.rules (finished s.rules end) s.rules fit plain.rules (all_checked s (finished s.rules end) plain.negates checks)
-
-is_none_or : {X : Type 0} (o : Option X) → (is_some o ≡ true) ⊎ (o ≡ None)
-is_none_or None = inr refl
-is_none_or (Some x) = inl refl
 
 -- where the program asks for a subcommand, words without a fault name one, and each word that it requires is given
 pub command_given : (app : App) (words : List Text) → (built app).top.subcommand_required ≡ true → Each (ReadsPlainly (built app).subs) (built app).subs

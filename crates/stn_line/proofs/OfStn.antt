@@ -1,15 +1,8 @@
 -- The general law at the program's own commands.
-use Rattle.std.proofs.Common.{map, Option, Bor, option_map, subst, false, Bool, codes, cond, sym, ◌∷◌, ◌++◌, ◌≡◌, ◌≢◌, ◌⊎◌, true, [], refl, inl, inr, Some, None, List}
-use Rattle.std.specs.{Prelude.IfSome, Prelude.IsSomeAnd, Prelude.find, Str.bytes_eq}
-use Rattle.std.proofs.lemmas.Slice.Eq.{bytes_eq-Decides}
-use Rattle.clap.specs.{Facts.parser_of_value, Values.is_request, Matches.found_of, Matches.subcommand_name_of, Simple.subcommand_rows, Simple.subcommand_rows_of, declared.parser.matches.ArgMatches.ArgMatches, declared.parser.matches.ArgMatches.TheViews.out-ArgMatches, Walk.action_of, Walk.arg_by_id, Walk.rows_of, declared.builder.value_parser.ValueParser.ValueParser}
-use Rattle.clap.specs.Words.{Row, Rule, Shape, Text, built, fault_of, is_simple, is_simple_and_free, subcommand_of}
-use Rattle.clap.specs.declared.builder.action.ArgAction.TheVariants.{Append, Set, SetTrue}
-use Rattle.clap.specs.declared.builder.value_parser.ValueParser.TheVariants.{String, Unsigned}
+use Rattle.std.{proofs.{Common.{map, Option, Bor, option_map, subst, false, Bool, codes, cond, sym, ◌∷◌, ◌++◌, ◌≡◌, ◌≢◌, ◌⊎◌, true, [], refl, inl, inr, Some, None, List}, lemmas.Slice.Eq.bytes_eq-Decides}, specs.{Prelude.{IfSome, IsSomeAnd, find}, Str.bytes_eq}}
+use Rattle.clap.specs.{Facts.parser_of_value, Values.is_request, Matches.{found_of, subcommand_name_of}, Simple.{subcommand_rows, subcommand_rows_of}, declared.{parser.matches.ArgMatches.{ArgMatches, TheViews.out-ArgMatches}, builder.{value_parser.ValueParser.{ValueParser, TheVariants.{String, Unsigned}}, action.ArgAction.TheVariants.{Append, Set, SetTrue}}}, Walk.{action_of, arg_by_id, rows_of}, Words.{Row, Rule, Shape, Text, built, fault_of, is_simple, is_simple_and_free, subcommand_of}}
 use Rattle.clap.specs.declared.builder.value_parser.ValueParser.TheVariants as parser
-use Rattle.stn_line.specs.Commands.{commands, program, stn}
-use Rattle.stn_line.specs.Given.{Each, HasWords, HasWordsAmong, HoldsWord, HoldsWords, IsEntered, IsGiven, IsOneOf}
-use Rattle.stn_line.proofs.{Values.at_value, Values.entered_is, Fits.IsPlainIn, Fits.ReadsPlainly, Fits.command_given, Topics.names_no_help}
+use Rattle.stn_line.{specs.{Commands.{commands, program, stn}, Given.{Each, HasWords, HasWordsAmong, HoldsWord, HoldsWords, IsEntered, IsGiven, IsOneOf}}, proofs.{Values.{at_value, entered_is}, Fits.{IsPlainIn, ReadsPlainly, command_given}, Topics.names_no_help}}
 
 pub stn_simple : is_simple stn ≡ true
 unfolding stn
@@ -88,7 +81,7 @@ all_plain = (
                                       (
                                         reads refl refl refl (one refl refl refl refl, (one refl refl refl refl, (one refl refl refl refl, (one refl refl refl refl, (flag refl refl refl refl refl refl, (asks refl refl refl, tt)))))),
                                         (
-                                          reads refl refl refl (one refl refl refl refl, (one refl refl refl refl, (one refl refl refl refl, (asks refl refl refl, tt)))),
+                                          reads refl refl refl (one refl refl refl refl, (one refl refl refl refl, (one refl refl refl refl, (one refl refl refl refl, (one refl refl refl refl, (many refl refl refl refl refl, (asks refl refl refl, tt))))))),
                                           (
                                             reads refl refl refl (one refl refl refl refl, (asks refl refl refl, tt)),
                                             (

@@ -1,9 +1,7 @@
 -- How a command grows, word by word, and the program, command by command.
-use Rattle.std.proofs.Common.{◌≡◌, ◌∙◌, ℕ, ◌+◌, ◌<◌, ap, ap₂, sym, subst, false, List, [], ◌∷◌, ◌++◌, ◌||◌, length, map, take, fold, get_or}
-use Rattle.std.proofs.{lemmas.List.map_more, lemmas.List.Sums.fold-append}
-use Rattle.clap.specs.{Built.AddsArg, Built.AddsSubcommand, declared.builder.arg.Arg.Arg, declared.builder.command.Command.Command}
-use Rattle.clap.specs.Words.{Rule, Shape, Text, app_of, rule_of, with_subcommand}
-use Rattle.stn_line.specs.{Commands.command, Commands.top, Table.Reads, Table.read_rule, Table.read_shape, declared.commands.Row.Row, declared.commands.Word.Word}
+use Rattle.std.proofs.{Common.{◌≡◌, ◌∙◌, ℕ, ◌+◌, ◌<◌, ap, ap₂, sym, subst, false, List, [], ◌∷◌, ◌++◌, ◌||◌, length, map, take, fold, get_or}, lemmas.List.{map_more, Sums.fold-append}}
+use Rattle.clap.specs.{Built.{AddsArg, AddsSubcommand}, declared.builder.{arg.Arg.Arg, command.Command.Command}, Words.{Rule, Shape, Text, app_of, rule_of, with_subcommand}}
+use Rattle.stn_line.specs.{Commands.{command, top}, Table.{ReadsByShape, read_rule, read_shape}, declared.commands.{Row.Row, Word.Word}}
 
 -- the shape with one rule more, the last
 abbrev with_rule : Shape → Rule → Shape
@@ -11,10 +9,10 @@ with_rule shape rule = record shape { rules = shape.rules ++ rule ∷ [] }
 
 -- an argument that is added is read last
 pub grows : (name : Text) (words : List Word) (i : ℕ) (next : Word) (old new : Command) (a : Arg) → i < length words
-    → Reads (command name (map read_rule (take i words))) old → rule_of a ≡ read_rule (get_or words i next) → a.global ≡ false → AddsArg old a new
-    → Reads (command name (map read_rule (take (i + 1) words))) new
+    → ReadsByShape (command name (map read_rule (take i words))) old → rule_of a ≡ read_rule (get_or words i next) → a.global ≡ false → AddsArg old a new
+    → ReadsByShape (command name (map read_rule (take (i + 1) words))) new
 grows name words i next old new a within before rule own adds =
-    subst (λ rules. Reads (command name rules) new) (ap (λ r. map read_rule (take i words) ++ r ∷ []) rule ∙ sym (map_more read_rule words i next within))
+    subst (λ rules. ReadsByShape (command name rules) new) (ap (λ r. map read_rule (take i words) ++ r ∷ []) rule ∙ sym (map_more read_rule words i next within))
     (record {
       is = ap (λ app. app.top) (adds.shape own) ∙ ap (λ s. with_rule s (rule_of a)) before.is;
       own = adds.globals ∙ ap₂ (λ x y. x || y) before.own own;
@@ -25,7 +23,7 @@ pub record Joined (rows : List Row) (i : ℕ) (program : Command) : Type 0 where
   pub is : app_of program ≡ fold with_subcommand top (map read_shape (take i rows))
 
 -- a command that is added is the last
-pub joins : (rows : List Row) (i : ℕ) (next : Row) (old sub new : Command) → Joined rows i old → Reads (read_shape (get_or rows i next)) sub
+pub joins : (rows : List Row) (i : ℕ) (next : Row) (old sub new : Command) → Joined rows i old → ReadsByShape (read_shape (get_or rows i next)) sub
     → AddsSubcommand old sub new → i < length rows → Joined rows (i + 1) new
 joins rows i next old sub new before reads adds within = record {
   is = adds.shape reads.own ∙ ap₂ with_subcommand before.is reads.is

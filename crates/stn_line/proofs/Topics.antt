@@ -1,16 +1,8 @@
 -- Words without a fault don't ask for `help`: clap answers that itself.
-use Rattle.std.proofs.Common.{◌≡◌, ◌≢◌, ◌∙◌, ℕ, Bool, codes, true, false, not, cond, List, [], ◌∷◌, Option, Some, None, refl, sym, ap, is_some, ◌&&◌, ◌||◌, option_map}
-use Rattle.std.specs.Prelude.{⊤, IfSome, find, fold, option_and_then}
-use Rattle.std.specs.{List.list_any, Str.bytes_eq}
-use Rattle.std.proofs.lemmas.Slice.Eq.{bytes_eq-Decides}
-use Rattle.clap.specs.Lexer.{long_of, short_of}
-use Rattle.clap.specs.Walk.{Rule, Text, Held, Names, Outcome, Step, Waiting, Walk, after_flag, after_step, arg_by_index, long_or_other, nothing_held, plain_word, stop_after, subcommand_met, subcommand_or_other, to_positional, walk_from, walked, walked_from, word_met, answers_to}
+use Rattle.std.{proofs.{Common.{◌≡◌, ◌≢◌, ◌∙◌, ℕ, Bool, codes, true, false, not, cond, List, [], ◌∷◌, Option, Some, None, refl, sym, ap, is_some, ◌&&◌, ◌||◌, option_map}, lemmas.Slice.Eq.bytes_eq-Decides}, specs.{Prelude.{⊤, IfSome, find, fold, option_and_then}, List.list_any, Str.bytes_eq}}
+use Rattle.clap.specs.{Lexer.{long_of, short_of}, Walk.{Rule, Text, Held, Names, Outcome, Step, Waiting, Walk, after_flag, after_step, arg_by_index, long_or_other, nothing_held, plain_word, stop_after, subcommand_met, subcommand_or_other, to_positional, walk_from, walked, walked_from, word_met, answers_to}, Simple.{App, Shape, argument_words, built, entered, label_of, names_of, rows_at, subcommand_of}, Faults.{fault_of, other_fault, step_fault, turn_fault, walk_fault, word_fault}, Kinds.or_else}
 use Rattle.clap.specs.Walk as walk
-use Rattle.clap.specs.Simple.{App, Shape, argument_words, built, entered, label_of, names_of, rows_at, subcommand_of}
-use Rattle.clap.specs.Faults.{fault_of, other_fault, step_fault, turn_fault, walk_fault, word_fault}
-use Rattle.clap.specs.Kinds.{or_else}
-use Rattle.stn_line.specs.Given.{Each}
-use Rattle.stn_line.proofs.Fits.{find_each, no_first, no_second}
+use Rattle.stn_line.{specs.Given.Each, proofs.Fits.{find_each, no_first, no_second}}
 
 -- the word for help
 abbrev help : Text

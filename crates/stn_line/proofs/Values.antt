@@ -1,8 +1,6 @@
 -- From what a getter gives to the value that is known to be there.
-use Rattle.std.proofs.Common.{◌≡◌, ◌∙◌, ◌≤◌, ℕ, Option, Some, None, Result, Ok, Err, Bor, IsSome, IsSomeAnd, IfSome, IsOk, option_map, refl, sym, ap, subst, arith}
-use Rattle.std.specs.{Str.Parse.ParsesUnsigned, Str.Parse.digits_value, Str.Parse.without_leading_plus, Prelude.Box, Box.box_value}
-use Rattle.clap.specs.{Matches.found_of, Matches.subcommand_name_of, Simple.subcommand_rows, Simple.subcommand_rows_of, declared.parser.matches.ArgMatches.ArgMatches, declared.parser.matches.SubCommand.SubCommand, Values.IsUnsignedIn, Walk.Text, Walk.rows_of}
-use Rattle.clap.specs.declared.parser.matches.ArgMatches.TheViews.{out-ArgMatches, out-SubCommand}
+use Rattle.std.{proofs.Common.{◌≡◌, ◌∙◌, ◌≤◌, ℕ, Option, Some, None, Result, Ok, Err, Bor, IsSome, IsSomeAnd, IfSome, IsOk, option_map, refl, sym, ap, subst, arith}, specs.{Str.Parse.{ParsesUnsigned, digits_value, without_leading_plus}, Prelude.Box, Box.box_value}}
+use Rattle.clap.specs.{Matches.{found_of, subcommand_name_of}, Simple.{subcommand_rows, subcommand_rows_of}, declared.parser.matches.{ArgMatches.{ArgMatches, TheViews.{out-ArgMatches, out-SubCommand}}, SubCommand.SubCommand}, Values.IsUnsignedIn, Walk.{Text, rows_of}}
 
 -- what is there is given
 pub is_got : (r : Option (Bor Text)) (o : Option Text) (P : Text → Type 0) → option_map (λ s. s.now) r ≡ o → IsSomeAnd o P → IsSome r

@@ -1,7 +1,7 @@
 -- The commands of `stn` and their words, as clap reads them.
 use Rattle.std.specs.Prelude.{ℕ, List, [], ◌∷◌, Some, true, false, codes}
 use Rattle.stn_records.specs.Id.{most_sites}
-use Rattle.clap.specs.{Lexer.usize_max, Simple.new_shape, Words.App, Words.Rule, Words.Shape, Words.Text, Words.new_rule}
+use Rattle.clap.specs.{Lexer.usize_max, Simple.new_shape, Words.{App, Rule, Shape, Text, new_rule}}
 use Rattle.clap.specs.declared.builder.action.ArgAction.TheVariants as action
 use Rattle.clap.specs.declared.builder.value_parser.ValueParser.TheVariants as parser
 
@@ -87,7 +87,7 @@ commands = command (codes "run") []
     ∷ on_log (codes "bounds") []
     ∷ on_log (codes "check") (many_rule (codes "TIME") ∷ [])
     ∷ on_log (codes "rehearse") (word_rule (codes "NOW") ∷ choice_rules)
-    ∷ on_log (codes "draw") (option_rule (codes "plan") ∷ [])
+    ∷ on_log (codes "draw") (option_rule (codes "now") ∷ option_rule (codes "arrows") ∷ option_rule (codes "plan") ∷ options_rule (codes "own") ∷ [])
     ∷ command (codes "explain") (maybe_rule (codes "CODE") ∷ [])
     ∷ on_log (codes "shell") []
     ∷ on_log (codes "serve") (word_rule (codes "ADDR") ∷ number_rule (codes "COUNT") 1 most_connections ∷ number_option_rule (codes "seconds") 1 most_seconds ∷ [])

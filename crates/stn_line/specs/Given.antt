@@ -1,10 +1,7 @@
 -- For proofs alone: no public clause cites these words.
 -- What the words of an accepted command hold.
-use Rattle.std.specs.Prelude.{◌≡◌, ◌≢◌, ◌⊎◌, codes, Bool, true, false, List, [], ◌∷◌, Option, Some, IsSomeAnd, IfSome, ℕ, ⊤, find}
-use Rattle.std.specs.Str.{bytes_eq}
-use Rattle.clap.specs.{Facts.parser_of_value, declared.builder.value_parser.ValueParser.ValueParser}
-use Rattle.clap.specs.Words.{Accepts, IsUnsignedIn, Row, Rule, Shape, Text, built, first_of}
-use Rattle.clap.specs.declared.builder.value_parser.ValueParser.TheVariants.{String, Unsigned}
+use Rattle.std.specs.{Prelude.{◌≡◌, ◌≢◌, ◌⊎◌, codes, Bool, true, false, List, [], ◌∷◌, Option, Some, IsSomeAnd, IfSome, ℕ, ⊤, find}, Str.bytes_eq}
+use Rattle.clap.specs.{Facts.parser_of_value, declared.builder.value_parser.ValueParser.{ValueParser, TheVariants.{String, Unsigned}}, Words.{Accepts, IsUnsignedIn, Row, Rule, Shape, Text, built, first_of}}
 use Rattle.stn_line.specs.Commands.{commands, program}
 
 -- the property holds of each item
@@ -28,8 +25,8 @@ HasWordsAmong commands name rows =
     IsSomeAnd (find (λ command. bytes_eq command.name name) commands) (λ command. Each (IsGiven rows) command.rules)
 
 -- the word of this name has a value
-abbrev pub IsThere : Text → List Row → Type 0
-IsThere name rows = IsSomeAnd (first_of name rows) (λ _. ⊤)
+abbrev pub HasValue : Text → List Row → Type 0
+HasValue name rows = IsSomeAnd (first_of name rows) (λ _. ⊤)
 
 -- and its value is a number from `least` to `most`
 abbrev pub IsNumberThere : Text → ℕ → ℕ → List Row → Type 0
@@ -41,7 +38,7 @@ IsNumberWhereGiven name least most rows = IfSome (first_of name rows) (IsUnsigne
 
 -- what is known of a word, by whether it is required and by its parser
 abbrev pub HoldsWord : Bool → Option ValueParser → Text → List Row → Type 0
-HoldsWord true (Some String) word rows = IsThere word rows
+HoldsWord true (Some String) word rows = HasValue word rows
 HoldsWord true (Some (Unsigned least most)) word rows = IsNumberThere word least most rows
 HoldsWord false (Some (Unsigned least most)) word rows = IsNumberWhereGiven word least most rows
 HoldsWord required parser word rows = ⊤

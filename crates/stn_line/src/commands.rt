@@ -1,7 +1,6 @@
 ghost use Rattle.std.specs.Prelude.{◌≡◌, false, IfOk};
 ghost use Rattle.clap.specs.Words.{app_of, rule_of};
-ghost use Rattle.stn_line.specs.Commands.{stn as program, top as bare_top};
-ghost use Rattle.stn_line.specs.Table.{Reads, read_rule, read_shape};
+ghost use Rattle.stn_line.specs.{Commands.{stn as program, top as bare_top}, Table.{ReadsByShape, read_rule, read_shape}};
 
 use crate::help::REFUSALS;
 use clap::builder::ValueParser;
@@ -38,6 +37,8 @@ enum Word {
     Steps(&'static str, &'static str),
     // An option that names a plan's file, `--name=PLAN`.
     Plan(&'static str, &'static str),
+    // An option that is `yes` or `no`, `--name=yes`.
+    YesNo(&'static str, &'static str),
     // An option that names steps of a site, `--name=SITE:STEPS`. It may be given any number of times.
     Owned(&'static str, &'static str),
 }
@@ -265,8 +266,24 @@ const COMMANDS: [Row; 25] = [
     },
     Row {
         name: "draw",
-        about: "Draws the plan as a picture (SVG): the window of each event, or the conflict",
-        words: &[LOG, SITE, NAMES],
+        about: "Draws the plan as a picture (SVG): its steps and when they may run, or the conflict",
+        words: &[
+            LOG,
+            SITE,
+            Word::Time(
+                "now",
+                "The time now: all that is left comes at T or later; not shown, if not given",
+            ),
+            Word::YesNo(
+                "arrows",
+                "Whether arrows lead to each start from what holds it back: `yes`, if not given, or `no`",
+            ),
+            NAMES,
+            Word::Owned(
+                "own",
+                "Steps of a site, as `2:4-6`, which get the site's colour and number; given once for each site",
+            ),
+        ],
     },
     Row {
         name: "explain",
@@ -342,7 +359,7 @@ fn top<'a>(alloc: Global) -> Command<'a>
 
 // A command, as a row says it.
 fn command<'a>(alloc: Global, row: &Row) -> Result<Command<'a>, AllocError>
-    ensures is { IfOk result (Reads (read_shape row.now)) }
+    ensures is { IfOk result (ReadsByShape (read_shape row.now)) }
 {
     let mut command = Command::new(alloc, row.name).about(row.about);
     'words: for word in row.words {
@@ -381,6 +398,10 @@ fn argument<'a>(alloc: Global, word: &Word) -> Arg<'a>
         Word::Plan(name, help) => Arg::new(alloc, name)
             .long(name)
             .value_name("PLAN")
+            .help(help),
+        Word::YesNo(name, help) => Arg::new(alloc, name)
+            .long(name)
+            .value_name("WORD")
             .help(help),
         Word::Owned(name, help) => Arg::new(alloc, name)
             .long(name)

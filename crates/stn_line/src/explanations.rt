@@ -1,6 +1,6 @@
 //! What the program's refusals and faults mean, and what to do about them.
 
-pub use printing::print_explained;
+pub use printing::{meaning_of, print_explained};
 pub use subject::{Subject, fault_word};
 
 mod printing;

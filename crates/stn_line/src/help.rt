@@ -1,7 +1,6 @@
 //! What the program says of words that are no command line.
 
-ghost use Rattle.std.specs.Prelude.{◌≢◌, [], IfOk};
-ghost use Rattle.std.specs.String.{string_bytes};
+ghost use Rattle.std.specs.{Prelude.{◌≢◌, [], IfOk}, String.string_bytes};
 
 use std::alloc::{AllocError, Global};
 

@@ -2,7 +2,7 @@
 //! each refusal and fault.
 #![tactic(auto)]
 
-pub use explanations::{Subject, fault_word, print_explained};
+pub use explanations::{Subject, fault_word, meaning_of, print_explained};
 pub use help::said;
 pub use reading::line;
 pub use words::{EventChoice, Line, LineFault, SiteLog};

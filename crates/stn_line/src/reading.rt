@@ -1,9 +1,7 @@
 ghost use Rattle.std.specs.Prelude.{◌≡◌, ◌≤◌, ◌∷◌, IfErr, IfOk, IsSomeAnd, [], ℕ, codes, map};
 ghost use Rattle.clap.specs.Words.{fault_of, found_of, rows_of, subcommand_of, subcommand_rows_of};
-ghost use Rattle.stn_line.specs.Commands.{most_read_steps, most_seconds, stn as program};
+ghost use Rattle.stn_line.specs.{Commands.{most_read_steps, most_seconds, stn as program}, Given.{HasWords, IsEntered, IsOneOf, HasValue, IsNumberThere, IsNumberWhereGiven}, Lines.{IsWordsFault, IsChoice, IsFlag, IsLineOf, IsNumberValue, IsOnLog, IsOption, IsSeconds, IsWordValue, IsWords}};
 ghost use Rattle.stn_records.specs.Id.{most_sites};
-ghost use Rattle.stn_line.specs.Given.{HasWords, IsEntered, IsOneOf, IsThere, IsNumberThere, IsNumberWhereGiven};
-ghost use Rattle.stn_line.specs.Lines.{IsFaultOf, IsChoice, IsFlag, IsLineOf, IsNumber, IsOnLog, IsOption, IsSeconds, IsWord, IsWords};
 
 use crate::commands::stn;
 use crate::words::{EventChoice, Line, LineFault, SiteLog};
@@ -21,7 +19,7 @@ pub fn line<'a>(alloc: Global, words: &'a [&'a str]) -> Result<Line<'a>, LineFau
     ensures found { IfOk result (λ line. IsSomeAnd (subcommand_of program (map (λ word. word.now) words.entry.now))
         (λ command. IsLineOf line command.0 command.1)) }
     ensures taken { IfOk result (λ _. fault_of program (map (λ word. word.now) words.entry.now) ≡ []) }
-    ensures refused { IfErr result (λ fault. IsFaultOf fault (map (λ word. word.now) words.entry.now)) }
+    ensures refused { IfErr result (λ fault. IsWordsFault fault (map (λ word. word.now) words.entry.now)) }
 {
     match stn(alloc)?.try_get_matches_from(words) {
         Ok(matches) => Ok(read(alloc, &matches)?),
@@ -51,10 +49,10 @@ fn command<'a>(alloc: Global, name: &str, words: &ArgMatches<'a>) -> Result<Line
         }),
         "bare" | "init" | "loosen" => Ok(making(name, words)),
         "add" | "amend" | "withdraw" | "done" | "merge" => Ok(changing(name, words)),
-        "guard" | "check" => listing(alloc, name, words),
+        "guard" | "check" | "draw" => listing(alloc, name, words),
         "report" | "repairs" | "records" | "bounds" | "shell" => Ok(telling(name, words)),
         "next" | "ready" | "rehearse" => Ok(choosing(name, words)),
-        "why" | "steps" | "draw" => Ok(naming(name, words)),
+        "why" | "steps" => Ok(naming(name, words)),
         _ => Ok(talking(name, words)),
     }
 }
@@ -126,9 +124,9 @@ fn changing<'a>(name: &str, words: &ArgMatches<'a>) -> Line<'a>
     }
 }
 
-// A command with any number of words of one kind.
+// A command with a word that may be given any number of times.
 fn listing<'a>(alloc: Global, name: &str, words: &ArgMatches<'a>) -> Result<Line<'a>, AllocError>
-    requires named { IsOneOf name.now (codes "guard" ∷ codes "check" ∷ []) }
+    requires named { IsOneOf name.now (codes "guard" ∷ codes "check" ∷ codes "draw" ∷ []) }
     requires words { HasWords name.now (rows_of (found_of words.now)) }
     ensures { IfOk result (λ line. IsLineOf line name.now (rows_of (found_of words.now))) }
 {
@@ -138,9 +136,16 @@ fn listing<'a>(alloc: Global, name: &str, words: &ArgMatches<'a>) -> Result<Line
             log,
             owned: all_words(alloc, words, "own")?,
         }),
-        _ => Ok(Line::Check {
+        "check" => Ok(Line::Check {
             log,
             times: all_words(alloc, words, "TIME")?,
+        }),
+        _ => Ok(Line::Draw {
+            log,
+            plan: option(words, "plan"),
+            now: option(words, "now"),
+            arrows: option(words, "arrows"),
+            owned: all_words(alloc, words, "own")?,
         }),
     }
 }
@@ -179,7 +184,7 @@ fn choosing<'a>(name: &str, words: &ArgMatches<'a>) -> Line<'a>
 
 // A question about an event, or about the steps by their names.
 fn naming<'a>(name: &str, words: &ArgMatches<'a>) -> Line<'a>
-    requires named { IsOneOf name.now (codes "why" ∷ codes "steps" ∷ codes "draw" ∷ []) }
+    requires named { IsOneOf name.now (codes "why" ∷ codes "steps" ∷ []) }
     requires words { HasWords name.now (rows_of (found_of words.now)) }
     ensures { IsLineOf result name.now (rows_of (found_of words.now)) }
 {
@@ -190,11 +195,7 @@ fn naming<'a>(name: &str, words: &ArgMatches<'a>) -> Line<'a>
             event: word(words, "EVENT"),
             to: option(words, "TO"),
         },
-        "steps" => Line::Steps {
-            log,
-            plan: option(words, "plan"),
-        },
-        _ => Line::Draw {
+        _ => Line::Steps {
             log,
             plan: option(words, "plan"),
         },
@@ -239,8 +240,8 @@ fn seconds(words: &ArgMatches<'_>) -> u16
 
 // The value of a word that is there.
 fn word<'a>(words: &ArgMatches<'a>, name: &str) -> &'a str
-    requires { IsThere name.now (rows_of (found_of words.now)) }
-    ensures { IsWord name.now result (rows_of (found_of words.now)) }
+    requires { HasValue name.now (rows_of (found_of words.now)) }
+    ensures { IsWordValue name.now result (rows_of (found_of words.now)) }
 {
     words.get_str(name).unwrap()
 }
@@ -288,7 +289,7 @@ fn flag(words: &ArgMatches<'_>, name: &str) -> bool
 
 // The log, and its site.
 fn site_log<'a>(words: &ArgMatches<'a>) -> SiteLog<'a>
-    requires log { IsThere (codes "LOG") (rows_of (found_of words.now)) }
+    requires log { HasValue (codes "LOG") (rows_of (found_of words.now)) }
     requires site { IsNumberThere (codes "SITE") 1 most_sites (rows_of (found_of words.now)) }
     ensures { IsOnLog result (rows_of (found_of words.now)) }
 {
@@ -301,7 +302,7 @@ fn site_log<'a>(words: &ArgMatches<'a>) -> SiteLog<'a>
 // The site of the log.
 fn site(words: &ArgMatches<'_>) -> Site
     requires { IsNumberThere (codes "SITE") 1 most_sites (rows_of (found_of words.now)) }
-    ensures { IsNumber (codes "SITE") result (rows_of (found_of words.now)) }
+    ensures { IsNumberValue (codes "SITE") result (rows_of (found_of words.now)) }
 {
     Site::new(number(words, "SITE") as u8).unwrap()
 }
@@ -309,7 +310,7 @@ fn site(words: &ArgMatches<'_>) -> Site
 // The number that the digits of a word are.
 fn number(words: &ArgMatches<'_>, name: &str) -> u16
     requires { IsNumberThere name.now 0 most_read_steps (rows_of (found_of words.now)) }
-    ensures value { IsNumber name.now result (rows_of (found_of words.now)) }
+    ensures value { IsNumberValue name.now result (rows_of (found_of words.now)) }
     ensures within { (least most : ℕ) → IsNumberThere name.now least most (rows_of (found_of words.now))
         → (least ≤ result) × (result ≤ most) }
 {

@@ -137,10 +137,15 @@ pub enum Line<'a> {
         now: &'a str,
         choice: EventChoice<'a>,
     },
-    /// Draws every event's window, or a cycle of bounds that contradict each other; beside it the steps, as `Steps` tells them.
+    /// Draws the plan's steps on an axis of time, or a walk round the bounds that contradict each other: from a time on, where one is
+    /// given; with arrows, unless the word for them says no; with the steps of sites, as in `Guard`; by the names of a plan's file, as
+    /// in `Steps`.
     Draw {
         log: SiteLog<'a>,
         plan: Option<&'a str>,
+        now: Option<&'a str>,
+        arrows: Option<&'a str>,
+        owned: Vec<&'a str, Global>,
     },
     /// Explains a refusal or a fault, by the number or the word that is printed for it; where none is given, lists all.
     Explain {

@@ -1,11 +1,6 @@
 -- The axis reaches past what it has to show.
-use Rattle.std.proofs.Common.{◌≡◌, ℕ, ℤ, zero, suc, ◌+◌, ◌-◌, ◌*◌, ◌/◌, ◌%◌, ◌<◌, ◌≤◌, Bool, true, false, List, [], ◌∷◌, if◌then◌else◌, ⊎_elim, true≢false, subst, sym, arith}
-use Rattle.std.specs.Prelude.{max, Option}
-use Rattle.std.proofs.lemmas.Bool.{cases_lt}
-use Rattle.std.proofs.lemmas.Nat.{div-add-mod', mod_below, div_below}
-use Rattle.stn_picture.specs.Axis.{gaps_in, gap_of, first_gap, gaps, fits}
-use Rattle.stn_picture.specs.Chart.{reach, furthest, far_of, moment_of, is_open_in, soonest_in, latest_in}
-use Rattle.stn_picture.specs.Places.{place_on, line_left, line_width}
+use Rattle.std.{proofs.{Common.{◌≡◌, ℕ, ℤ, zero, suc, ◌+◌, ◌-◌, ◌*◌, ◌/◌, ◌%◌, ◌<◌, ◌≤◌, Bool, true, false, List, [], ◌∷◌, if◌then◌else◌, ⊎_elim, true≢false, subst, sym, arith}, lemmas.{Bool.cases_lt, Nat.{div-add-mod', mod_below, div_below}}}, specs.Prelude.{max, Option}}
+use Rattle.stn_picture.specs.{Axis.{gaps_in, gap_of, first_gap, gaps, fits}, Chart.{reach, furthest, far_of, moment_of, is_open_in, soonest_in, latest_in}, Places.{place_on, line_left, line_width}}
 
 -- the axis reaches as far as it has to for each event
 pub reached : (windows : List (ℤ × ℤ)) (events event : ℕ) → 1 ≤ event → event ≤ events → reach windows event ≤ furthest windows events

@@ -1,9 +1,5 @@
 -- The gaps of an axis.
-use Rattle.std.proofs.Common.{◌≡◌, ℕ, zero, suc, ◌+◌, ◌-◌, ◌*◌, ◌/◌, ◌^◌, ◌<◌, ◌≤◌, nat_lt, Bool, true, false, ◌&&◌, List, [], ◌∷◌, length, drop, get_or, if◌then◌else◌, drop-cons, add-one, refl, sym, ap, ◌∙◌, arith}
-use Rattle.std.specs.{Prelude.nat_le, List.list_all}
-use Rattle.std.proofs.lemmas.Bool.{and_parts}
-use Rattle.std.proofs.lemmas.Bool.Decides.{nat_tests}
-use Rattle.std.proofs.lemmas.Nat.{le-div}
+use Rattle.std.{proofs.{Common.{◌≡◌, ℕ, zero, suc, ◌+◌, ◌-◌, ◌*◌, ◌/◌, ◌^◌, ◌<◌, ◌≤◌, nat_lt, Bool, true, false, ◌&&◌, List, [], ◌∷◌, length, drop, get_or, if◌then◌else◌, drop-cons, add-one, refl, sym, ap, ◌∙◌, arith}, lemmas.{Bool.{and_parts, Decides.nat_tests}, Nat.le-div}}, specs.{Prelude.nat_le, List.list_all}}
 use Rattle.stn_picture.specs.Axis.{gaps, gaps_in, fits, first_gap, gap_of, widest_gap}
 
 all_at : (p : ℕ → Bool) (xs : List ℕ) → list_all p xs ≡ true → (i : ℕ) → i < length xs → p (get_or xs i 0) ≡ true

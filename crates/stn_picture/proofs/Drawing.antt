@@ -1,18 +1,10 @@
 -- Texts that grow by a line.
-use Rattle.std.proofs.Common.{◌≡◌, ◌≢◌, ◌⊎◌, ⊎_elim, inl, inr, ℕ, ℤ, zero, suc, ◌+◌, ◌==◌, ◌&&◌, eqb, not, Bool, true, false, cond, if◌then◌else◌, List, [], ◌∷◌, ◌++◌, length, filter, map, take, drop, drop-cons, get_or, ◌<◌, refl, sym, ap, ◌∙◌, add-one, arith, append_assoc}
-use Rattle.std.proofs.lemmas.List.{append-nil, map-append, take_more}
-use Rattle.std.proofs.lemmas.List.Concat.{flat_map-append}
-use Rattle.std.proofs.lemmas.List.Elements.{filter-append}
-use Rattle.std.proofs.lemmas.Bool.Decides.{eqb_tells}
-use Rattle.std.specs.List.{flat_map, range_with_len}
+use Rattle.std.{proofs.{Common.{◌≡◌, ◌≢◌, ◌⊎◌, ⊎_elim, inl, inr, ℕ, ℤ, zero, suc, ◌+◌, ◌==◌, ◌&&◌, eqb, not, Bool, true, false, cond, if◌then◌else◌, List, [], ◌∷◌, ◌++◌, length, filter, map, take, drop, drop-cons, get_or, ◌<◌, refl, sym, ap, ◌∙◌, add-one, arith, append_assoc}, lemmas.{List.{append-nil, map-append, take_more, Concat.flat_map-append, Elements.filter-append}, Bool.Decides.eqb_tells, Int.ints}}, specs.{List.{flat_map, range_with_len}, Prelude.{max, int_lt, ◌+ℤ◌}}}
 use Rattle.stn_net.specs.Difference.{Difference}
-use Rattle.std.specs.Prelude.{max, int_lt, ◌+ℤ◌}
-use Rattle.std.proofs.lemmas.Int.{ints}
-use Rattle.stn_conflict.specs.{declared.links.Link.Link, Arcs.arc_of, Arcs.weight_of}
+use Rattle.stn_conflict.specs.{declared.links.Link.Link, Arcs.{arc_of, weight_of}}
 use Rattle.stn_records.specs.Content.{Content}
 use Rattle.stn_site.specs.{Report.is_done, Windows.window_at}
-use Rattle.stn_picture.specs.declared.parts.Part.{Part}
-use Rattle.stn_picture.specs.{Frame.entry_at, Frame.left_after, Frame.entries_text, Chart.Chart, Chart.held_by, Chart.holder_in, Chart.floor, Chart.floors_at, Chart.overdue_from, Seen.floor_at, Walk.greatest, Walk.sum_of}
+use Rattle.stn_picture.specs.{declared.parts.Part.Part, Frame.{entry_at, left_after, entries_text}, Chart.{Chart, held_by, holder_in, floor, floors_at, overdue_from}, Seen.floor_at, Walk.{greatest, sum_of}}
 
 -- the text of one number more
 pub range_more : (f : ℕ → List ℕ) (a n next : ℕ) → a + n ≡ next → flat_map f (range_with_len a (suc n)) ≡ flat_map f (range_with_len a n) ++ f next

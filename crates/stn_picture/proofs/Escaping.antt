@@ -1,6 +1,5 @@
 -- What a text is shown as.
-use Rattle.std.proofs.Common.{◌≡◌, ℕ, Bool, true, false, ◌==◌, List, [], ◌∷◌, ◌++◌, codes, if◌then◌else◌, refl}
-use Rattle.std.specs.List.{list_all}
+use Rattle.std.{proofs.Common.{◌≡◌, ℕ, Bool, true, false, ◌==◌, List, [], ◌∷◌, ◌++◌, codes, if◌then◌else◌, refl}, specs.List.list_all}
 use Rattle.stn_picture.specs.Escape.{is_printed, shown, is_plain, are_named}
 
 module _ (byte : ℕ) (rest : List ℕ) (plain : list_all is_plain rest ≡ true) (named : are_named rest ≡ true) where

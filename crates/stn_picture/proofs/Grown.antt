@@ -1,6 +1,5 @@
 -- Texts that grow piece by piece.
-use Rattle.std.proofs.Common.{◌≡◌, ℕ, List, ◌++◌, codes, cond, Result, Ok, Err, OnOk, ap, sym, true≢false, ◌∙◌, append_assoc}
-use Rattle.std.specs.{Prelude.is_ok, Prelude.MatchResult, Result.IsOk, Result.IsErr}
+use Rattle.std.{proofs.Common.{◌≡◌, ℕ, List, ◌++◌, codes, cond, Result, Ok, Err, OnOk, ap, sym, true≢false, ◌∙◌, append_assoc}, specs.{Prelude.{is_ok, MatchResult}, Result.{IsOk, IsErr}}}
 
 -- one piece more
 pub then : (front seen piece : List ℕ) {middle end : List ℕ} → middle ≡ front ++ seen → end ≡ middle ++ piece → end ≡ front ++ (seen ++ piece)

@@ -5,6 +5,7 @@ pub mod Escaping
 pub mod Grown
 pub mod OnePicture
 pub mod Order
+pub mod SamePicture
 pub mod Shown
 pub mod Sums
 pub mod Times

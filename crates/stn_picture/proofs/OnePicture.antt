@@ -1,18 +1,12 @@
 -- A plan and a state have one picture.
-use Rattle.std.proofs.Common.{◌≡◌, ℕ, ℤ, zero, suc, pos, ◌+◌, ◌<◌, ◌≤◌, List, [], ◌∷◌, ◌++◌, length, get_or, sym, ap, ◌∙◌, refl, ⊎_elim, arith}
-use Rattle.std.specs.Prelude.{Option}
-use Rattle.stn_net.specs.{Difference.Difference, Schedule.HasSchedule}
-use Rattle.stn_net.proofs.{WindowEnds.one_window, Closure.schedule_before}
+use Rattle.std.{proofs.Common.{◌≡◌, ℕ, ℤ, zero, suc, pos, ◌+◌, ◌<◌, ◌≤◌, List, [], ◌∷◌, ◌++◌, length, get_or, sym, ap, ◌∙◌, refl, ⊎_elim, arith}, specs.Prelude.Option}
+use Rattle.stn_net.{specs.{Difference.Difference, Schedule.HasSchedule}, proofs.{WindowEnds.one_window, Closure.schedule_before}}
 use Rattle.stn_lift.specs.PlanSource.{PlanSource, base_bounds, events_of}
-use Rattle.stn_records.specs.Content.{Content, live_of}
+use Rattle.stn_records.specs.{Content.{Content, live_of}, Id.SiteCounter, declared.record.Record.Record}
 use Rattle.stn_conflict.specs.{declared.links.Link.Link, Arcs.IsNegativeCycle, Named.IsNamedCycle}
-use Rattle.stn_site.specs.{Bounds.all_bounds, Bounds.live_bounds, Names.live_ids, Windows.window_at, Windows.AreWindows}
-use Rattle.stn_records.specs.{Id.SiteCounter, declared.record.Record.Record}
-use Rattle.stn_questions.specs.{declared.repair.Repair.Repair, Repair.Repairs.others, Repair.Repairs.IsRepair, Repair.Repairs.AreRepairs}
-use Rattle.stn_questions.proofs.Ranges.{one_range}
-use Rattle.stn_picture.specs.Chart.{Look, floors, overdue_event, AreDrawn, chart_of}
-use Rattle.stn_picture.specs.{Frame.plan_text, Walk.walk_of, Walk.walk_text}
-use Rattle.stn_picture.specs.Picture.{IsPlanPicture, IsWalkPicture, IsPicture}
+use Rattle.stn_site.specs.{Bounds.{all_bounds, live_bounds}, Names.live_ids, Windows.{window_at, AreWindows}}
+use Rattle.stn_questions.{specs.{declared.repair.Repair.Repair, Repair.Repairs.{others, IsRepair, AreRepairs}}, proofs.Ranges.one_range}
+use Rattle.stn_picture.specs.{Chart.{Look, floors, overdue_event, AreDrawn, chart_of}, Frame.plan_text, Walk.{walk_of, walk_text}, Picture.{IsPlanPicture, IsWalkPicture, IsPicture}}
 
 -- a record has one repair
 one_repair : (bounds : List Difference) (id : SiteCounter) (bound : Difference) (one other : Repair) → IsRepair bounds id bound one → IsRepair bounds id bound other → one ≡ other

@@ -1,10 +1,6 @@
 -- Each step has a row of its own.
-use Rattle.std.proofs.Common.{◌≡◌, ◌≢◌, ◌⊎◌, ℕ, ℤ, zero, suc, ◌+◌, ◌==◌, ◌<◌, ◌≤◌, nat_lt, Bool, true, false, ◌&&◌, ◌||◌, cond, List, [], ◌∷◌, length, filter, ⊎_elim, refl, sym, ap, true≢false, arith}
-use Rattle.std.proofs.lemmas.Bool.Decides.{nat_tests}
-use Rattle.std.proofs.lemmas.Bool.{cases_lt}
-use Rattle.std.specs.List.{range_with_len}
-use Rattle.stn_picture.specs.Chart.{start_of, soonest_in, is_above, row_in}
-use Rattle.stn_picture.proofs.Drawing.{one_first}
+use Rattle.std.{proofs.{Common.{◌≡◌, ◌≢◌, ◌⊎◌, ℕ, ℤ, zero, suc, ◌+◌, ◌==◌, ◌<◌, ◌≤◌, nat_lt, Bool, true, false, ◌&&◌, ◌||◌, cond, List, [], ◌∷◌, length, filter, ⊎_elim, refl, sym, ap, true≢false, arith}, lemmas.Bool.{cases_lt, Decides.nat_tests}}, specs.List.range_with_len}
+use Rattle.stn_picture.{specs.Chart.{start_of, soonest_in, is_above, row_in}, proofs.Drawing.one_first}
 
 -- one step comes before another in the order of a time and a number
 abbrev before : ℕ → ℕ → ℕ → ℕ → Bool

@@ -1,9 +1,6 @@
 -- A time as it is printed.
-use Rattle.std.proofs.Common.{◌≡◌, ℕ, ℤ, ◌/◌, ◌%◌, ◌^◌, ◌<◌, List, ◌++◌, codes, decimal, refl, arith}
-use Rattle.std.specs.{Prelude.unsigned_abs, Int.is_negative, Fmt.sign_text}
-use Rattle.std.proofs.lemmas.Fmt.{decimal_digit}
-use Rattle.stn_time.specs.Text.{printed}
-use Rattle.stn_time.proofs.Prints.{decimal-whole_text}
+use Rattle.std.{proofs.{Common.{◌≡◌, ℕ, ℤ, ◌/◌, ◌%◌, ◌^◌, ◌<◌, List, ◌++◌, codes, decimal, refl, arith}, lemmas.Fmt.decimal_digit}, specs.{Prelude.unsigned_abs, Int.is_negative, Fmt.sign_text}}
+use Rattle.stn_time.{specs.Text.printed, proofs.Prints.decimal-whole_text}
 
 -- the sign, the whole seconds, a point and three digits are the printed form
 pub shown : (millis : ℤ) (size : ℕ) (sign : List ℕ) → size ≡ unsigned_abs millis → size < 2 ^ 64 → sign ≡ sign_text (is_negative millis)

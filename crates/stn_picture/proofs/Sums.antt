@@ -1,11 +1,8 @@
 -- The sums of the first links.
-use Rattle.std.proofs.Common.{◌≡◌, ℕ, ℤ, zero, suc, pos, ◌+◌, ◌*◌, ◌<◌, ◌≤◌, List, [], ◌∷◌, ◌++◌, map, length, get_or, sym, ap, ◌∙◌, subst, All, arith}
-use Rattle.std.specs.{Prelude.◌+ℤ◌, Prelude.unsigned_abs, List.range_with_len}
-use Rattle.std.proofs.lemmas.{Int.ints, List.FromFn.map-range_with_len_more, List.Elements.All-push}
+use Rattle.std.{proofs.{Common.{◌≡◌, ℕ, ℤ, zero, suc, pos, ◌+◌, ◌*◌, ◌<◌, ◌≤◌, List, [], ◌∷◌, ◌++◌, map, length, get_or, sym, ap, ◌∙◌, subst, All, arith}, lemmas.{Int.ints, List.{FromFn.map-range_with_len_more, Elements.All-push}}}, specs.{Prelude.{◌+ℤ◌, unsigned_abs}, List.range_with_len}}
 use Rattle.stn_net.specs.Difference.{Difference}
 use Rattle.stn_conflict.specs.{declared.links.Link.Link, Arcs.arc_of}
-use Rattle.stn_picture.specs.Walk.{sum_of}
-use Rattle.stn_picture.proofs.Drawing.{sum_more}
+use Rattle.stn_picture.{specs.Walk.sum_of, proofs.Drawing.sum_more}
 
 read_from : (f : ℕ → ℤ) (a n k : ℕ) (d : ℤ) → k < n → get_or (map f (range_with_len a n)) k d ≡ f (a + k)
 read_from f a zero k d within = absurd (omega (arith, within))

@@ -1,13 +1,12 @@
 -- What is drawn of a plan.
-use Rattle.std.specs.Prelude.{◌≡◌, ◌⊎◌, ℕ, ℤ, zero, suc, pos, ◌+◌, ◌-◌, ◌*◌, ◌/◌, ◌+ℤ◌, ◌-ℤ◌, ◌==◌, nat_lt, int_lt, max, Bool, not, ◌&&◌, ◌||◌, if◌then◌else◌, List, [], ◌∷◌, ◌++◌, map, filter, length, Option, Some, None, Vec, unsigned_abs}
-use Rattle.std.specs.{List.range_with_len, Int.is_negative, Ordering.int_eq}
+use Rattle.std.specs.{Prelude.{◌≡◌, ◌⊎◌, ℕ, ℤ, zero, suc, pos, ◌+◌, ◌-◌, ◌*◌, ◌/◌, ◌+ℤ◌, ◌-ℤ◌, ◌==◌, nat_lt, int_lt, max, Bool, not, ◌&&◌, ◌||◌, if◌then◌else◌, List, [], ◌∷◌, ◌++◌, map, filter, length, Option, Some, None, Vec, unsigned_abs}, List.range_with_len, Int.is_negative, Ordering.int_eq}
 use Rattle.stn_time.specs.Time.{horizon}
 use Rattle.stn_net.specs.{Difference.Difference, Schedule.HasSchedule}
 use Rattle.stn_lift.specs.PlanSource.{PlanSource, steps_of, events_of}
 use Rattle.stn_records.specs.Content.{Content}
-use Rattle.stn_site.specs.{Bounds.all_bounds, Report.is_done, Report.done_events, Windows.window_at, Windows.AreWindows}
+use Rattle.stn_site.specs.{Bounds.all_bounds, Report.{is_done, done_events}, Windows.{window_at, AreWindows}}
 use Rattle.stn_guard.specs.declared.owners.OwnedSteps.{OwnedSteps}
-use Rattle.stn_picture.specs.{declared.look.Look.Look as LookOfCode, Axis.gap_of, Axis.gaps_in}
+use Rattle.stn_picture.specs.{declared.look.Look.Look as LookOfCode, Axis.{gap_of, gaps_in}}
 
 -- how a plan is drawn: the title, the present, if it is shown, whether there are arrows, and which steps a site owns
 pub record Look : Type 0 where

@@ -1,7 +1,5 @@
 -- A text as SVG shows it.
-use Rattle.std.specs.Prelude.{ℕ, ◌-◌, ◌==◌, ◌&&◌, ◌||◌, nat_lt, nat_le, not, Bool, true, List, [], ◌∷◌, ◌++◌, take, length, codes, if◌then◌else◌}
-use Rattle.std.specs.List.{flat_map}
-use Rattle.std.specs.Str.{bytes_eq}
+use Rattle.std.specs.{Prelude.{ℕ, ◌-◌, ◌==◌, ◌&&◌, ◌||◌, nat_lt, nat_le, not, Bool, true, List, [], ◌∷◌, ◌++◌, take, length, codes, if◌then◌else◌}, List.flat_map, Str.bytes_eq}
 
 -- a byte that ASCII prints, the space too
 abbrev pub is_printed : ℕ → Bool

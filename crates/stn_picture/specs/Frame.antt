@@ -1,16 +1,8 @@
 -- What stands around the rows: the head, the axis, the present, the legend.
-use Rattle.std.specs.Prelude.{ℕ, ℤ, ◌+◌, ◌-◌, ◌*◌, ◌/◌, ◌==◌, max, List, [], ◌∷◌, ◌++◌, length, codes, decimal, if◌then◌else◌, Option, Some, None}
-use Rattle.std.specs.List.{flat_map, range_with_len}
+use Rattle.std.specs.{Prelude.{ℕ, ℤ, ◌+◌, ◌-◌, ◌*◌, ◌/◌, ◌==◌, max, List, [], ◌∷◌, ◌++◌, length, codes, decimal, if◌then◌else◌, Option, Some, None}, List.{flat_map, range_with_len}}
 use Rattle.stn_time.specs.Text.{printed}
 use Rattle.stn_net.specs.Event.{event_text}
-use Rattle.stn_picture.specs.Axis.{unit_of, unit_text}
-use Rattle.stn_picture.specs.Chart.{Chart, moment_of}
-use Rattle.stn_picture.specs.Escape.{shown, cut}
-use Rattle.stn_picture.specs.Parts.{occurs, count_of, place_of}
-use Rattle.stn_picture.specs.Places.{row_top, height_of, legend_left, legend_apart}
-use Rattle.stn_picture.specs.Rows.{bar_text, fading_text, mark_text, row_text}
-use Rattle.stn_picture.specs.Style.{style_text, parts_text, sites_style}
-use Rattle.stn_picture.specs.declared.parts.Part.{Part}
+use Rattle.stn_picture.specs.{Axis.{unit_of, unit_text}, Chart.{Chart, moment_of}, Escape.{shown, cut}, Parts.{occurs, count_of, place_of}, Places.{row_top, height_of, legend_left, legend_apart}, Rows.{bar_text, fading_text, mark_text, row_text}, Style.{style_text, parts_text, sites_style}, declared.parts.Part.Part}
 use Rattle.stn_picture.specs.declared.parts.Part.TheVariants as part
 
 -- the title has at most so many characters

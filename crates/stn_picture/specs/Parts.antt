@@ -1,11 +1,8 @@
 -- What is true of the steps of a chart.
-use Rattle.std.specs.Prelude.{ℕ, ℤ, ◌+◌, ◌-◌, ◌*◌, ◌/◌, ◌==◌, nat_lt, nat_le, Bool, true, false, not, ◌&&◌, ◌||◌, if◌then◌else◌, List, [], ◌∷◌, ◌++◌, length, filter, slice_index_or, codes, decimal, Option, Some, None}
-use Rattle.std.specs.List.{range_with_len}
+use Rattle.std.specs.{Prelude.{ℕ, ℤ, ◌+◌, ◌-◌, ◌*◌, ◌/◌, ◌==◌, nat_lt, nat_le, Bool, true, false, not, ◌&&◌, ◌||◌, if◌then◌else◌, List, [], ◌∷◌, ◌++◌, length, filter, slice_index_or, codes, decimal, Option, Some, None}, List.range_with_len}
 use Rattle.stn_lift.specs.BaseBounds.{step_of}
 use Rattle.stn_guard.specs.declared.owners.OwnedSteps.{OwnedSteps}
-use Rattle.stn_picture.specs.Chart.{Chart, start_of, end_of, soonest_in, latest_in, is_open_in, moment_of}
-use Rattle.stn_picture.specs.Places.{place_on, row_top}
-use Rattle.stn_picture.specs.declared.parts.Part.{Part}
+use Rattle.stn_picture.specs.{Chart.{Chart, start_of, end_of, soonest_in, latest_in, is_open_in, moment_of}, Places.{place_on, row_top}, declared.parts.Part.Part}
 use Rattle.stn_picture.specs.declared.parts.Part.TheVariants as part
 
 abbrev pub soonest : Chart → ℕ → ℕ

@@ -3,10 +3,7 @@ use Rattle.std.specs.Prelude.{ℕ, ℤ, ◌+◌, ◌-◌, ◌%◌, ◌==◌, nat
 use Rattle.stn_time.specs.Text.{printed}
 use Rattle.stn_lift.specs.BaseBounds.{step_of}
 use Rattle.stn_site.specs.Windows.{window_at}
-use Rattle.stn_picture.specs.Chart.{Chart, start_of, end_of}
-use Rattle.stn_picture.specs.Escape.{shown, cut}
-use Rattle.stn_picture.specs.Parts.{soonest, latest, is_open, is_begun, is_done, is_running, is_fixed, is_due, may_last, may_wait, owner_of, is_named, name_of, place_of, top_of, holder_of}
-use Rattle.stn_picture.specs.Places.{line_left, line_width, row_height, words_below, middle_below, least_width, most_name}
+use Rattle.stn_picture.specs.{Chart.{Chart, start_of, end_of}, Escape.{shown, cut}, Parts.{soonest, latest, is_open, is_begun, is_done, is_running, is_fixed, is_due, may_last, may_wait, owner_of, is_named, name_of, place_of, top_of, holder_of}, Places.{line_left, line_width, row_height, words_below, middle_below, least_width, most_name}}
 
 -- the window of an event in words
 abbrev pub latest_text : Chart → ℕ → List ℕ

@@ -3,9 +3,7 @@ use Rattle.std.specs.Prelude.{ℕ, ℤ, Bool, List, [], ◌∷◌, map, Option, 
 use Rattle.stn_lift.specs.PlanSource.{PlanSource, events_of}
 use Rattle.stn_net.specs.Difference.{Difference}
 use Rattle.stn_records.specs.Content.{Content}
-use Rattle.stn_picture.specs.declared.look.Chart.{Chart as ChartOfCode}
-use Rattle.stn_picture.specs.declared.floors.Drawn.{Drawn}
-use Rattle.stn_picture.specs.Chart.{Chart, seen_look, floor, overdue_event}
+use Rattle.stn_picture.specs.{declared.{look.Chart.Chart as ChartOfCode, floors.Drawn.Drawn}, Chart.{Chart, seen_look, floor, overdue_event}}
 
 abbrev pub seen_chart : {A : Type 0} → ChartOfCode A → Chart
 seen_chart chart = record {

@@ -1,19 +1,14 @@
 -- The picture of a conflict: a walk along its links. The first event stands at 0, and each link moves on by what it allows, so that each
 -- row ends at the latest time that the rows above leave its event.
-use Rattle.std.specs.Prelude.{◌≡◌, ℕ, ℤ, pos, neg_ℤ, ◌+◌, ◌-◌, ◌*◌, ◌/◌, ◌%◌, ◌+ℤ◌, ◌==◌, ◌&&◌, nat_lt, Bool, max, List, [], ◌∷◌, ◌++◌, length, take, map, slice_index_or, unsigned_abs, if◌then◌else◌, codes, decimal}
-use Rattle.std.specs.{List.flat_map, List.range_with_len, Int.is_negative, Int.abs_diff}
+use Rattle.std.specs.{Prelude.{◌≡◌, ℕ, ℤ, pos, neg_ℤ, ◌+◌, ◌-◌, ◌*◌, ◌/◌, ◌%◌, ◌+ℤ◌, ◌==◌, ◌&&◌, nat_lt, Bool, max, List, [], ◌∷◌, ◌++◌, length, take, map, slice_index_or, unsigned_abs, if◌then◌else◌, codes, decimal}, List.{flat_map, range_with_len}, Int.{is_negative, abs_diff}}
 use Rattle.stn_time.specs.Text.{printed}
 use Rattle.stn_net.specs.{Difference.Difference, Event.event_text}
 use Rattle.stn_lift.specs.BaseBounds.{step_of}
 use Rattle.stn_records.specs.Id.{SiteCounter, same_ids}
-use Rattle.stn_conflict.specs.{declared.links.Link.Link, declared.links.Side.Side, declared.links.Side.TheVariants.Upper, declared.links.Side.TheVariants.Lower, Arcs.bound_at, Arcs.arc_of, Arcs.weight_of}
-use Rattle.stn_site.specs.{declared.names.BoundName.BoundName, Names.name_in, Names.name_text, Lines.side_text}
-use Rattle.stn_site.specs.declared.names.BoundName.TheVariants.{Plan, Record}
+use Rattle.stn_conflict.specs.{declared.links.{Link.Link, Side.{Side, TheVariants.{Upper, Lower}}}, Arcs.{bound_at, arc_of, weight_of}}
+use Rattle.stn_site.specs.{declared.names.BoundName.{BoundName, TheVariants.{Plan, Record}}, Names.{name_in, name_text}, Lines.side_text}
 use Rattle.stn_questions.specs.declared.repair.Repair.{Repair}
-use Rattle.stn_picture.specs.Axis.{gap_of, gaps_in, unit_of, unit_text}
-use Rattle.stn_picture.specs.Escape.{shown, cut}
-use Rattle.stn_picture.specs.Frame.{open_text, paper_text, heading_text}
-use Rattle.stn_picture.specs.Style.{style_text, walk_style}
+use Rattle.stn_picture.specs.{Axis.{gap_of, gaps_in, unit_of, unit_text}, Escape.{shown, cut}, Frame.{open_text, paper_text, heading_text}, Style.{style_text, walk_style}}
 
 -- what is drawn of a conflict: the title, the names of the steps, the plan's bounds, the ids and the bounds of the live records, the links,
 -- the sums of the links above each row, the repairs, the gap of the axis, and how many gaps it has before 0 and after it

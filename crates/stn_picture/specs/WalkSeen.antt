@@ -1,7 +1,6 @@
 -- The walk that the code has.
 use Rattle.std.specs.Prelude.{map}
-use Rattle.stn_picture.specs.declared.walk.Walk.{Walk as WalkOfCode}
-use Rattle.stn_picture.specs.Walk.{Walk}
+use Rattle.stn_picture.specs.{declared.walk.Walk.Walk as WalkOfCode, Walk.Walk}
 
 abbrev pub seen_walk : {A : Type 0} → WalkOfCode A → Walk
 seen_walk walk = record {

@@ -1,11 +1,8 @@
 //! What is drawn of a plan that has a schedule.
 ghost use Rattle.std.specs.Prelude.{◌≡◌, ◌+◌, ◌≤◌, ◌++◌, map, IfOk};
 ghost use Rattle.stn_lift.specs.PlanSource.{base_bounds};
-ghost use Rattle.stn_site.specs.Bounds.{live_bounds};
-ghost use Rattle.stn_site.specs.Report.{done_events};
-ghost use Rattle.stn_picture.specs.Chart.{chart_of, seen_look};
-ghost use Rattle.stn_picture.specs.Frame.{plan_text};
-ghost use Rattle.stn_picture.specs.Seen.{overdue_of};
+ghost use Rattle.stn_site.specs.{Bounds.live_bounds, Report.done_events};
+ghost use Rattle.stn_picture.specs.{Chart.{chart_of, seen_look}, Frame.plan_text, Seen.overdue_of};
 
 use crate::axis::{gap_of, gaps_in};
 use crate::floors::{Drawn, overdue_of};

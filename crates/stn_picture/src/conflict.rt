@@ -1,14 +1,10 @@
 //! What is drawn of a plan that has no schedule.
 ghost use Rattle.std.specs.Prelude.{◌≡◌, ◌+◌, ◌++◌, ◌*◌, ◌<◌, ◌≤◌, ◌^◌, length, map, max, ◌+ℤ◌, pos, slice_index_or, unsigned_abs, All, IfOk};
-ghost use Rattle.stn_net.specs.Schedule.{HasSchedule};
-ghost use Rattle.stn_net.specs.Event.{most_events};
+ghost use Rattle.stn_net.specs.{Schedule.HasSchedule, Event.most_events};
 ghost use Rattle.stn_lift.specs.PlanSource.{base_bounds};
-ghost use Rattle.stn_conflict.specs.Arcs.{arc_of, IsNegativeCycle};
-ghost use Rattle.stn_conflict.specs.Named.{IsNamedCycle};
+ghost use Rattle.stn_conflict.specs.{Arcs.{arc_of, IsNegativeCycle}, Named.IsNamedCycle};
 ghost use Rattle.stn_site.specs.Bounds.{all_bounds, live_bounds};
-ghost use Rattle.stn_picture.specs.Chart.{seen_look};
-ghost use Rattle.stn_picture.specs.Picture.{IsWalkPicture};
-ghost use Rattle.stn_picture.specs.Walk.{early, late, greatest, sums_of};
+ghost use Rattle.stn_picture.specs.{Chart.seen_look, Picture.IsWalkPicture, Walk.{early, late, greatest, sums_of}};
 
 use crate::axis::{gap_of, gaps_in};
 use crate::look::Look;

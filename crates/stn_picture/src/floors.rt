@@ -1,14 +1,10 @@
 //! The windows that are drawn.
 ghost use Rattle.std.specs.Prelude.{◌≡◌, ℕ, ◌+◌, ◌≤◌, ◌++◌, List, length, not, ◌&&◌, int_lt, All, IfOk, OnOk, MatchOption};
-ghost use Rattle.stn_net.specs.Difference.{Difference, NamesEvents};
-ghost use Rattle.stn_net.specs.Event.{most_events};
-ghost use Rattle.stn_net.specs.Schedule.{HasSchedule};
+ghost use Rattle.stn_net.specs.{Difference.{Difference, NamesEvents}, Event.most_events, Schedule.HasSchedule};
 ghost use Rattle.stn_lift.specs.PlanSource.{events_of};
 ghost use Rattle.stn_conflict.specs.Distances.{AreDistancesFrom, AreDistancesTo};
-ghost use Rattle.stn_site.specs.Bounds.{all_bounds, live_bounds};
-ghost use Rattle.stn_site.specs.Windows.{window_at, AreWindows};
-ghost use Rattle.stn_picture.specs.Chart.{floor, floors, overdue_event, AreDrawn};
-ghost use Rattle.stn_picture.specs.Seen.{floor_at, overdue_of};
+ghost use Rattle.stn_site.specs.{Bounds.{all_bounds, live_bounds}, Windows.{window_at, AreWindows}};
+ghost use Rattle.stn_picture.specs.{Chart.{floor, floors, overdue_event, AreDrawn}, Seen.{floor_at, overdue_of}};
 
 use crate::look::Look;
 use crate::tables::window_at;

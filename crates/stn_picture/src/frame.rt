@@ -1,10 +1,7 @@
 //! What stands around the rows: the head, the axis, the present.
-ghost use Rattle.std.specs.Prelude.{◌≡◌, ◌++◌, ◌+◌, ◌<◌, ◌≤◌, ◌^◌, OnOk};
-ghost use Rattle.std.specs.List.{flat_map, range_with_len};
+ghost use Rattle.std.specs.{Prelude.{◌≡◌, ◌++◌, ◌+◌, ◌<◌, ◌≤◌, ◌^◌, OnOk}, List.{flat_map, range_with_len}};
 ghost use Rattle.stn_picture.specs.Frame as frame;
-ghost use Rattle.stn_picture.specs.Frame.{open_text, paper_text, heading_text, overdue_text, now_text};
-ghost use Rattle.stn_picture.specs.Rows.{row_text};
-ghost use Rattle.stn_picture.specs.Seen.{seen_chart};
+ghost use Rattle.stn_picture.specs.{Frame.{open_text, paper_text, heading_text, overdue_text, now_text}, Rows.row_text, Seen.seen_chart};
 
 use crate::axis::{unit_of, unit_text};
 use crate::escape::{append_cut, append_shown};

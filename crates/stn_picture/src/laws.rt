@@ -1,23 +1,31 @@
-ghost use Rattle.std.specs.Prelude.{◌≡◌, ◌≢◌, ◌+◌, ◌*◌, ◌≤◌, true, false, ℕ, ℤ, List, Option};
-ghost use Rattle.std.specs.List.{list_all};
+ghost use Rattle.std.specs.{Prelude.{◌≡◌, ◌≢◌, ◌+◌, ◌*◌, ◌≤◌, true, false, ℕ, ℤ, List, Option}, List.list_all};
 ghost use Rattle.stn_lift.specs.PlanSource.{PlanSource};
 ghost use Rattle.stn_records.specs.Content.{Content};
-ghost use Rattle.stn_picture.specs.Axis.{gap_of, gaps_in};
-ghost use Rattle.stn_picture.specs.Chart.{Look, far_of, is_open_in, latest_in, row_in, soonest_in};
-ghost use Rattle.stn_picture.specs.Escape.{are_named, is_plain, shown};
-ghost use Rattle.stn_picture.specs.Picture.{IsPicture};
-ghost use Rattle.stn_picture.specs.Places.{height_of, line_left, line_width, place_on, row_height, row_top};
+ghost use Rattle.stn_site.specs.{Held.Held, Calls.{Accepted, CameBy, TookSame}};
+ghost use Rattle.stn_picture.specs.{Axis.{gap_of, gaps_in}, Chart.{Look, far_of, is_open_in, latest_in, row_in, soonest_in}, Escape.{are_named, is_plain, shown}, Picture.IsPicture, Places.{height_of, line_left, line_width, place_on, row_height, row_top}};
 
 use stn_conflict::{negative_cycle_is_conflict, one_named_cycle};
+use stn_records::counts_same;
 
-/// The law that a plan and a state have one picture, drawn in one way with the same names: sites that hold the same print the
-/// same.
+/// The law that a plan and a state have one picture, drawn in one way with the same names.
 pub fn one_picture()
     ensures { (look : Look) → (names : List (List ℕ)) → (source : PlanSource) → (state : Content) → (text other : List ℕ)
         → IsPicture look names source state text → IsPicture look names source state other → text ≡ other }
 {
     one_named_cycle();
     negative_cycle_is_conflict();
+}
+
+/// The law that sites of one plan that took the same additions and withdrawals, by whatever calls, in any order, more than once
+/// or merged in any grouping, have the same picture, drawn in one way with the same names. An amendment is the addition of its
+/// record and the withdrawal of the id that it replaces.
+pub fn same_pictures()
+    ensures { (ours theirs : List Accepted) → (one other : Held) → CameBy ours one → CameBy theirs other → TookSame ours theirs
+        → one.source ≡ other.source → (look : Look) → (names : List (List ℕ)) → (text last : List ℕ)
+        → IsPicture look names one.source one.state text → IsPicture look names other.source other.state last → text ≡ last }
+{
+    counts_same();
+    one_picture();
 }
 
 /// The law that a text is shown without a `<`, `>` or `"` and by bytes that ASCII prints, and that each `&` in it begins one

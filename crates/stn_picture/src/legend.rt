@@ -1,8 +1,7 @@
 //! The legend of what occurs.
 ghost use Rattle.std.specs.Prelude.{◌≡◌, ◌+◌, ◌++◌, ◌≤◌, ◌<◌, ◌^◌, OnOk};
 ghost use Rattle.stn_picture.specs.Frame as frame;
-ghost use Rattle.stn_picture.specs.Frame.{entry_text, sample_text, meaning_text};
-ghost use Rattle.stn_picture.specs.Seen.{seen_chart};
+ghost use Rattle.stn_picture.specs.{Frame.{entry_text, sample_text, meaning_text}, Seen.seen_chart};
 
 use crate::look::Chart;
 use crate::memory::in_memory;

@@ -2,9 +2,10 @@
 //! of time, or, where all bounds have no schedule, a walk round the conflict.
 #![tactic(auto)]
 
-pub use laws::{one_picture, steps_have_rows, texts_are_escaped, times_are_on_the_axis};
-pub use look::{Chart, Look};
-pub use parts::Part;
+pub use laws::{
+    one_picture, same_pictures, steps_have_rows, texts_are_escaped, times_are_on_the_axis,
+};
+pub use look::Look;
 pub use picture::print_picture;
 
 mod axis;

@@ -1,5 +1,4 @@
-ghost use Rattle.std.specs.Prelude.{MatchResult};
-ghost use Rattle.std.specs.Result.{IsOk, IsErr};
+ghost use Rattle.std.specs.{Prelude.MatchResult, Result.{IsOk, IsErr}};
 
 use std::alloc::AllocError;
 use std::io;

@@ -1,7 +1,6 @@
 //! The picture of a plan as SVG.
 ghost use Rattle.std.specs.Prelude.{◌≡◌, ◌++◌, ℕ, List, map, IfOk, OnOk, OnErr};
-ghost use Rattle.stn_picture.specs.Chart.{seen_look};
-ghost use Rattle.stn_picture.specs.Picture.{IsPicture};
+ghost use Rattle.stn_picture.specs.{Chart.seen_look, Picture.IsPicture};
 
 use crate::chart::chart_text;
 use crate::conflict::conflict_text;

@@ -1,8 +1,7 @@
 //! The rows of the steps.
 ghost use Rattle.std.specs.Prelude.{◌≡◌, ◌++◌, ◌≤◌, ◌<◌, ◌^◌, OnOk};
 ghost use Rattle.stn_picture.specs.Rows as row;
-ghost use Rattle.stn_picture.specs.Rows.{bar_text, arrow_path, down_text, up_text};
-ghost use Rattle.stn_picture.specs.Seen.{seen_chart};
+ghost use Rattle.stn_picture.specs.{Rows.{bar_text, arrow_path, down_text, up_text}, Seen.seen_chart};
 
 use crate::escape::{append_cut, append_shown};
 use crate::look::Chart;

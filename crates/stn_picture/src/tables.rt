@@ -1,6 +1,5 @@
 //! What the windows of a plan's events say.
-ghost use Rattle.std.specs.Prelude.{◌≡◌, ℕ, ◌+◌, ◌<◌, ◌≤◌, ◌^◌, ◌++◌, length, filter, map, IfOk};
-ghost use Rattle.std.specs.List.{range_with_len};
+ghost use Rattle.std.specs.{Prelude.{◌≡◌, ℕ, ◌+◌, ◌<◌, ◌≤◌, ◌^◌, ◌++◌, length, filter, map, IfOk}, List.range_with_len};
 ghost use Rattle.stn_site.specs.Windows.{window_at};
 ghost use Rattle.stn_picture.specs.Chart as table;
 ghost use Rattle.stn_picture.specs.Chart.{start_of, end_of, soonest_in, latest_in, is_open_in, is_above, row_in, held_by, holder_in, moment_of, reach, furthest, far_of};

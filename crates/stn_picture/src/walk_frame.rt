@@ -1,12 +1,9 @@
 //! What stands around the rows of a conflict.
-ghost use Rattle.std.specs.Prelude.{◌≡◌, ◌+◌, ◌++◌, ◌<◌, ◌≤◌, ◌^◌, length, unsigned_abs, OnOk};
-ghost use Rattle.std.specs.List.{flat_map, range_with_len};
-ghost use Rattle.std.specs.Prelude.{neg_ℤ};
+ghost use Rattle.std.specs.{Prelude.{◌≡◌, ◌+◌, ◌++◌, ◌<◌, ◌≤◌, ◌^◌, length, unsigned_abs, OnOk, neg_ℤ}, List.{flat_map, range_with_len}};
 ghost use Rattle.stn_time.specs.Text.{printed};
 ghost use Rattle.stn_net.specs.Event.{event_text};
 ghost use Rattle.stn_picture.specs.Walk as is;
-ghost use Rattle.stn_picture.specs.Walk.{back_text, foot_text, tick_text};
-ghost use Rattle.stn_picture.specs.WalkSeen.{seen_walk};
+ghost use Rattle.stn_picture.specs.{Walk.{back_text, foot_text, tick_text}, WalkSeen.seen_walk};
 
 use crate::axis::{unit_of, unit_text};
 use crate::frame::{append_heading, append_opening, append_paper};

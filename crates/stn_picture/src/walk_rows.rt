@@ -1,10 +1,8 @@
 //! The rows of the links.
-ghost use Rattle.std.specs.Prelude.{◌≡◌, ◌+◌, ◌++◌, ◌<◌, ◌≤◌, ◌^◌, length, OnOk};
-ghost use Rattle.std.specs.List.{flat_map};
+ghost use Rattle.std.specs.{Prelude.{◌≡◌, ◌+◌, ◌++◌, ◌<◌, ◌≤◌, ◌^◌, length, OnOk}, List.flat_map};
 ghost use Rattle.stn_site.specs.Lines as site_lines;
 ghost use Rattle.stn_picture.specs.Walk as is;
-ghost use Rattle.stn_picture.specs.Walk.{mends_text, mending_text, event_label, arrow_text, drop_text, leaves_text};
-ghost use Rattle.stn_picture.specs.WalkSeen.{seen_walk};
+ghost use Rattle.stn_picture.specs.{Walk.{mends_text, mending_text, event_label, arrow_text, drop_text, leaves_text}, WalkSeen.seen_walk};
 
 use crate::escape::append_cut;
 use crate::memory::in_memory;

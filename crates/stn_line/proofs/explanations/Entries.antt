@@ -1,13 +1,9 @@
 -- The entries of all subjects.
-use Rattle.std.proofs.Common.{arith, refl, ◌+◌, true≢false, ◌≡◌, ◌≢◌, ◌∙◌, ◌<◌, ◌≤◌, ◌&&◌, ◌++◌, Bool, true, false, ℕ, List, [], ◌∷◌, length, map, take, get_or, sym, ap, Option, Some, subst, All}
-use Rattle.std.specs.List.{list_all}
-use Rattle.std.proofs.lemmas.List.{append_assoc, append-nil, map_more, take_all}
-use Rattle.std.proofs.lemmas.List.Elements.{All-nil, All-cons, All-map}
-use Rattle.std.proofs.lemmas.{Bool.Decides.Decides-eqb, Slice.Eq.bytes_eq-Decides}
-use Rattle.stn_text.specs.{Bytes.line_feed, Lines.is_word, Lines.lines_of}
+use Rattle.std.{proofs.{Common.{arith, refl, ◌+◌, true≢false, ◌≡◌, ◌≢◌, ◌∙◌, ◌<◌, ◌≤◌, ◌&&◌, ◌++◌, Bool, true, false, ℕ, List, [], ◌∷◌, length, map, take, get_or, sym, ap, Option, Some, subst, All}, lemmas.{List.{append_assoc, append-nil, map_more, take_all, Elements.{All-nil, All-cons, All-map}}, Bool.Decides.Decides-eqb, Slice.Eq.bytes_eq-Decides}}, specs.List.list_all}
+use Rattle.stn_text.specs.{Bytes.line_feed, Lines.{is_word, lines_of}}
 use Rattle.stn_refusal.specs.declared.code.Code.TheVariants as code
 use Rattle.stn_refusal.specs.declared.failure.Fault.TheVariants as fault
-use Rattle.stn_line.specs.{Explanations.Explained.IsMeaning, Explanations.Explained.AreMeanings, Explanations.Explained.IsExplained, Explanations.Explained.NamesNothing, Explanations.Subjects.subjects, Explanations.Subjects.word_of, Explanations.Table.IsEntry, Explanations.Table.IsTable, Explanations.Table.is_alone, Explanations.Table.is_ended, Explanations.Table.says, declared.explanations.subject.Subject.Subject, declared.explanations.table.Entry.Entry}
+use Rattle.stn_line.specs.{Explanations.{Explained.{IsMeaning, AreMeanings, IsExplained, NamesNothing}, Subjects.{subjects, subject_word}, Table.{IsInLines, IsTable, is_only_line, is_ended, says}}, declared.explanations.{subject.Subject.Subject, table.Entry.Entry}}
 use Rattle.stn_line.specs.declared.explanations.subject.Subject.TheVariants as subject
 
 -- what holds of all subjects of the list holds of each
@@ -72,7 +68,7 @@ both true true is = (refl, refl)
 both true false is = absurd (true≢false (sym is))
 both false b is = absurd (true≢false (sym is))
 
-alone : (text : List ℕ) (lines : List (List ℕ)) → is_alone text lines ≡ true → lines ≡ text ∷ []
+alone : (text : List ℕ) (lines : List (List ℕ)) → is_only_line text lines ≡ true → lines ≡ text ∷ []
 alone text [] is = absurd (true≢false (sym is))
 alone text (line ∷ []) is = ap (λ first. first ∷ []) ((bytes_eq-Decides line text).0 is)
 alone text (line ∷ other ∷ rest) is = absurd (true≢false (sym is))
@@ -92,9 +88,9 @@ ended [] is = absurd (true≢false (sym is))
 ended (byte ∷ []) is = ([], ap (λ last. last ∷ []) ((Decides-eqb byte line_feed).0 is))
 ended (byte ∷ other ∷ rest) is = let more = ended (other ∷ rest) is in (byte ∷ more.0, ap (λ text. byte ∷ text) more.1)
 
-said_entry : (entry : Entry) → says entry ≡ true → IsEntry entry
+said_entry : (entry : Entry) → says entry ≡ true → IsInLines entry
 said_entry entry is =
-    let texts = both (is_alone entry.meaning.now (lines_of entry.meaning.now)) (list_all is_word (lines_of entry.more.now) && is_ended entry.more.now) is in
+    let texts = both (is_only_line entry.meaning.now (lines_of entry.meaning.now)) (list_all is_word (lines_of entry.more.now) && is_ended entry.more.now) is in
     let lines = both (list_all is_word (lines_of entry.more.now)) (is_ended entry.more.now) texts.1 in
     record {
       meaning = alone entry.meaning.now (lines_of entry.meaning.now) texts.0;
@@ -102,18 +98,18 @@ said_entry entry is =
     }
 
 -- each of the entries says something
-all_say : (entries : List Entry) → list_all says entries ≡ true → All IsEntry entries
-all_say [] is = All-nil IsEntry
+all_say : (entries : List Entry) → list_all says entries ≡ true → All IsInLines entries
+all_say [] is = All-nil IsInLines
 all_say (entry ∷ rest) is =
     let parts = both (says entry) (list_all says rest) is in
-    All-cons IsEntry entry rest (said_entry entry parts.0) (all_say rest parts.1)
+    All-cons IsInLines entry rest (said_entry entry parts.0) (all_say rest parts.1)
 
-pub all_entries : (entries : List Entry) → IsTable entries → All IsEntry entries
+pub all_entries : (entries : List Entry) → IsTable entries → All IsInLines entries
 all_entries entries table = all_say entries table.said
 
 -- a word that names the subject of no entry names nothing
-pub names_nothing : (word : List ℕ) (entries : List Entry) → IsTable entries → All (λ entry. word ≢ word_of entry.subject) entries → NamesNothing (Some word)
-names_nothing word entries table none = at_each (λ subject. word ≢ word_of subject) (all_named (λ subject. word ≢ word_of subject) entries table.each none)
+pub names_nothing : (word : List ℕ) (entries : List Entry) → IsTable entries → All (λ entry. word ≢ subject_word entry.subject) entries → NamesNothing (Some word)
+names_nothing word entries table none = at_each (λ subject. word ≢ subject_word subject) (all_named (λ subject. word ≢ subject_word subject) entries table.each none)
 
 -- what explains a word is appended to a text
 pub appended : (word : Option (List ℕ)) (text old between new : List ℕ) → IsExplained word text → between ≡ text → new ≡ old ++ between

@@ -1,14 +1,14 @@
 -- What is printed to explain something.
-use Rattle.std.specs.Prelude.{◌≡◌, ◌≢◌, ℕ, All, List, [], ◌∷◌, ◌++◌, codes, Option, Some, None}
+use Rattle.std.specs.Prelude.{◌≡◌, ◌≢◌, ◌⊎◌, ℕ, All, List, [], ◌∷◌, ◌++◌, codes, Option, Some, None}
 use Rattle.stn_text.specs.{Bytes.line_feed, Lines.lines_of}
-use Rattle.stn_line.specs.{Explanations.Subjects.word_of, Explanations.Subjects.name_of, Explanations.Subjects.subjects, declared.explanations.subject.Subject.Subject}
+use Rattle.stn_line.specs.{Explanations.Subjects.{subject_word, subject_name, subjects}, declared.explanations.subject.Subject.Subject}
 
 -- a line that begins with the subject's name and goes on with a few words on what it means: these are on one line, and
 -- not none
 pub record IsMeaning (subject : Subject) (text : List ℕ) : Type 0 where
   pub meaning : List ℕ
   pub line : lines_of meaning ≡ meaning ∷ []
-  pub whole : text ≡ name_of subject ++ (codes ": " ++ (meaning ++ line_feed ∷ []))
+  pub whole : text ≡ subject_name subject ++ (codes ": " ++ (meaning ++ line_feed ∷ []))
 
 -- whole lines, none of them empty
 pub record AreWholeLines (text : List ℕ) : Type 0 where
@@ -31,9 +31,13 @@ pub record IsExplanation (subject : Subject) (text : List ℕ) : Type 0 where
 -- what is printed for a word: the explanation of the subject that it names; for no word, the lines of all subjects
 abbrev pub IsExplained : Option (List ℕ) → List ℕ → Type 0
 IsExplained None text = AreMeanings subjects text
-IsExplained (Some word) text = (subject : Subject) × (word ≡ word_of subject) × IsExplanation subject text
+IsExplained (Some word) text = (subject : Subject) × (word ≡ subject_word subject) × IsExplanation subject text
 
 -- there is a word, and it names no subject
 abbrev pub NamesNothing : Option (List ℕ) → Type 0
 NamesNothing None = ⊥
-NamesNothing (Some word) = (subject : Subject) → word ≢ word_of subject
+NamesNothing (Some word) = (subject : Subject) → word ≢ subject_word subject
+
+-- the line of the subject that a word names; nothing, where it names none
+abbrev pub IsMeant : List ℕ → List ℕ → Type 0
+IsMeant word text = ((subject : Subject) × (word ≡ subject_word subject) × IsMeaning subject text) ⊎ (NamesNothing (Some word) × (text ≡ []))

@@ -7,23 +7,23 @@ use Rattle.stn_line.specs.declared.explanations.subject.Subject.{Subject}
 use Rattle.stn_line.specs.declared.explanations.subject.Subject.TheVariants as subject
 
 -- the word of a fault, as it is printed after `fault`
-abbrev pub fault_word : Fault → List ℕ
-fault_word fault.Read = codes "read"
-fault_word fault.Write = codes "write"
-fault_word fault.Bound = codes "bound"
-fault_word fault.Memory = codes "memory"
-fault_word fault.File = codes "file"
-fault_word fault.Net = codes "net"
+abbrev pub word_of_fault : Fault → List ℕ
+word_of_fault fault.Read = codes "read"
+word_of_fault fault.Write = codes "write"
+word_of_fault fault.Bound = codes "bound"
+word_of_fault fault.Memory = codes "memory"
+word_of_fault fault.File = codes "file"
+word_of_fault fault.Net = codes "net"
 
 -- the word by which one asks: the number of a refusal, or the word of a fault
-abbrev pub word_of : Subject → List ℕ
-word_of (subject.Refusal cause) = decimal (number_of cause)
-word_of (subject.Fault cause) = fault_word cause
+abbrev pub subject_word : Subject → List ℕ
+subject_word (subject.Refusal cause) = decimal (number_of cause)
+subject_word (subject.Fault cause) = word_of_fault cause
 
 -- how the line begins that is printed for it
-abbrev pub name_of : Subject → List ℕ
-name_of (subject.Refusal cause) = codes "refused " ++ decimal (number_of cause)
-name_of (subject.Fault cause) = codes "fault " ++ fault_word cause
+abbrev pub subject_name : Subject → List ℕ
+subject_name (subject.Refusal cause) = codes "refused " ++ decimal (number_of cause)
+subject_name (subject.Fault cause) = codes "fault " ++ word_of_fault cause
 
 -- all refusals, in the order of their numbers, and then all faults
 abbrev pub subjects : List Subject

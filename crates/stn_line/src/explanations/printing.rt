@@ -1,9 +1,6 @@
-ghost use Rattle.std.specs.Prelude.{◌≡◌, ◌≢◌, ◌↔◌, ◌++◌, ◌⊎◌, ℕ, List, All, map, option_map, MatchOption, OnOk, OnErr, IfErr, IsErrOf};
-ghost use Rattle.stn_line.specs.Explanations.Explained.{IsMeaning, AreMeanings, IsExplanation, IsExplained, NamesNothing};
-ghost use Rattle.stn_line.specs.Explanations.Subjects.{name_of, word_of};
-ghost use Rattle.stn_line.specs.Explanations.Table.{IsEntry};
-ghost use Rattle.stn_refusal.specs.declared.code.Code.TheVariants.{Line};
-ghost use Rattle.stn_refusal.specs.Refusals.{refused_at, out_of_memory};
+ghost use Rattle.std.specs.Prelude.{◌≡◌, ◌≢◌, ◌↔◌, ◌++◌, ◌⊎◌, ℕ, List, All, map, option_map, MatchOption, OnOk, IfOk, OnErr, IfErr, IsErrOf};
+ghost use Rattle.stn_line.specs.Explanations.{Explained.{IsMeaning, IsMeant, AreMeanings, IsExplanation, IsExplained, NamesNothing}, Subjects.{subject_name, subject_word}, Table.IsInLines};
+ghost use Rattle.stn_refusal.specs.{declared.code.Code.TheVariants.Line, Refusals.{refused_at, out_of_memory}};
 
 use crate::explanations::subject::{Subject, fault_word};
 use crate::explanations::table::{Entry, table};
@@ -38,11 +35,32 @@ pub fn print_explained<A: Allocator + Copy>(
     Ok(())
 }
 
+/// The line that says what a refusal (by its number) or a fault (by its word) means; for a word that names neither, nothing.
+pub fn meaning_of<A: Allocator>(alloc: A, word: &str) -> Result<Vec<u8, A>, Memory>
+    ensures { IfOk result (λ text. IsMeant word.now text.items) }
+{
+    let entries = table();
+    match entry_of(entries, word) {
+        Some(entry) => line_of(alloc, entry),
+        None => Ok(Vec::new(alloc)),
+    }
+}
+
+// The line of a subject.
+fn line_of<A: Allocator>(alloc: A, entry: &Entry) -> Result<Vec<u8, A>, Memory>
+    requires { IsInLines entry.now }
+    ensures { IfOk result (λ text. IsMeaning entry.now.subject text.items) }
+{
+    let mut text = Vec::new(alloc);
+    append_meaning(entry, &mut text)?;
+    Ok(text)
+}
+
 // The entry of the subject that a word names.
 fn entry_of<'a>(entries: &'a [Entry], word: &str) -> Option<&'a Entry>
-    requires { All IsEntry entries.now }
-    ensures { MatchOption result (All (λ entry. word.now ≢ word_of entry.subject) entries.now)
-        (λ entry. IsEntry entry.now × (word.now ≡ word_of entry.now.subject)) }
+    requires { All IsInLines entries.now }
+    ensures { MatchOption result (All (λ entry. word.now ≢ subject_word entry.subject) entries.now)
+        (λ entry. IsInLines entry.now × (word.now ≡ subject_word entry.now.subject)) }
 {
     for entry in entries {
         if entry.subject.has_name(word) {
@@ -54,7 +72,7 @@ fn entry_of<'a>(entries: &'a [Entry], word: &str) -> Option<&'a Entry>
 
 // Appends a line for the subject of each entry.
 fn append_meanings<A: Allocator>(entries: &[Entry], out: &mut Vec<u8, A>) -> Result<(), Memory>
-    requires { All IsEntry entries.now }
+    requires { All IsInLines entries.now }
     ensures { OnOk result ((text : List ℕ) × AreMeanings (map (λ entry. entry.subject) entries.now) text × (out.new.items ≡ out.old.items ++ text)) }
 {
     for entry in entries {
@@ -65,7 +83,7 @@ fn append_meanings<A: Allocator>(entries: &[Entry], out: &mut Vec<u8, A>) -> Res
 
 // Appends the line of a subject, and what more is said of it.
 fn append_explanation<A: Allocator>(entry: &Entry, out: &mut Vec<u8, A>) -> Result<(), Memory>
-    requires { IsEntry entry.now }
+    requires { IsInLines entry.now }
     ensures { OnOk result ((text : List ℕ) × IsExplanation entry.now.subject text × (out.new.items ≡ out.old.items ++ text)) }
 {
     append_meaning(entry, out)?;
@@ -74,7 +92,7 @@ fn append_explanation<A: Allocator>(entry: &Entry, out: &mut Vec<u8, A>) -> Resu
 
 // Appends the line of a subject.
 fn append_meaning<A: Allocator>(entry: &Entry, out: &mut Vec<u8, A>) -> Result<(), Memory>
-    requires { IsEntry entry.now }
+    requires { IsInLines entry.now }
     ensures { OnOk result ((text : List ℕ) × IsMeaning entry.now.subject text × (out.new.items ≡ out.old.items ++ text)) }
 {
     append_name(entry.subject, out)?;
@@ -85,7 +103,7 @@ fn append_meaning<A: Allocator>(entry: &Entry, out: &mut Vec<u8, A>) -> Result<(
 
 // Appends how the line of a subject begins.
 fn append_name<A: Allocator>(subject: Subject, out: &mut Vec<u8, A>) -> Result<(), Memory>
-    ensures { OnOk result (out.new.items ≡ out.old.items ++ name_of subject) }
+    ensures { OnOk result (out.new.items ≡ out.old.items ++ subject_name subject) }
 {
     match subject {
         Subject::Refusal(code) => append_decimal(out, b"refused ", u16::from(code.number())),

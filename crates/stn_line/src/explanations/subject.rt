@@ -1,5 +1,5 @@
 ghost use Rattle.std.specs.Prelude.{◌≡◌, ◌↔◌, IsTrue};
-ghost use Rattle.stn_line.specs.Explanations.Subjects.{fault_word as word_of_fault, word_of};
+ghost use Rattle.stn_line.specs.Explanations.Subjects.{word_of_fault, subject_word};
 
 use stn_refusal::{Code, Fault};
 use stn_text::read_decimal;
@@ -16,7 +16,7 @@ pub enum Subject {
 impl Subject {
     /// Whether a word names the subject: the number of a refusal as it is printed, or the word of a fault.
     pub fn has_name(self, word: &str) -> bool
-        ensures { IsTrue result ↔ (word.now ≡ word_of self) }
+        ensures { IsTrue result ↔ (word.now ≡ subject_word self) }
     {
         match self {
             Subject::Refusal(code) => read_decimal(word.as_bytes())

@@ -1,5 +1,4 @@
-use Rattle.std.proofs.Common.{subst}
-use Rattle.std.proofs.lemmas.Result.{err_from_is_err_and}
+use Rattle.std.proofs.{Common.subst, lemmas.Result.err_from_is_err_and}
 use Rattle.stn_site.specs.Calls.{Leaves, amended}
 use Rattle.stn_command.specs.Change.{bound_of}
 use Rattle.stn_command.proofs.changes.make_change.Goals as goal

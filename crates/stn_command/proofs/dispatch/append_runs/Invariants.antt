@@ -1,5 +1,4 @@
-use Rattle.std.proofs.Common.{◌≡◌, ◌++◌, take}
-use Rattle.std.specs.List.{flat_map}
+use Rattle.std.{proofs.Common.{◌≡◌, ◌++◌, take}, specs.List.flat_map}
 use Rattle.stn_command.specs.Dispatch.{run_line}
 use Rattle.stn_command.proofs.dispatch.append_runs.Given as goal
 

@@ -1,6 +1,4 @@
-use Rattle.std.proofs.Common.{◌++◌, ◌∙◌, ap, sym, arith}
-use Rattle.std.proofs.lemmas.List.{append-nil, take_all}
-use Rattle.std.specs.List.{flat_map}
+use Rattle.std.{proofs.{Common.{◌++◌, ◌∙◌, ap, sym, arith}, lemmas.List.{append-nil, take_all}}, specs.List.flat_map}
 use Rattle.stn_site.proofs.Behind.{behind}
 use Rattle.stn_questions.proofs.Listing.{lines_grown}
 use Rattle.stn_command.specs.Guarding.{added_line}

@@ -1,9 +1,7 @@
-use Rattle.std.proofs.Common.{◌≡◌, ◌||◌, not, ap, ◌∙◌, arith}
-use Rattle.std.proofs.lemmas.Result.{IfOk-weaker}
+use Rattle.std.proofs.{Common.{◌≡◌, ◌||◌, not, ap, ◌∙◌, arith}, lemmas.Result.IfOk-weaker}
 use Rattle.stn_lift.specs.PlanSource.{events_of}
 use Rattle.stn_site.specs.Report.{is_done}
-use Rattle.stn_replica.specs.Own.{is_own, done_or_others}
-use Rattle.stn_replica.proofs.Rest.{flags_are}
+use Rattle.stn_replica.{specs.Own.{is_own, done_or_others}, proofs.Rest.flags_are}
 use Rattle.stn_command.proofs.queries.done_flags.Goals as goal
 
 pub returns-clause-value : goal.returns-clause-value

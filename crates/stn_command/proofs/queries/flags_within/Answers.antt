@@ -1,5 +1,4 @@
-use Rattle.std.proofs.Common.{arith}
-use Rattle.std.proofs.lemmas.List.{length-take-le}
+use Rattle.std.proofs.{Common.arith, lemmas.List.length-take-le}
 use Rattle.stn_command.proofs.queries.flags_within.Goals as goal
 
 pub returns-clause-one_each : goal.returns-clause-one_each

@@ -1,12 +1,10 @@
-use Rattle.std.proofs.Common.{◌≡◌, ℤ, Vec, Result, Ok, Err, true, inl, inr, refl, sym, ap, ◌∙◌}
-use Rattle.std.specs.Prelude.{Some}
+use Rattle.std.{proofs.Common.{◌≡◌, ℤ, Vec, Result, Ok, Err, true, inl, inr, refl, sym, ap, ◌∙◌, ℕ}, specs.Prelude.Some}
 use Rattle.stn_refusal.specs.declared.failure.Failure.{Failure}
 use Rattle.stn_lift.specs.PlanSource.{steps_of}
 use Rattle.stn_site.specs.Held.{Held}
 use Rattle.stn_command.specs.declared.queries.Outlook.TheVariants as outlook
-use Rattle.stn_command.specs.{declared.queries.Outlook.Outlook, Dispatch.Choice, Dispatch.done_or_not_chosen, Query.Foresees, Query.Says, Query.has_steps, Query.seen_choice, Query.foresee}
+use Rattle.stn_command.specs.{declared.queries.Outlook.Outlook, Dispatch.{Choice, done_or_not_chosen}, Query.{Foresees, Says, has_steps, seen_choice, foresee}}
 use Rattle.stn_command.proofs.queries.foresee.Goals as goal
-use Rattle.std.proofs.Common.{ℕ}
 
 foreseen : {A : Type 0} (held : Held) (outlook : Outlook) (now : ℤ) (choice : Choice) (result : Result (Vec ℕ A) Failure) → has_steps choice (steps_of held.source) ≡ true
     → Foresees outlook now (done_or_not_chosen choice held.source held.state) held result → Says (foresee outlook now choice) held result

@@ -1,7 +1,6 @@
 use Rattle.std.proofs.Common.{[], ◌∷◌, List, Option, Bor, option_map, refl, sym, ap, subst, ◌∙◌}
 use Rattle.stn_replica.specs.declared.own.StepRange.{StepRange}
-use Rattle.stn_command.specs.{Dispatch.done_or_not_chosen, Query.Foresees}
-use Rattle.stn_command.proofs.Chosen.{all_chosen}
+use Rattle.stn_command.{specs.{Dispatch.done_or_not_chosen, Query.Foresees}, proofs.Chosen.all_chosen}
 use Rattle.stn_command.proofs.queries.of_chosen.Goals as goal
 
 pub returns-in-None : goal.returns-in-None

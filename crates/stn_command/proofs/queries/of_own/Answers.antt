@@ -1,9 +1,7 @@
-use Rattle.std.proofs.Common.{◌≡◌, ◌⊎◌, Bool, List, Some, subst, ◌∙◌}
-use Rattle.std.proofs.lemmas.Result.{err_from_is_err_and}
+use Rattle.std.proofs.{Common.{◌≡◌, ◌⊎◌, Bool, List, Some, subst, ◌∙◌}, lemmas.Result.err_from_is_err_and}
 use Rattle.stn_refusal.specs.Refusals.{out_of_memory}
 use Rattle.stn_replica.specs.Own.{done_or_others}
-use Rattle.stn_command.specs.Query.{IsRehearseRefusal}
-use Rattle.stn_command.proofs.Alike.{unrehearsed}
+use Rattle.stn_command.{specs.Query.IsRehearseRefusal, proofs.Alike.unrehearsed}
 use Rattle.stn_command.proofs.queries.of_own.Goals as goal
 
 pub returns-in_err-append_rest-in-Rehearse : goal.returns-in_err-append_rest-in-Rehearse

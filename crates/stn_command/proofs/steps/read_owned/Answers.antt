@@ -1,5 +1,4 @@
-use Rattle.std.proofs.Common.{refl, sym, subst, inl, inr, ⊎_elim}
-use Rattle.std.proofs.lemmas.Result.{err_from_is_err_and}
+use Rattle.std.proofs.{Common.{refl, sym, subst, inl, inr, ⊎_elim}, lemmas.Result.err_from_is_err_and}
 use Rattle.stn_command.proofs.StepWords.{GivesTo, one_given, gift_refused, all_given}
 use Rattle.stn_command.proofs.steps.read_owned.Goals as goal
 

@@ -1,6 +1,4 @@
-use Rattle.std.proofs.Common.{◌≡◌, ℕ, List, Option, Some, None, unwrap_or, option_map, refl, sym, ap, ◌∙◌}
-use Rattle.std.proofs.lemmas.Result.{err_from_is_err_and}
-use Rattle.std.specs.Borrow.{Bor}
+use Rattle.std.{proofs.{Common.{◌≡◌, ℕ, List, Option, Some, None, unwrap_or, option_map, refl, sym, ap, ◌∙◌}, lemmas.Result.err_from_is_err_and}, specs.Borrow.Bor}
 use Rattle.stn_command.specs.Steps.{around, range_of, range_read}
 use Rattle.stn_command.proofs.steps.read_range.Goals as goal
 

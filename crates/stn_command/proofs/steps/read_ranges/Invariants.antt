@@ -1,5 +1,4 @@
-use Rattle.stn_command.specs.Steps.{range_read}
-use Rattle.stn_command.proofs.EachRead.{IsReadTo}
+use Rattle.stn_command.{specs.Steps.range_read, proofs.EachRead.IsReadTo}
 use Rattle.stn_command.proofs.steps.read_ranges.Given as goal
 
 abbrev pub invariant-words : goal.invariant-words

@@ -1,8 +1,6 @@
-use Rattle.std.proofs.Common.{◌≡◌, ℕ, ◌≤◌, List, Option, Some, None, IfSome, sym, arith}
-use Rattle.std.proofs.lemmas.Option.{none-some}
+use Rattle.std.proofs.{Common.{◌≡◌, ℕ, ◌≤◌, List, Option, Some, None, IfSome, sym, arith}, lemmas.Option.none-some}
 use Rattle.stn_net.specs.Event.{most_events, event_text}
-use Rattle.stn_command.specs.Words.{event_of}
-use Rattle.stn_command.proofs.Events.{event_below-some, event_below-none}
+use Rattle.stn_command.{specs.Words.event_of, proofs.Events.{event_below-some, event_below-none}}
 use Rattle.stn_command.proofs.words.read_event.Goals as goal
 
 -- what a reader answers is the event that the word names

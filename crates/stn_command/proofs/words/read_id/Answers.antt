@@ -1,8 +1,6 @@
-use Rattle.std.proofs.Common.{◌≡◌, List, ℕ, Option, Some, None, IfSome, sym}
-use Rattle.std.proofs.lemmas.Option.{none-some}
+use Rattle.std.proofs.{Common.{◌≡◌, List, ℕ, Option, Some, None, IfSome, sym}, lemmas.Option.none-some}
 use Rattle.stn_records.specs.Id.{SiteCounter, IsId, id_text}
-use Rattle.stn_command.specs.Words.{id_of}
-use Rattle.stn_command.proofs.Ids.{id_of-some, id_of-none}
+use Rattle.stn_command.{specs.Words.id_of, proofs.Ids.{id_of-some, id_of-none}}
 use Rattle.stn_command.proofs.words.read_id.Goals as goal
 
 -- what a reader answers is the id that the word names

@@ -1,5 +1,4 @@
-use Rattle.std.proofs.Common.{◌∙◌, sym}
-use Rattle.std.proofs.lemmas.Result.{IfOk-weaker}
+use Rattle.std.proofs.{Common.{◌∙◌, sym}, lemmas.Result.IfOk-weaker}
 use mathlib.Core.List.{cons≢nil}
 use Rattle.stn_line.proofs.help.said.Goals as goal
 

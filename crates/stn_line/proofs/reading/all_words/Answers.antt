@@ -1,8 +1,5 @@
-use Rattle.std.proofs.Common.{◌∙◌, [], ap, map, option_map, sym}
-use Rattle.std.specs.Option.{unwrap_or}
-use Rattle.std.proofs.lemmas.Result.{IfOk-weaker}
-use Rattle.clap.specs.Words.{found_of}
-use Rattle.clap.proofs.WalkLemmas.{raw_values-rows}
+use Rattle.std.{proofs.{Common.{◌∙◌, [], ap, map, option_map, sym}, lemmas.Result.IfOk-weaker}, specs.Option.unwrap_or}
+use Rattle.clap.{specs.Words.found_of, proofs.WalkLemmas.raw_values-rows}
 use Rattle.stn_line.proofs.reading.all_words.Goals as goal
 
 pub returns-in-Some : goal.returns-in-Some

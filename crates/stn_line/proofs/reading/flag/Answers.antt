@@ -1,7 +1,5 @@
-use Rattle.std.proofs.Common.{◌∙◌, Some, ap, sym, codes}
-use Rattle.std.proofs.{lemmas.Bool.Decides.Decides-eqb, lemmas.Option.same_Some, lemmas.Slice.Eq.slice_eq-Decides}
-use Rattle.clap.specs.Words.{found_of}
-use Rattle.clap.proofs.WalkLemmas.{first_value-rows}
+use Rattle.std.proofs.{Common.{◌∙◌, Some, ap, sym, codes}, lemmas.{Bool.Decides.Decides-eqb, Option.same_Some, Slice.Eq.slice_eq-Decides}}
+use Rattle.clap.{specs.Words.found_of, proofs.WalkLemmas.first_value-rows}
 use Rattle.stn_line.proofs.Values.{none_got, value_got}
 use Rattle.stn_line.proofs.reading.flag.Goals as goal
 

@@ -1,7 +1,6 @@
 use Rattle.std.proofs.Common.{◌≢◌, ◌∙◌, true≢false, map, ap, sym, subst, IsSomeAnd, inl, inr}
-use Rattle.clap.specs.{Kinds.HasKind, declared.error.kind.ErrorKind.TheVariants.OutOfMemory, Words.fault_of, Words.kind_of, Words.is_simple, Words.is_simple_and_free, Words.subcommand_of}
-use Rattle.stn_line.specs.{Given.IsEntered, Lines.IsLineOf}
-use Rattle.stn_line.proofs.OfStn.{stn_free, stn_given, stn_simple}
+use Rattle.clap.specs.{Kinds.HasKind, declared.error.kind.ErrorKind.TheVariants.OutOfMemory, Words.{fault_of, kind_of, is_simple, is_simple_and_free, subcommand_of}}
+use Rattle.stn_line.{specs.{Given.IsEntered, Lines.IsLineOf}, proofs.OfStn.{stn_free, stn_given, stn_simple}}
 use Rattle.stn_line.proofs.reading.line.Goals as goal
 
 pub read-requires : goal.read-requires

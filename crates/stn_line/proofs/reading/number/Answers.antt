@@ -1,7 +1,5 @@
-use Rattle.std.proofs.Common.{◌∙◌, Some, option_map, ap, sym, arith}
-use Rattle.std.specs.Str.Parse.{digits_value, without_leading_plus}
-use Rattle.clap.specs.Words.{IsUnsignedIn, found_of}
-use Rattle.clap.proofs.WalkLemmas.{first_value-rows}
+use Rattle.std.{proofs.Common.{◌∙◌, Some, option_map, ap, sym, arith}, specs.Str.Parse.{digits_value, without_leading_plus}}
+use Rattle.clap.{specs.Words.{IsUnsignedIn, found_of}, proofs.WalkLemmas.first_value-rows}
 use Rattle.stn_line.proofs.Values.{at_value, is_got, number_is, number_read, value_got}
 use Rattle.stn_line.proofs.reading.number.Goals as goal
 

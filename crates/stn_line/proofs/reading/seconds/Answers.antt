@@ -1,7 +1,5 @@
-use Rattle.std.proofs.Common.{◌∙◌, option_map, ap, sym, arith, codes, lit≤}
-use Rattle.std.specs.{Option.unwrap_or, Str.Parse.digits_value, Str.Parse.without_leading_plus}
-use Rattle.clap.specs.Words.{IsUnsignedIn, found_of}
-use Rattle.clap.proofs.WalkLemmas.{first_value-rows}
+use Rattle.std.{proofs.Common.{◌∙◌, option_map, ap, sym, arith, codes, lit≤}, specs.{Option.unwrap_or, Str.Parse.{digits_value, without_leading_plus}}}
+use Rattle.clap.{specs.Words.{IsUnsignedIn, found_of}, proofs.WalkLemmas.first_value-rows}
 use Rattle.stn_line.proofs.Values.{at_given, is_short, none_got, number_is, number_read, value_got}
 use Rattle.stn_line.proofs.reading.seconds.Goals as goal
 

@@ -1,8 +1,7 @@
-use Rattle.std.proofs.Common.{◌≡◌, ◌+◌, ◌++◌, ℕ, List, map, ap, ◌∙◌, arith}
-use Rattle.std.specs.List.{range_with_len}
+use Rattle.std.{proofs.Common.{◌≡◌, ◌+◌, ◌++◌, ℕ, List, map, ap, ◌∙◌, arith}, specs.List.range_with_len}
 use Rattle.stn_lift.specs.PlanSource.{base_bounds, steps_of, events_of}
 use Rattle.stn_site.specs.Report.{done_events}
-use Rattle.stn_picture.specs.{Axis.gap_of, Axis.gaps_in, Chart.Chart, Chart.seen_look, Chart.row_in, Chart.holder_in, Chart.far_of, Chart.chart_of, Frame.plan_text, Seen.overdue_of}
+use Rattle.stn_picture.specs.{Axis.{gap_of, gaps_in}, Chart.{Chart, seen_look, row_in, holder_in, far_of, chart_of}, Frame.plan_text, Seen.overdue_of}
 use Rattle.stn_picture.proofs.chart.chart_text.Goals as goal
 
 pub invariant_of-chart : goal.invariant_of-chart

@@ -1,5 +1,4 @@
-use Rattle.std.proofs.Common.{◌≡◌, [], ◌∷◌, ◌++◌, false, slice_index_or, sym, ap, ◌∙◌, arith}
-use Rattle.std.proofs.lemmas.List.FromFn.{map-range_with_len_more}
+use Rattle.std.proofs.{Common.{◌≡◌, [], ◌∷◌, ◌++◌, false, slice_index_or, sym, ap, ◌∙◌, arith}, lemmas.List.FromFn.map-range_with_len_more}
 use Rattle.stn_site.specs.Report.{is_done}
 use Rattle.stn_picture.proofs.chart.done_events.Goals as goal
 

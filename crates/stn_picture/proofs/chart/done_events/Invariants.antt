@@ -1,5 +1,4 @@
-use Rattle.std.proofs.Common.{◌≡◌, map}
-use Rattle.std.specs.List.{range_with_len}
+use Rattle.std.{proofs.Common.{◌≡◌, map}, specs.List.range_with_len}
 use Rattle.stn_site.specs.Report.{is_done}
 use Rattle.stn_picture.proofs.chart.done_events.Given as goal
 

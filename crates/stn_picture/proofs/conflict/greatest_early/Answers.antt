@@ -1,8 +1,5 @@
-use Rattle.std.proofs.Common.{◌≡◌, ◌≤◌, ℤ, to_z, of_z, w64, get_or, subst, ap, ◌∙◌, arith}
-use Rattle.std.specs.Prelude.{max, unsigned_abs, pos}
-use Rattle.std.proofs.lemmas.{Int.to_z-of_z, List.get_or_default}
-use Rattle.stn_picture.specs.Walk.{early}
-use Rattle.stn_picture.proofs.Drawing.{greatest_more}
+use Rattle.std.{proofs.{Common.{◌≡◌, ◌≤◌, ℤ, to_z, of_z, w64, get_or, subst, ap, ◌∙◌, arith}, lemmas.{Int.to_z-of_z, List.get_or_default}}, specs.Prelude.{max, unsigned_abs, pos}}
+use Rattle.stn_picture.{specs.Walk.early, proofs.Drawing.greatest_more}
 use Rattle.stn_picture.proofs.conflict.greatest_early.Goals as goal
 
 pub loop-place-preserved : goal.loop-place-preserved

@@ -1,8 +1,5 @@
-use Rattle.std.proofs.Common.{◌≡◌, ◌+◌, ◌*◌, ◌++◌, ◌<◌, ◌≤◌, ◌^◌, ℤ, pos, to_z, of_z, w64, get_or, sym, subst, ap, ◌∙◌, arith}
-use Rattle.std.specs.Prelude.{◌+ℤ◌, unsigned_abs}
-use Rattle.std.proofs.lemmas.{Int.to_z-of_z, Int.ints, List.get_or_default}
-use Rattle.stn_picture.specs.Walk.{sum_of}
-use Rattle.stn_picture.proofs.Sums.{value_at, values_grown, all_grown, sum_step, abs_add}
+use Rattle.std.{proofs.{Common.{◌≡◌, ◌+◌, ◌*◌, ◌++◌, ◌<◌, ◌≤◌, ◌^◌, ℤ, pos, to_z, of_z, w64, get_or, sym, subst, ap, ◌∙◌, arith}, lemmas.{Int.{to_z-of_z, ints}, List.get_or_default}}, specs.Prelude.{◌+ℤ◌, unsigned_abs}}
+use Rattle.stn_picture.{specs.Walk.sum_of, proofs.Sums.{value_at, values_grown, all_grown, sum_step, abs_add}}
 use Rattle.stn_picture.proofs.conflict.sums_of.Goals as goal
 
 pub loop-place-preserved : goal.loop-place-preserved

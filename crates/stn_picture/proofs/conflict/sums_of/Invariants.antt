@@ -1,5 +1,4 @@
-use Rattle.std.proofs.Common.{◌≡◌, ◌++◌, ◌+◌, ◌*◌, ◌<◌, ◌≤◌, ◌^◌, map, All}
-use Rattle.std.specs.{Prelude.unsigned_abs, List.range_with_len}
+use Rattle.std.{proofs.Common.{◌≡◌, ◌++◌, ◌+◌, ◌*◌, ◌<◌, ◌≤◌, ◌^◌, map, All}, specs.{Prelude.unsigned_abs, List.range_with_len}}
 use Rattle.stn_picture.specs.Walk.{sum_of}
 use Rattle.stn_picture.proofs.conflict.sums_of.Given as goal
 

@@ -2,8 +2,7 @@ use Rattle.std.proofs.Common.{◌≡◌, ◌+◌, ◌++◌, false, slice_index_o
 use Rattle.stn_net.specs.Difference.{Difference, NamesEvents}
 use Rattle.stn_lift.specs.PlanSource.{events_of}
 use Rattle.stn_site.specs.{Bounds.live_bounds, Report.is_done}
-use Rattle.stn_picture.specs.{Chart.floors_at, Seen.floor_at}
-use Rattle.stn_picture.proofs.Drawing.{floors_more}
+use Rattle.stn_picture.{specs.{Chart.floors_at, Seen.floor_at}, proofs.Drawing.floors_more}
 use Rattle.stn_picture.proofs.floors.live_and_floors.Goals as goal
 
 pub loop-before-preserved : goal.loop-before-preserved

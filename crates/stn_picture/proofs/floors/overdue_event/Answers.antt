@@ -1,9 +1,7 @@
-use Rattle.std.proofs.Common.{◌≡◌, ◌+◌, ◌-◌, ◌&&◌, Bool, suc, false, not, if◌then◌else◌, slice_index_or, sym, ap, ◌∙◌, arith}
-use Rattle.std.specs.Prelude.{int_lt}
+use Rattle.std.{proofs.Common.{◌≡◌, ◌+◌, ◌-◌, ◌&&◌, Bool, suc, false, not, if◌then◌else◌, slice_index_or, sym, ap, ◌∙◌, arith}, specs.Prelude.int_lt}
 use Rattle.stn_lift.specs.PlanSource.{events_of}
 use Rattle.stn_site.specs.{Report.is_done, Windows.window_at}
-use Rattle.stn_picture.specs.Chart.{overdue_from}
-use Rattle.stn_picture.proofs.Drawing.{overdue_next}
+use Rattle.stn_picture.{specs.Chart.overdue_from, proofs.Drawing.overdue_next}
 use Rattle.stn_picture.proofs.floors.overdue_event.Goals as goal
 
 pub loop-before-preserved : goal.loop-before-preserved

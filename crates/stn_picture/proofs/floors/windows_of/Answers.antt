@@ -1,8 +1,5 @@
-use Rattle.std.proofs.Common.{◌≡◌, ◌+◌, ◌<◌, ◌≤◌, pos, neg_ℤ, length, refl, sym, ap, subst, ◌∙◌, arith}
-use Rattle.std.proofs.lemmas.List.{get_or_read}
-use Rattle.stn_net.specs.Schedule.{times_of}
-use Rattle.stn_net.specs.Windows.Window.{IsWindow}
-use Rattle.stn_net.proofs.WindowEnds.{window_of_ends}
+use Rattle.std.proofs.{Common.{◌≡◌, ◌+◌, ◌<◌, ◌≤◌, pos, neg_ℤ, length, refl, sym, ap, subst, ◌∙◌, arith}, lemmas.List.get_or_read}
+use Rattle.stn_net.{specs.{Schedule.times_of, Windows.Window.IsWindow}, proofs.WindowEnds.window_of_ends}
 use Rattle.stn_site.proofs.Windowing.{AreFirst, none_yet, one_more_window, all_windows}
 use Rattle.stn_picture.proofs.floors.windows_of.Goals as goal
 

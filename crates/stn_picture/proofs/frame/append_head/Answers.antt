@@ -1,6 +1,5 @@
 use Rattle.std.proofs.Common.{◌++◌, append_assoc, ap, ◌∙◌}
-use Rattle.stn_picture.specs.Frame.{open_text}
-use Rattle.stn_picture.proofs.Grown.{then, further}
+use Rattle.stn_picture.{specs.Frame.open_text, proofs.Grown.{then, further}}
 use Rattle.stn_picture.proofs.frame.append_head.Goals as goal
 
 pub returns : goal.returns

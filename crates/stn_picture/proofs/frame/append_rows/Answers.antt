@@ -1,6 +1,5 @@
 use Rattle.std.proofs.Common.{◌+◌, add-one, arith}
-use Rattle.stn_picture.proofs.Drawing.{range_grown}
-use Rattle.stn_picture.specs.{Rows.row_text, Seen.seen_chart}
+use Rattle.stn_picture.{proofs.Drawing.range_grown, specs.{Rows.row_text, Seen.seen_chart}}
 use Rattle.stn_picture.proofs.frame.append_rows.Goals as goal
 
 pub loop-before-preserved : goal.loop-before-preserved

@@ -1,5 +1,4 @@
-use Rattle.std.proofs.Common.{◌≡◌, ◌++◌}
-use Rattle.std.specs.List.{flat_map, range_with_len}
+use Rattle.std.{proofs.Common.{◌≡◌, ◌++◌}, specs.List.{flat_map, range_with_len}}
 use Rattle.stn_picture.specs.{Rows.row_text, Seen.seen_chart}
 use Rattle.stn_picture.proofs.frame.append_rows.Given as goal
 

@@ -1,5 +1,4 @@
-use Rattle.std.proofs.Common.{append_assoc}
-use Rattle.std.proofs.lemmas.Result.{IfOk-equal}
+use Rattle.std.proofs.{Common.append_assoc, lemmas.Result.IfOk-equal}
 use Rattle.stn_picture.proofs.Grown.{then, last}
 use Rattle.stn_picture.proofs.frame.append_style.Goals as goal
 

@@ -1,5 +1,4 @@
-use Rattle.std.proofs.Common.{◌≡◌, ◌++◌}
-use Rattle.std.specs.List.{flat_map, range_with_len}
+use Rattle.std.{proofs.Common.{◌≡◌, ◌++◌}, specs.List.{flat_map, range_with_len}}
 use Rattle.stn_picture.specs.{Frame.tick_line, Seen.seen_chart}
 use Rattle.stn_picture.proofs.frame.append_tick_lines.Given as goal
 

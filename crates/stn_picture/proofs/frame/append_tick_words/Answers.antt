@@ -1,6 +1,5 @@
 use Rattle.std.proofs.Common.{◌+◌, add-one, arith}
-use Rattle.stn_picture.proofs.Drawing.{range_grown}
-use Rattle.stn_picture.specs.{Frame.tick_words, Seen.seen_chart}
+use Rattle.stn_picture.{proofs.Drawing.range_grown, specs.{Frame.tick_words, Seen.seen_chart}}
 use Rattle.stn_picture.proofs.frame.append_tick_words.Goals as goal
 
 pub loop-tick-preserved : goal.loop-tick-preserved

@@ -1,5 +1,5 @@
 use Rattle.std.proofs.Common.{◌≡◌, ◌++◌, ◌≤◌, ◌+◌, ◌*◌, drop}
-use Rattle.stn_picture.specs.{Frame.entries_text, Frame.legend_base, Frame.parts, Frame.legend_text, Seen.seen_chart}
+use Rattle.stn_picture.specs.{Frame.{entries_text, legend_base, parts, legend_text}, Seen.seen_chart}
 use Rattle.stn_picture.proofs.legend.append_legend.Given as goal
 
 abbrev pub invariant-loop-part : goal.invariant-loop-part

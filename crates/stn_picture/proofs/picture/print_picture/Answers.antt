@@ -1,5 +1,4 @@
-use Rattle.std.proofs.Common.{◌++◌, ◌∙◌, ap}
-use Rattle.std.proofs.lemmas.Result.{IfOk-weaker}
+use Rattle.std.proofs.{Common.{◌++◌, ◌∙◌, ap}, lemmas.Result.IfOk-weaker}
 use Rattle.stn_site.proofs.Printing.{appended_ok, kept_err}
 use Rattle.stn_picture.proofs.picture.print_picture.Goals as goal
 

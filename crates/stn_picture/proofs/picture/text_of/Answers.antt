@@ -1,5 +1,4 @@
-use Rattle.std.proofs.Common.{inl}
-use Rattle.std.proofs.lemmas.Result.{IfOk-weaker}
+use Rattle.std.proofs.{Common.inl, lemmas.Result.IfOk-weaker}
 use Rattle.stn_picture.specs.Seen.{overdue_of}
 use Rattle.stn_picture.proofs.picture.text_of.Goals as goal
 

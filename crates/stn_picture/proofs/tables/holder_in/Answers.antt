@@ -1,6 +1,5 @@
 use Rattle.std.proofs.Common.{sym, ◌∙◌}
-use Rattle.stn_picture.specs.Chart.{holder_in}
-use Rattle.stn_picture.proofs.Drawing.{holder_append, pick_first, pick_second}
+use Rattle.stn_picture.{specs.Chart.holder_in, proofs.Drawing.{holder_append, pick_first, pick_second}}
 use Rattle.stn_picture.proofs.tables.holder_in.Goals as goal
 
 pub returns-then-holder-ne0 : goal.returns-then-holder-ne0

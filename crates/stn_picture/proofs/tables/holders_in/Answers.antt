@@ -1,5 +1,4 @@
-use Rattle.std.proofs.Common.{◌≡◌, [], ◌∷◌, ◌++◌, sym, ◌∙◌, arith}
-use Rattle.std.proofs.lemmas.List.FromFn.{map-range_with_len_more}
+use Rattle.std.proofs.{Common.{◌≡◌, [], ◌∷◌, ◌++◌, sym, ◌∙◌, arith}, lemmas.List.FromFn.map-range_with_len_more}
 use Rattle.stn_picture.specs.Chart.{holder_in}
 use Rattle.stn_picture.proofs.tables.holders_in.Goals as goal
 

@@ -1,5 +1,4 @@
-use Rattle.std.proofs.Common.{◌≡◌, ℤ, ap, ◌∙◌}
-use Rattle.std.specs.{Prelude.◌-ℤ◌, Ordering.int_eq}
+use Rattle.std.{proofs.Common.{◌≡◌, ℤ, ap, ◌∙◌}, specs.{Prelude.◌-ℤ◌, Ordering.int_eq}}
 use Rattle.stn_site.specs.Windows.{window_at}
 use Rattle.stn_picture.proofs.Times.{difference_is}
 use Rattle.stn_picture.proofs.tables.holds_upper.Goals as goal

@@ -1,5 +1,4 @@
-use Rattle.std.proofs.Common.{◌≡◌, ◌≤◌, length, filter}
-use Rattle.std.specs.List.{range_with_len}
+use Rattle.std.{proofs.Common.{◌≡◌, ◌≤◌, length, filter}, specs.List.range_with_len}
 use Rattle.stn_picture.specs.Chart.{is_above}
 use Rattle.stn_picture.proofs.tables.row_in.Given as goal
 

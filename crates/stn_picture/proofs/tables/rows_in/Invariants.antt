@@ -1,5 +1,4 @@
-use Rattle.std.proofs.Common.{◌≡◌, map}
-use Rattle.std.specs.List.{range_with_len}
+use Rattle.std.{proofs.Common.{◌≡◌, map}, specs.List.range_with_len}
 use Rattle.stn_picture.specs.Chart.{row_in}
 use Rattle.stn_picture.proofs.tables.rows_in.Given as goal
 

@@ -1,5 +1,4 @@
-use Rattle.std.proofs.Common.{◌≡◌, ◌++◌, take}
-use Rattle.std.specs.List.{flat_map}
+use Rattle.std.{proofs.Common.{◌≡◌, ◌++◌, take}, specs.List.flat_map}
 use Rattle.stn_picture.specs.Walk.{mends_text}
 use Rattle.stn_picture.proofs.walk_rows.append_each_mending.Given as goal
 

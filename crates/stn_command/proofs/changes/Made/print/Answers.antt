@@ -1,5 +1,4 @@
-use Rattle.std.proofs.Common.{◌++◌, sym, ap}
-use Rattle.std.proofs.lemmas.Result.{IfOk-equal}
+use Rattle.std.proofs.{Common.{◌++◌, sym, ap}, lemmas.Result.IfOk-equal}
 use Rattle.stn_command.specs.Change.{made_text}
 use Rattle.stn_command.proofs.changes.Made.print.Goals as goal
 

@@ -1,5 +1,4 @@
-use Rattle.std.proofs.Common.{[], refl, sym}
-use Rattle.std.proofs.lemmas.List.{append-nil}
+use Rattle.std.proofs.{Common.{[], refl, sym}, lemmas.List.append-nil}
 use Rattle.stn_line.proofs.explanations.Entries.{one_more, whole_list}
 use Rattle.stn_line.proofs.explanations.printing.append_meanings.Goals as goal
 

@@ -1,6 +1,5 @@
 use Rattle.std.proofs.Common.{◌≡◌, ◌∙◌, ◌++◌, Some, None, Err, List, ℕ, sym, ap, option_map, subst}
-use Rattle.stn_line.specs.Explanations.Explained.{IsExplained, NamesNothing, AreMeanings}
-use Rattle.stn_line.proofs.{explanations.Entries.all_entries, explanations.Entries.names_nothing, explanations.Entries.appended, explanations.printing.print_explained.Goals.in-None+in_ok-append_meanings-in-None, explanations.printing.print_explained.Goals.in-Some+in-Some-entry_of+in_ok-append_explanation-in-Some-entry_of}
+use Rattle.stn_line.{specs.Explanations.Explained.{IsExplained, NamesNothing, AreMeanings}, proofs.explanations.{Entries.{all_entries, names_nothing, appended}, printing.print_explained.Goals.{in-None+in_ok-append_meanings-in-None, in-Some+in-Some-entry_of+in_ok-append_explanation-in-Some-entry_of}}}
 use Rattle.stn_line.proofs.explanations.printing.print_explained.Goals as goal
 
 pub append_meanings-requires : goal.append_meanings-requires

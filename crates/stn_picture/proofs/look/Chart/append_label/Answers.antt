@@ -1,7 +1,5 @@
-use Rattle.std.proofs.Common.{◌++◌, append_assoc, ap, ◌∙◌}
-use Rattle.std.proofs.lemmas.Result.{IfOk-equal}
-use Rattle.stn_picture.specs.Rows.{number_text}
-use Rattle.stn_picture.proofs.Grown.{then, last}
+use Rattle.std.proofs.{Common.{◌++◌, append_assoc, ap, ◌∙◌}, lemmas.Result.IfOk-equal}
+use Rattle.stn_picture.{specs.Rows.number_text, proofs.Grown.{then, last}}
 use Rattle.stn_picture.proofs.look.Chart.append_label.Goals as goal
 
 pub returns : goal.returns

@@ -1,5 +1,4 @@
-use Rattle.std.proofs.Common.{◌≡◌, ◌≤◌, length, filter}
-use Rattle.std.specs.List.{range_with_len}
+use Rattle.std.{proofs.Common.{◌≡◌, ◌≤◌, length, filter}, specs.List.range_with_len}
 use Rattle.stn_picture.specs.{Parts.shows, Seen.seen_chart}
 use Rattle.stn_picture.proofs.look.Chart.count_of.Given as goal
 

@@ -1,6 +1,5 @@
-use Rattle.std.proofs.Common.{rules}
-use Rattle.std.proofs.Output.{has_written_of_eq}
-use Rattle.stn_picture.proofs.{Shown.shown, seconds.SecondsDisplay.fmt.Goals.then-millis-lt0, seconds.SecondsDisplay.fmt.Goals.else-millis-lt0}
+use Rattle.std.proofs.{Common.rules, Output.has_written_of_eq}
+use Rattle.stn_picture.proofs.{Shown.shown, seconds.SecondsDisplay.fmt.Goals.{then-millis-lt0, else-millis-lt0}}
 use Rattle.stn_picture.proofs.seconds.SecondsDisplay.fmt.Goals as goal
 
 pub returns-clause-writes : goal.returns-clause-writes

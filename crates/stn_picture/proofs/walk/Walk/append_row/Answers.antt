@@ -1,7 +1,5 @@
 use Rattle.std.proofs.Common.{◌++◌, ap}
-use Rattle.stn_picture.specs.Walk.{title_text, words_text, row_mending, row_label, row_arrow, row_drop}
-use Rattle.stn_picture.specs.WalkSeen.{seen_walk}
-use Rattle.stn_picture.proofs.Grown.{then, further, joined6}
+use Rattle.stn_picture.{specs.{Walk.{title_text, words_text, row_mending, row_label, row_arrow, row_drop}, WalkSeen.seen_walk}, proofs.Grown.{then, further, joined6}}
 use Rattle.stn_picture.proofs.walk.Walk.append_row.Goals as goal
 
 pub returns : goal.returns

@@ -1,6 +1,5 @@
 use Rattle.std.proofs.Common.{◌+◌, add-one, arith}
-use Rattle.stn_picture.proofs.Drawing.{range_grown}
-use Rattle.stn_picture.specs.{Walk.row_text, WalkSeen.seen_walk}
+use Rattle.stn_picture.{proofs.Drawing.range_grown, specs.{Walk.row_text, WalkSeen.seen_walk}}
 use Rattle.stn_picture.proofs.walk.Walk.append_rows.Goals as goal
 
 pub loop-row-preserved : goal.loop-row-preserved

@@ -1,6 +1,4 @@
-use Rattle.std.proofs.Common.{◌++◌, ℤ, w64, append_assoc, ap, ◌∙◌}
-use Rattle.std.specs.Prelude.{neg_ℤ}
-use Rattle.std.proofs.lemmas.{Int.to_z-of_z, Result.IfOk-equal}
+use Rattle.std.{proofs.{Common.{◌++◌, ℤ, w64, append_assoc, ap, ◌∙◌}, lemmas.{Int.to_z-of_z, Result.IfOk-equal}}, specs.Prelude.neg_ℤ}
 use Rattle.stn_time.specs.Text.{printed}
 use Rattle.stn_picture.proofs.Grown.{then, last}
 use Rattle.stn_picture.proofs.walk.Walk.append_summary.Goals as goal

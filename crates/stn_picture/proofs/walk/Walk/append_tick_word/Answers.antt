@@ -1,9 +1,5 @@
-use Rattle.std.proofs.Common.{◌++◌, ◌+◌, append_assoc, ap, ◌∙◌}
-use Rattle.std.proofs.lemmas.Result.{IfOk-equal}
-use Rattle.stn_picture.proofs.Grown.{then, last}
-use Rattle.std.proofs.Common.{w64}
-use Rattle.std.proofs.lemmas.Int.{to_z-of_z}
-use Rattle.stn_picture.specs.{Walk.place_of, Walk.tick_opening, WalkSeen.seen_walk}
+use Rattle.std.proofs.{Common.{◌++◌, ◌+◌, append_assoc, ap, ◌∙◌, w64}, lemmas.{Result.IfOk-equal, Int.to_z-of_z}}
+use Rattle.stn_picture.{proofs.Grown.{then, last}, specs.{Walk.{place_of, tick_opening}, WalkSeen.seen_walk}}
 use Rattle.stn_picture.proofs.walk.Walk.append_tick_word.Goals as goal
 
 pub returns : goal.returns

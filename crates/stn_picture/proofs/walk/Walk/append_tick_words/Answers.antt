@@ -1,6 +1,5 @@
 use Rattle.std.proofs.Common.{◌+◌, add-one, arith}
-use Rattle.stn_picture.proofs.Drawing.{range_grown}
-use Rattle.stn_picture.specs.{Walk.tick_words, WalkSeen.seen_walk}
+use Rattle.stn_picture.{proofs.Drawing.range_grown, specs.{Walk.tick_words, WalkSeen.seen_walk}}
 use Rattle.stn_picture.proofs.walk.Walk.append_tick_words.Goals as goal
 
 pub loop-tick-preserved : goal.loop-tick-preserved

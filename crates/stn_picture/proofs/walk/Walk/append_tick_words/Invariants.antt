@@ -1,5 +1,4 @@
-use Rattle.std.proofs.Common.{◌≡◌, ◌++◌}
-use Rattle.std.specs.List.{flat_map, range_with_len}
+use Rattle.std.{proofs.Common.{◌≡◌, ◌++◌}, specs.List.{flat_map, range_with_len}}
 use Rattle.stn_picture.specs.{Walk.tick_words, WalkSeen.seen_walk}
 use Rattle.stn_picture.proofs.walk.Walk.append_tick_words.Given as goal
 

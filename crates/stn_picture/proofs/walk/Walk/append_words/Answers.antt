@@ -1,7 +1,5 @@
-use Rattle.std.proofs.Common.{◌++◌, ◌+◌, append_assoc, ap, ◌∙◌}
-use Rattle.std.proofs.lemmas.Result.{IfOk-equal}
-use Rattle.stn_picture.proofs.Grown.{then, last}
-use Rattle.stn_picture.specs.Walk.{name_opening, words_opening}
+use Rattle.std.proofs.{Common.{◌++◌, ◌+◌, append_assoc, ap, ◌∙◌}, lemmas.Result.IfOk-equal}
+use Rattle.stn_picture.{proofs.Grown.{then, last}, specs.Walk.{name_opening, words_opening}}
 use Rattle.stn_picture.proofs.walk.Walk.append_words.Goals as goal
 
 pub returns : goal.returns

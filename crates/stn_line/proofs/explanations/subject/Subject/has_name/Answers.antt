@@ -1,6 +1,4 @@
-use Rattle.std.proofs.Common.{◌≡◌, ◌∙◌, ◌↔◌, ℕ, List, Option, Some, None, IfSome, true, eqb, ap, sym}
-use Rattle.std.specs.{Fmt.decimal, Option.option_eq}
-use Rattle.std.proofs.{lemmas.Bool.Decides.Decides-eqb, lemmas.Option.same_Some}
+use Rattle.std.{proofs.{Common.{◌≡◌, ◌∙◌, ◌↔◌, ℕ, List, Option, Some, None, IfSome, true, eqb, ap, sym}, lemmas.{Bool.Decides.Decides-eqb, Option.same_Some}}, specs.{Fmt.decimal, Option.option_eq}}
 use Rattle.stn_line.proofs.explanations.subject.Subject.has_name.Goals as goal
 
 -- a word is that of a number where the number is read in it
