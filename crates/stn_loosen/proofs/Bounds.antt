@@ -1,9 +1,6 @@
 -- When a bound is one.
-use Rattle.std.proofs.Common.{◌≡◌, ◌↔◌, ℤ, Option, is_some, IsSome, IfOk, sym, ap, subst, ◌∙◌, ℕ, Result, Ok, Err, IsOk, IfErr, refl, ⊎_elim, arith}
-use Rattle.std.proofs.{lemmas.Int.ints, lemmas.Bool.false≢true}
-use Rattle.stn_net.specs.{declared.bound.BoundFault.BoundFault, Difference.Difference, Difference.IsBoundWithin, Difference.IsFaultOf}
-use Rattle.stn_net.specs.declared.bound.BoundFault.TheVariants.{NoEvent, SameEvent, Crossed}
-use Rattle.std.specs.Result.{result_ok}
+use Rattle.std.{proofs.{Common.{◌≡◌, ◌↔◌, ℤ, Option, is_some, IsSome, IfOk, sym, ap, subst, ◌∙◌, ℕ, Result, Ok, Err, IsOk, IfErr, refl, ⊎_elim, arith}, lemmas.{Int.ints, Bool.false≢true}}, specs.Result.result_ok}
+use Rattle.stn_net.specs.{declared.bound.BoundFault.{BoundFault, TheVariants.{NoEvent, SameEvent, Crossed}}, Difference.{Difference, IsBoundWithin, IsFaultOf}}
 use Rattle.stn_time.specs.Time.{IsWithinHorizon}
 use Rattle.stn_loosen.specs.Stepped.{IsBoundOf}
 

@@ -1,11 +1,9 @@
 -- Which bounds a matrix shows to be implied, and the matrix with one bound more.
-use Rattle.std.proofs.Common.{◌≡◌, ℤ, ◌≤ℤ◌, neg_ℤ, ◌↔◌, Bool, IsTrue, List, [], ◌∷◌, ◌++◌, sym, ap, subst, ◌∙◌, append_assoc}
-use Rattle.std.proofs.lemmas.Int.{ints}
-use Rattle.std.proofs.Common.{arith}
-use Rattle.stn_net.specs.{Difference.Difference, Difference.NamesEvents, Horizon.horizon_bounds, Schedule.IsSchedule, Schedule.HasSchedule, Matrix.Table.Table, Matrix.Table.far_of, Matrix.Tightest.IsTightest, Matrix.Tightest.IsExact}
+use Rattle.std.proofs.{Common.{◌≡◌, ℤ, ◌≤ℤ◌, neg_ℤ, ◌↔◌, Bool, IsTrue, List, [], ◌∷◌, ◌++◌, sym, ap, subst, ◌∙◌, append_assoc, arith}, lemmas.Int.ints}
+use Rattle.stn_net.specs.{Difference.{Difference, NamesEvents}, Horizon.horizon_bounds, Schedule.{IsSchedule, HasSchedule}, Matrix.{Table.{Table, far_of}, Tightest.{IsTightest, IsExact}}}
 use Rattle.stn_conflict.specs.Listing.{Listing}
 use Rattle.stn_replica.proofs.Schedules.{schedule_before}
-use Rattle.stn_loosen.specs.{Loosened.Imply, Making.all_bounds, Making.AreTaken, Making.IsShown, Making.IsSearched}
+use Rattle.stn_loosen.specs.{Loosened.Imply, Making.{all_bounds, AreTaken, IsShown, IsSearched}}
 
 -- both tightest differences are within the bound exactly where it is implied
 pub implied_from : (bounds : List Difference) (bound : Difference) (there back : ℤ) → IsTightest bounds bound.from bound.to there → IsTightest bounds bound.to bound.from back

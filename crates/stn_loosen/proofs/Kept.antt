@@ -1,8 +1,6 @@
 -- Orders that are kept, and those that are left out.
-use Rattle.std.proofs.Common.{◌≡◌, inl, inr, ⊎_elim, List, [], ◌∷◌, ◌++◌, refl, sym, ap, subst, ◌∙◌, append_assoc, append-nil}
-use Rattle.std.specs.List.{AllByRecursion}
-use Rattle.std.proofs.lemmas.List.Elements.{All-head}
-use Rattle.stn_net.specs.{Difference.Difference, Schedule.Meets, Schedule.IsSchedule}
+use Rattle.std.{proofs.{Common.{◌≡◌, inl, inr, ⊎_elim, List, [], ◌∷◌, ◌++◌, refl, sym, ap, subst, ◌∙◌, append_assoc, append-nil}, lemmas.List.Elements.All-head}, specs.List.AllByRecursion}
+use Rattle.stn_net.specs.{Difference.Difference, Schedule.{Meets, IsSchedule}}
 use Rattle.stn_loosen.specs.Loosened.{Imply, AreKept}
 use Rattle.stn_replica.proofs.Schedules.{schedule_before, met_behind}
 

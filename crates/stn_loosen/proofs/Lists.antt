@@ -1,9 +1,6 @@
 -- Parts of lists, and the key that a closure gives.
-use Rattle.std.proofs.Common.{◌≡◌, ℕ, ◌+◌, List, ◌++◌, length, take, drop, sym, ap, ◌∙◌, append_assoc, length-append}
-use Rattle.std.specs.{Fn.Called, Fn.ComputesKey}
-use Rattle.std.proofs.{lemmas.List.take_at, lemmas.List.drop_at, lemmas.Fn.always_returns_same}
-use denote.Param.Members.{Mut}
-use denote.Ref.{Bor}
+use Rattle.std.{proofs.{Common.{◌≡◌, ℕ, ◌+◌, List, ◌++◌, length, take, drop, sym, ap, ◌∙◌, append_assoc, length-append}, lemmas.{List.{take_at, drop_at}, Fn.always_returns_same}}, specs.Fn.{Called, ComputesKey}}
+use denote.{Param.Members.Mut, Ref.Bor}
 
 module _ {X : Type 0} (xs ys zs : List X) where
   -- the middle one of three lists

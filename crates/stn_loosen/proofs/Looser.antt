@@ -1,16 +1,9 @@
 -- Each schedule of a plan is one of the loosened plan.
-use Rattle.std.proofs.Common.{◌≡◌, ℕ, ℤ, pos, ◌≤◌, ◌≤ℤ◌, List, ◌++◌, sym, subst, arith, All}
-use Rattle.std.specs.{Prelude.slice_index_or, List.AllByRecursion, List.Sorted.IsPermutation}
-use Rattle.std.proofs.{lemmas.Int.ints, lemmas.Int.clamps, lemmas.List.Sorted.All-permutation}
-use Rattle.std.proofs.lemmas.List.Elements.{All-append, All-map, All-from_recursion, recursion_from_All}
-use Rattle.stn_net.proofs.Widest.{horizon_times}
-use Rattle.stn_time.specs.Time.{horizon}
-use Rattle.stn_time.proofs.Each.{All-left, All-right}
-use Rattle.stn_net.specs.{Difference.Difference, Difference.NamesEvents, Horizon.horizon_bounds, Schedule.Meets, Schedule.IsSchedule}
+use Rattle.std.{proofs.{Common.{◌≡◌, ℕ, ℤ, pos, ◌≤◌, ◌≤ℤ◌, List, ◌++◌, sym, subst, arith, All}, lemmas.{Int.{ints, clamps}, List.{Sorted.All-permutation, Elements.{All-append, All-map, All-from_recursion, recursion_from_All}}}}, specs.{Prelude.slice_index_or, List.{AllByRecursion, Sorted.IsPermutation}}}
+use Rattle.stn_net.{proofs.Widest.horizon_times, specs.{Difference.{Difference, NamesEvents}, Horizon.horizon_bounds, Schedule.{Meets, IsSchedule}}}
+use Rattle.stn_time.{specs.Time.horizon, proofs.Each.{All-left, All-right}}
 use Rattle.stn_lift.specs.PlanSource.{PlanSource, events_of, base_bounds, IsSoundSource}
-use Rattle.stn_loosen.specs.Slack.{Slack, IsSlack, loose}
-use Rattle.stn_loosen.specs.Loosened.{durations_of, orders_of, bounds_with, loose_durations, AreMadeOf}
-use Rattle.stn_loosen.proofs.{Kept.kept_hold, Lasting.durations_last, ThreeParts.parted}
+use Rattle.stn_loosen.{specs.{Slack.{Slack, IsSlack, loose}, Loosened.{durations_of, orders_of, bounds_with, loose_durations, AreMadeOf}}, proofs.{Kept.kept_hold, Lasting.durations_last, ThreeParts.parted}}
 
 -- a time lies from 0 to the horizon
 abbrev pub IsWithin : ℤ → Type 0

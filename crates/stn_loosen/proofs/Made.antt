@@ -1,15 +1,9 @@
 -- Records that are made one after the other.
-use Rattle.std.proofs.Common.{◌≡◌, ℕ, ℤ, ◌+◌, ◌<◌, ◌≤◌, List, [], ◌∷◌, ◌++◌, map, length, take, drop, get_or, sym, ap, subst, ◌∙◌, arith, append_assoc, length-append, ⊎_elim, All}
-use Rattle.std.specs.List.{AllByRecursion}
-use Rattle.std.proofs.lemmas.List.{map_more, map-append, take_more, take-append-drop}
-use Rattle.std.proofs.lemmas.List.Elements.{All-take, All-from_recursion, recursion_from_All}
-use Rattle.stn_net.specs.{Difference.Difference, Horizon.horizon_bounds, Schedule.Meets, Schedule.IsSchedule, Schedule.HasSchedule}
-use Rattle.stn_net.specs.Matrix.Table.{Table}
+use Rattle.std.{proofs.{Common.{◌≡◌, ℕ, ℤ, ◌+◌, ◌<◌, ◌≤◌, List, [], ◌∷◌, ◌++◌, map, length, take, drop, get_or, sym, ap, subst, ◌∙◌, arith, append_assoc, length-append, ⊎_elim, All}, lemmas.List.{map_more, map-append, take_more, take-append-drop, Elements.{All-take, All-from_recursion, recursion_from_All}}}, specs.List.AllByRecursion}
+use Rattle.stn_net.specs.{Difference.Difference, Horizon.horizon_bounds, Schedule.{Meets, IsSchedule, HasSchedule}, Matrix.Table.Table}
 use Rattle.stn_records.specs.Content.{most_known}
 use Rattle.stn_replica.proofs.Schedules.{schedule_before, met_behind, schedule_with}
-use Rattle.stn_loosen.specs.{Slack.Slack, Slack.loose, Loosened.Imply, Loosened.AreKept, Making.all_bounds, Making.AreTaken, Making.IsNext, Making.IsCauseOf, Making.IsCauseWith, declared.fault.LoosenFault.LoosenFault}
-use Rattle.stn_loosen.specs.declared.fault.LoosenFault.TheVariants.{Full, NotRobust, Memory}
-use Rattle.stn_loosen.proofs.Kept.{AreKept-push, kept_hold}
+use Rattle.stn_loosen.{specs.{Slack.{Slack, loose}, Loosened.{Imply, AreKept}, Making.{all_bounds, AreTaken, IsNext, IsCauseOf, IsCauseWith}, declared.fault.LoosenFault.{LoosenFault, TheVariants.{Full, NotRobust, Memory}}}, proofs.Kept.{AreKept-push, kept_hold}}
 
 -- with a schedule of records and more, the records have one
 pub front_schedule : (events : ℕ) (records more : List Difference) → HasSchedule (all_bounds events (records ++ more)) → HasSchedule (all_bounds events records)

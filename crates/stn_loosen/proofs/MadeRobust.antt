@@ -1,13 +1,8 @@
 -- The records of the robust plan, made behind those of the loosened plan.
-use Rattle.std.specs.Prelude.{All, OnOk, Result, Ok, Err}
-use Rattle.std.proofs.Common.{◌≡◌, ℕ, List, ◌++◌, length, take, drop, refl, sym, ap, subst, ◌∙◌, append_assoc}
-use Rattle.std.proofs.{lemmas.List.take_at, lemmas.List.drop_at, lemmas.List.length-map, lemmas.List.Elements.All-from_recursion}
-use Rattle.stn_net.specs.{Difference.Difference, Difference.NamesEvents, Horizon.horizon_bounds, Schedule.HasSchedule}
+use Rattle.std.{specs.{Prelude.{All, OnOk, Result, Ok, Err}, List.AllByRecursion}, proofs.{Common.{◌≡◌, ℕ, List, [], ◌∷◌, ◌++◌, length, take, drop, refl, sym, ap, subst, ◌∙◌, append_assoc}, lemmas.List.{take_at, drop_at, length-map, Elements.{All-append, All-from_recursion}}}}
+use Rattle.stn_net.specs.{Difference.{Difference, NamesEvents}, Horizon.horizon_bounds, Schedule.HasSchedule}
 use Rattle.stn_lift.specs.PlanSource.{PlanSource, events_of, IsSoundSource}
-use Rattle.stn_loosen.specs.{declared.fault.LoosenFault.LoosenFault, Slack.Slack, Slack.IsSlack, Slack.loose, Moved.moved_bounds, Robust.loose_bounds, Robust.HasPromise, Making.all_bounds, Stepped.AreSteps, Stepped.AreMadeBehind, Stepped.IsCauseBehind, Whole.IsMadeRobust, Whole.IsCauseAfter}
-use Rattle.stn_loosen.specs.declared.fault.LoosenFault.TheVariants.{Full, NotRobust, Memory}
-use Rattle.stn_loosen.specs.Loosened.{durations_of, AreKept, AreLoosened, bounds_with, loose_durations}
-use Rattle.stn_loosen.proofs.{Steps.source_steps, Robustness.sources_moved, Robustness.moved_possible, Robustness.records_promise, Settings.IsMetIn, Settings.each_weaker}
+use Rattle.stn_loosen.{specs.{declared.fault.LoosenFault.{LoosenFault, TheVariants.{Full, NotRobust, Memory}}, Slack.{Slack, IsSlack, loose}, Moved.moved_bounds, Robust.{loose_bounds, HasPromise, AreRobust}, Making.all_bounds, Stepped.{AreSteps, AreMadeBehind, IsCauseBehind}, Whole.{IsMadeRobust, IsCauseAfter}, Loosened.{durations_of, AreKept, AreLoosened, bounds_with, loose_durations}}, proofs.{Kept.kept_hold, Sides.{upper_named, lower_named}, Steps.source_steps, Robustness.{sources_moved, moved_possible, records_promise}, Settings.{IsMetIn, each_weaker}}}
 
 -- the durations and the other bounds of the loosened plan, as robust loosening takes them
 pub record AreParted (source : PlanSource) (slack : Slack) (loosened : List Difference) (events : ℕ) (durations bounds : List Difference) : Type 0 where
@@ -71,6 +66,25 @@ module _ {source : PlanSource} {slack : Slack} {loosened : List Difference} {eve
       (subst (λ l. HasSchedule (bounds_with source (loosened ++ l))) (sym sides)
       (subst (λ l. HasSchedule l) (append_assoc (horizon_bounds (events_of source)) loosened (moved_bounds (loose_durations slack source) (p.are.made.kept ++ horizon_bounds (events_of source)))) s)))
   cause_after Memory none = tt
+
+sides_named : (durations : List Difference) → AreSteps 0 durations → (events : ℕ) (bounds : List Difference) → AllByRecursion (NamesEvents events) bounds
+    → AllByRecursion (NamesEvents events) (moved_bounds durations bounds)
+sides_named durations are events [] named = tt
+sides_named durations are events (bound ∷ bounds) named =
+    (upper_named durations are events bound named.0, (lower_named durations are events bound named.0, sides_named durations are events bounds named.1))
+
+-- the records of the robust plan name its events, where those of the loosened one do
+pub records_named : (source : PlanSource) (slack : Slack) → IsSoundSource source → IsSlack slack → (loosened records : List Difference) (are : AreRobust source slack records)
+    → are.loosened ≡ loosened → All (NamesEvents (events_of source)) loosened → All (NamesEvents (events_of source)) records
+records_named source slack sound slack_is loosened records are behind before =
+    let events = events_of source in
+    let made = are.are_loosened.made in
+    let sources = each_weaker (IsMetIn (loose_bounds source slack) events) (NamesEvents events) (λ bound met. met.named) (made.kept ++ horizon_bounds events)
+    (sources_moved source sound slack slack_is are.are_loosened.orders are.loosened are.are_loosened.sorted.same made) in
+    let sides = sides_named (loose_durations slack source) (source_steps slack source) events (made.kept ++ horizon_bounds events) sources in
+    let moved = kept_hold (NamesEvents events) (bounds_with source are.loosened) (moved_bounds (loose_durations slack source) (made.kept ++ horizon_bounds events)) are.moved are.chosen sides in
+    subst (All (NamesEvents events)) (sym (are.whole ∙ ap (λ l. l ++ are.moved) behind))
+    (All-append (NamesEvents events) loosened are.moved before (All-from_recursion (NamesEvents events) are.moved moved))
 
 -- what two clauses say where there is a result
 pub on_both : {E : Type 0} (result : Result (Unit {0}) E) {P Q R : Type 0} → (P → Q → R) → OnOk result P → OnOk result Q → OnOk result R

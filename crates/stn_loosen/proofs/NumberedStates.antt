@@ -1,15 +1,10 @@
 -- A state whose records are numbered from 1 on.
-use Rattle.std.proofs.Common.{◌≡◌, ℕ, ◌+◌, ◌<◌, ◌≤◌, max, Bool, true, eqb, not, filter, Ordering, Equal, Greater, List, [], ◌∷◌, ◌++◌, map, length, is_some, refl, sym, ap, subst, ◌∙◌, arith, append-nil}
-use Rattle.std.specs.{Ordering.nat_cmp, Ordering.ordering_then, List.AllByRecursion, FinMap.Entries.put}
-use Rattle.std.specs.FinMap.{empty, keys, entries, entries-insert, len-entries, len-empty, get-empty, contains_key}
-use Rattle.std.proofs.lemmas.Bool.Decides.{nat_tests}
-use Rattle.std.proofs.lemmas.List.{nil_from_length}
+use Rattle.std.{proofs.{Common.{◌≡◌, ℕ, ◌+◌, ◌<◌, ◌≤◌, max, Bool, true, eqb, not, filter, Ordering, Equal, Greater, List, [], ◌∷◌, ◌++◌, map, length, None, is_some, refl, sym, ap, subst, ◌∙◌, arith, append-nil}, lemmas.{Bool.{ne_eqb, Decides.nat_tests}, List.nil_from_length, Map.Made.distinct_count-le}}, specs.{Bool.then_some, Ordering.{nat_cmp, ordering_then}, List.AllByRecursion, FinMap.{empty, keys, entries, entries-insert, len-entries, len-empty, get-empty, contains_key, Entries.put}}}
 use Rattle.stn_net.specs.Difference.{Difference}
 use Rattle.stn_lift.specs.PlanSource.{PlanSource, bare, base_bounds, steps_of}
-use Rattle.stn_records.specs.{Id.SiteCounter, Id.id_cmp, declared.record.Record.Record, ContentLaws.ids_total}
-use Rattle.stn_records.specs.Content.{Content, no_content, RecordMap, IdSet, with_record, with_ids, replaced_set, is_replaced, known_ids, next_counter, greatest_counter}
-use Rattle.stn_site.specs.{Held.plain, Bounds.bounds_of, Bounds.live_bounds, Bounds.all_bounds}
-use Rattle.stn_loosen.specs.{Loosened.bounds_with, Numbered.numbered, Numbered.Holds}
+use Rattle.stn_records.specs.{Id.{SiteCounter, id_cmp}, declared.record.Record.Record, ContentLaws.ids_total, Content.{Content, no_content, RecordMap, IdSet, with_record, with_ids, replaced_set, is_replaced, known_ids, next_counter, greatest_counter, same_ids, known_count, most_known}}
+use Rattle.stn_site.{proofs.Refused.next_counted, specs.{declared.faults.ReplicaFault.TheVariants.Full, Held.{Held, plain}, Refusals.next_refusal, Bounds.{bounds_of, live_bounds, all_bounds}}}
+use Rattle.stn_loosen.specs.{Loosened.bounds_with, Numbered.{numbered, Holds}}
 
 -- a key that comes after all others is put last
 put_last : {K X : Type 0} (R : K → K → Ordering) (key : K) (value : X) (es : List (K × X)) → AllByRecursion (λ e. R key e.0 ≡ Greater) es → put R key value es ≡ es ++ (key, value) ∷ []
@@ -57,13 +52,27 @@ known_alone additions =
     ∙ ap (λ (es : List (SiteCounter × Unit {0})). map (λ (e : SiteCounter × Record). e.0) (entries additions) ++ map (λ e. e.0) es) (no_entries id_cmp)
     ∙ append-nil (map (λ (e : SiteCounter × Record). e.0) (entries additions))
 
+known_of : (site : ℕ) (bounds : List Difference) (state : Content) → Holds site bounds state → known_ids state ≡ map (λ (e : SiteCounter × Record). e.0) (numbered site 1 bounds)
+known_of site bounds state holds = ap known_ids holds.alone ∙ known_alone state.additions ∙ ap (map (λ (e : SiteCounter × Record). e.0)) holds.records
+
 pub next_of : (site : ℕ) (bounds : List Difference) (state : Content) → Holds site bounds state → next_counter state site ≡ length bounds + 1
 next_of site bounds state holds =
-    let known : known_ids state ≡ map (λ (e : SiteCounter × Record). e.0) (numbered site 1 bounds) =
-    ap known_ids holds.alone ∙ known_alone state.additions ∙ ap (map (λ (e : SiteCounter × Record). e.0)) holds.records in
+    let known = known_of site bounds state holds in
     let greatest = greatest_numbered site 0 bounds in
     let zero_one : numbered site (0 + 1) bounds ≡ numbered site 1 bounds = ap (λ n. numbered site n bounds) (let one : 0 + 1 ≡ 1 = omega arith in one) in
     omega (arith, greatest, ap (greatest_counter site) known, ap (λ es. greatest_counter site (map (λ (e : SiteCounter × Record). e.0) es)) zero_one)
+
+length-numbered : (site counter : ℕ) (bounds : List Difference) → length (map (λ (e : SiteCounter × Record). e.0) (numbered site counter bounds)) ≡ length bounds
+length-numbered site counter [] = refl
+length-numbered site counter (bound ∷ bounds) = let rest = length-numbered site (counter + 1) bounds in omega (arith, rest)
+
+-- a site that holds fewer bounds than it may can make one more record
+pub next_passes : (held : Held) (bounds : List Difference) → Holds held.site bounds held.state → length bounds < most_known → next_refusal held ≡ None
+next_passes held bounds holds few =
+    let next = next_of held.site bounds held.state holds in
+    let most = distinct_count-le same_ids (known_ids held.state) in
+    let known = ap length (known_of held.site bounds held.state holds) ∙ length-numbered held.site 1 bounds in
+    next_counted held (omega (arith, next)) ∙ ap (λ b. then_some b Full) (ne_eqb (known_count held.state) most_known (λ same. omega (arith, same, most, known)))
 
 pub holds_none : (site : ℕ) (state : Content) → state ≡ no_content → Holds site [] state
 holds_none site state is = subst (Holds site []) (sym is) (record { records = no_entries id_cmp; alone = refl })

@@ -1,12 +1,8 @@
 -- There is one loosened plan for a plan and a tolerance.
-use Rattle.std.proofs.Common.{◌≡◌, inl, inr, ℕ, ◌+◌, ◌<◌, ◌≤◌, ℤ, ◌≤ℤ◌, ◌<ℤ◌, suc, Bool, true, false, not, ◌&&◌, cond, filter, Ordering, Less, Equal, Greater, List, [], ◌∷◌, ◌++◌, length, get_or, refl, sym, ap, subst, ◌∙◌, arith, length-append}
-use Rattle.std.specs.{List.AllByRecursion, List.Sorted.ties, Ordering.int_cmp, Ordering.MatchOrdering, Ordering.is_lt, Cmp.int_ranks}
-use Rattle.std.proofs.{lemmas.Int.ints}
+use Rattle.std.{proofs.{Common.{◌≡◌, inl, inr, ℕ, ◌+◌, ◌<◌, ◌≤◌, ℤ, ◌≤ℤ◌, ◌<ℤ◌, suc, Bool, true, false, not, ◌&&◌, cond, filter, Ordering, Less, Equal, Greater, List, [], ◌∷◌, ◌++◌, length, get_or, refl, sym, ap, subst, ◌∙◌, arith, length-append}, lemmas.Int.ints}, specs.{List.{AllByRecursion, Sorted.ties}, Ordering.{int_cmp, MatchOrdering, is_lt}, Cmp.int_ranks}}
 use Rattle.stn_net.specs.{Difference.Difference, Horizon.horizon_bounds}
 use Rattle.stn_lift.specs.PlanSource.{PlanSource, planned_of, events_of}
-use Rattle.stn_loosen.specs.{Slack.Slack, Moved.moved_bounds, Robust.AreRobust}
-use Rattle.stn_loosen.specs.Loosened.{gap, AreKept, AreNearestFirst, AreLoosened, AreFewLoosened, AreTooMany, orders_of, bounds_with, loose_durations}
-use Rattle.stn_loosen.proofs.Settings.{each_weaker}
+use Rattle.stn_loosen.{specs.{Slack.Slack, Moved.moved_bounds, Robust.AreRobust, Loosened.{gap, AreKept, AreNearestFirst, AreLoosened, AreFewLoosened, AreTooMany, orders_of, bounds_with, loose_durations}}, proofs.Settings.each_weaker}
 
 lt_is : (a b : ℤ) → a <ℤ b → is_lt (int_cmp a b) ≡ true
 lt_is a b less = grind (arith, ints)

@@ -1,15 +1,9 @@
 -- The loosened plan keeps the plan's order.
-use Rattle.std.proofs.Common.{◌≡◌, ℕ, ℤ, ◌+◌, ◌*◌, ◌-ℤ◌, zero, suc, List, ◌++◌, length, sym, ap, subst, ◌∙◌, arith, append_assoc, All}
-use Rattle.std.specs.{List.AllByRecursion, List.Sorted.IsPermutation}
-use Rattle.std.proofs.{lemmas.Bool.false≢true, lemmas.Int.ints, lemmas.List.Elements.All-append, lemmas.List.Elements.All-from_recursion, lemmas.List.Sorted.All-permutation, lemmas.List.Sorted.IsPermutation-sym}
+use Rattle.std.{proofs.{Common.{◌≡◌, ℕ, ℤ, ◌+◌, ◌*◌, ◌-ℤ◌, zero, suc, List, ◌++◌, length, sym, ap, subst, ◌∙◌, arith, append_assoc, All}, lemmas.{Bool.false≢true, Int.ints, List.{Elements.{All-append, All-from_recursion}, Sorted.{All-permutation, IsPermutation-sym}}}}, specs.List.{AllByRecursion, Sorted.IsPermutation}}
 use Rattle.stn_time.proofs.Each.{All-left, each_pushed}
-use Rattle.stn_net.specs.{Difference.Difference, Horizon.horizon_bounds, Schedule.Meets, Schedule.IsSchedule, Schedule.times_of}
-use Rattle.stn_lift.specs.BaseBounds.{duration_bound, duration_bounds, events_interfere, event_times, KeepsOrder}
-use Rattle.stn_lift.specs.PlanSource.{PlanSource, bare, files, events_of, interfere_in_plan, planned_of, activities_of}
-use Rattle.stn_lift.proofs.SoundBounds.{bounds, order_keeps}
-use Rattle.stn_loosen.specs.Slack.{Slack}
-use Rattle.stn_loosen.specs.Loosened.{orders_of, Imply, bounds_with, loose_durations, AreMadeOf}
-use Rattle.stn_loosen.proofs.Kept.{all_implied}
+use Rattle.stn_net.specs.{Difference.Difference, Horizon.horizon_bounds, Schedule.{Meets, IsSchedule, times_of}}
+use Rattle.stn_lift.{specs.{BaseBounds.{duration_bound, duration_bounds, events_interfere, event_times, KeepsOrder}, PlanSource.{PlanSource, bare, files, events_of, interfere_in_plan, planned_of, activities_of}}, proofs.SoundBounds.{bounds, order_keeps}}
+use Rattle.stn_loosen.{specs.{Slack.Slack, Loosened.{orders_of, Imply, bounds_with, loose_durations, AreMadeOf}}, proofs.Kept.all_implied}
 
 -- how long each step lasts in some times
 abbrev lasting : (ℕ → ℤ) → ℕ → ℤ

@@ -1,10 +1,7 @@
 -- The planned times of all events as a list.
-use Rattle.std.proofs.Common.{◌≡◌, ℕ, ℤ, pos, ◌+◌, ◌<◌, Bool, true, false, nat_lt, List, length, refl, sym, ◌∙◌, arith}
-use Rattle.std.proofs.{lemmas.Bool.Decides.nat_tests, lemmas.List.get_or_past}
-use Rattle.stn_lift.proofs.TimelineFacts.{length-times_behind}
+use Rattle.std.proofs.{Common.{◌≡◌, ℕ, ℤ, pos, ◌+◌, ◌<◌, Bool, true, false, nat_lt, List, length, refl, sym, ◌∙◌, arith}, lemmas.{Bool.Decides.nat_tests, List.get_or_past}}
+use Rattle.stn_lift.{proofs.TimelineFacts.length-times_behind, specs.{BaseBounds.event_times, PlanSource.{PlanSource, bare, files, events_of, planned_of, activities_of}}}
 use Rattle.stn_net.specs.Schedule.{times_of}
-use Rattle.stn_lift.specs.{BaseBounds.event_times}
-use Rattle.stn_lift.specs.PlanSource.{PlanSource, bare, files, events_of, planned_of, activities_of}
 
 -- an event that the plan has not is planned at 0
 past : (source : PlanSource) (event : ℕ) → events_of source < event → planned_of source event ≡ pos 0

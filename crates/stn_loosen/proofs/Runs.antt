@@ -1,13 +1,8 @@
 -- Runs of bounds each of whose schedules is a promise.
-use Rattle.std.proofs.Common.{◌≡◌, ◌≢◌, ℕ, ℤ, pos, ◌-ℤ◌, ◌≤ℤ◌, Bool, true, false, cond, eqb, find, List, [], ◌∷◌, ◌++◌, Option, Some, None, refl, sym, ap, subst, ◌∙◌, arith, All}
-use Rattle.std.specs.{Prelude.◌↔◌, Prelude.unwrap_or, Prelude.Contains, List.AllByRecursion}
-use Rattle.std.proofs.{lemmas.Bool.Decides.nat_tests, lemmas.Int.ints}
-use Rattle.std.proofs.lemmas.List.Elements.{All-from_recursion, recursion_from_All, All-contains}
+use Rattle.std.{proofs.{Common.{◌≡◌, ◌≢◌, ℕ, ℤ, pos, ◌-ℤ◌, ◌≤ℤ◌, Bool, true, false, cond, eqb, find, List, [], ◌∷◌, ◌++◌, Option, Some, None, refl, sym, ap, subst, ◌∙◌, arith, All}, lemmas.{Bool.Decides.nat_tests, Int.ints, List.Elements.{All-from_recursion, recursion_from_All, All-contains}}}, specs.{Prelude.{◌↔◌, unwrap_or, Contains}, List.AllByRecursion}}
 use Rattle.stn_replica.proofs.Schedules.{schedule_before, schedule_with, met_behind}
-use Rattle.stn_net.specs.{Difference.Difference, Schedule.Meets, Schedule.IsSchedule, Schedule.HasSchedule}
-use Rattle.stn_net.specs.Windows.Window.{IsInWindow}
-use Rattle.stn_loosen.specs.{Promise.still, Promise.setting_of, Promise.Keeps, Promise.Promises, Run.Execution, Run.executed_bounds, Run.MayCome, Run.IsRun}
-use Rattle.stn_loosen.proofs.Settings.{keeps_itself, each_weaker}
+use Rattle.stn_net.specs.{Difference.Difference, Schedule.{Meets, IsSchedule, HasSchedule}, Windows.Window.IsInWindow}
+use Rattle.stn_loosen.{specs.{Promise.{still, setting_of, Keeps, Promises}, Run.{Execution, executed_bounds, MayCome, IsRun}}, proofs.Settings.{keeps_itself, each_weaker}}
 
 -- each schedule of the bounds meets the durations, and is a promise
 pub record IsRobust (durations bounds : List Difference) : Type 0 where

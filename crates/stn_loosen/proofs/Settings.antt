@@ -1,10 +1,8 @@
 -- What sets the events of a plan, and times that keep to promised ones.
-use Rattle.std.proofs.Common.{◌≡◌, ◌≢◌, ℕ, ◌≤◌, ℤ, pos, ◌+ℤ◌, ◌-ℤ◌, ◌≤ℤ◌, Bool, true, false, cond, eqb, find, List, [], ◌∷◌, Some, refl, sym, ap, subst, arith, All}
-use Rattle.std.specs.{Prelude.unwrap_or, List.AllByRecursion}
-use Rattle.std.proofs.{lemmas.Bool.Decides.nat_tests, lemmas.Int.ints, lemmas.List.Elements.All-from_recursion, lemmas.List.Elements.recursion_from_All}
+use Rattle.std.{proofs.{Common.{◌≡◌, ◌≢◌, ℕ, ◌≤◌, ℤ, pos, ◌+ℤ◌, ◌-ℤ◌, ◌≤ℤ◌, Bool, true, false, cond, eqb, find, List, [], ◌∷◌, Some, refl, sym, ap, subst, arith, All}, lemmas.{Bool.Decides.nat_tests, Int.ints, List.Elements.{All-from_recursion, recursion_from_All}}}, specs.{Prelude.unwrap_or, List.AllByRecursion}}
 use Rattle.stn_time.specs.Time.{horizon}
-use Rattle.stn_net.specs.{Difference.Difference, Difference.NamesEvents, Schedule.Meets, Schedule.IsSchedule}
-use Rattle.stn_loosen.specs.{Promise.still, Promise.setting_of, Promise.Keeps, Promise.Promises, Moved.moved_upper, Moved.moved_lower, Moved.moved_bounds}
+use Rattle.stn_net.specs.{Difference.{Difference, NamesEvents}, Schedule.{Meets, IsSchedule}}
+use Rattle.stn_loosen.specs.{Promise.{still, setting_of, Keeps, Promises}, Moved.{moved_upper, moved_lower, moved_bounds}}
 
 pub each_weaker : {X : Type 0} (P Q : X → Type 0) → ((x : X) → P x → Q x) → (xs : List X) → AllByRecursion P xs → AllByRecursion Q xs
 each_weaker P Q weaker [] all = tt

@@ -1,18 +1,10 @@
 -- Sides of moved bounds that are made one after the other.
-use Rattle.std.proofs.Common.{◌≡◌, ◌≢◌, inl, inr, ⊎_elim, ℕ, ◌+◌, ◌<◌, ℤ, neg_ℤ, ◌+ℤ◌, ◌-ℤ◌, ◌≤ℤ◌, ◌<ℤ◌, Ordering, Less, Equal, Greater, ◌↔◌, Bool, IsTrue, List, [], ◌∷◌, ◌++◌, length, take, drop, get_or, refl, sym, ap, subst, ◌∙◌, arith, append_assoc, append-nil, All}
-use Rattle.std.specs.{List.AllByRecursion, Ordering.int_cmp, Ordering.MatchOrdering, Cmp.int_ranks}
-use Rattle.std.proofs.{lemmas.Int.ints, lemmas.List.take_more, lemmas.List.take_all, lemmas.List.take-append-drop, lemmas.Grind.flat_map-append}
-use Rattle.std.proofs.lemmas.List.Elements.{All-head, All-from_recursion, recursion_from_All}
-use Rattle.stn_time.specs.Time.{horizon, IsWithinHorizon}
-use Rattle.stn_time.proofs.Each.{All-left, each_parted}
-use Rattle.stn_net.specs.{Difference.Difference, Difference.NamesEvents, Horizon.horizon_bounds, Schedule.Meets, Schedule.IsSchedule, Schedule.HasSchedule}
-use Rattle.stn_net.specs.Matrix.Table.{Table}
+use Rattle.std.{proofs.{Common.{◌≡◌, ◌≢◌, inl, inr, ⊎_elim, ℕ, ◌+◌, ◌<◌, ℤ, neg_ℤ, ◌+ℤ◌, ◌-ℤ◌, ◌≤ℤ◌, ◌<ℤ◌, Ordering, Less, Equal, Greater, ◌↔◌, Bool, IsTrue, List, [], ◌∷◌, ◌++◌, length, take, drop, get_or, refl, sym, ap, subst, ◌∙◌, arith, append_assoc, append-nil, All}, lemmas.{Int.ints, List.{take_more, take_all, take-append-drop, Elements.{All-head, All-from_recursion, recursion_from_All}}, Grind.flat_map-append}}, specs.{List.AllByRecursion, Ordering.{int_cmp, MatchOrdering}, Cmp.int_ranks}}
+use Rattle.stn_time.{specs.Time.{horizon, IsWithinHorizon}, proofs.Each.{All-left, each_parted}}
+use Rattle.stn_net.specs.{Difference.{Difference, NamesEvents}, Horizon.horizon_bounds, Schedule.{Meets, IsSchedule, HasSchedule}, Matrix.Table.Table}
 use Rattle.stn_conflict.specs.{Distances.TellsWithin, Listing.Listing}
 use Rattle.stn_replica.proofs.Schedules.{schedule_before, met_behind, schedule_with}
-use Rattle.stn_loosen.specs.{Loosened.Imply, Loosened.AreKept, Making.all_bounds, Making.IsSearched, declared.fault.LoosenFault.LoosenFault, Moved.moved_upper, Moved.moved_lower, Moved.moved_bounds, declared.span.Span.Span, Promise.setting_of}
-use Rattle.stn_loosen.specs.declared.fault.LoosenFault.TheVariants.{Full, NotRobust, Memory}
-use Rattle.stn_loosen.specs.Stepped.{as_bound, AreSteps, IsOpen, IsBoundOf, AreMadeBehind, IsCauseBehind, IsCauseIn}
-use Rattle.stn_loosen.proofs.{Steps.earlier_start, Kept.kept_hold, Looser.within, Made.front_schedule}
+use Rattle.stn_loosen.{specs.{Loosened.{Imply, AreKept}, Making.{all_bounds, IsSearched}, declared.{fault.LoosenFault.{LoosenFault, TheVariants.{Full, NotRobust, Memory}}, span.Span.Span}, Moved.{moved_upper, moved_lower, moved_bounds}, Promise.setting_of, Stepped.{as_bound, AreSteps, IsOpen, IsBoundOf, AreMadeBehind, IsCauseBehind, IsCauseIn}}, proofs.{Steps.earlier_start, Kept.kept_hold, Looser.within, Made.front_schedule}}
 
 -- what is kept of more
 pub AreKept-join : (bounds first second one other : List Difference) → AreKept bounds first one → AreKept (bounds ++ one) second other → AreKept bounds (first ++ second) (one ++ other)

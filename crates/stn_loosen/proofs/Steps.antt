@@ -1,13 +1,8 @@
 -- The durations of the steps of a plan, one behind the other.
-use Rattle.std.proofs.Common.{◌≡◌, ◌≢◌, ◌⊎◌, inl, inr, ⊎_elim, ℕ, ◌+◌, ◌-◌, ◌*◌, ◌/◌, ◌%◌, ◌<◌, ℤ, ◌≤ℤ◌, zero, suc, Bool, true, false, cond, eqb, find, List, [], ◌∷◌, ◌++◌, map, length, get_or, Some, refl, sym, ap, subst, ◌∙◌, arith, ◌≤◌, ltb}
-use Rattle.std.specs.{Prelude.unwrap_or, List.AllByRecursion}
-use Rattle.std.proofs.{lemmas.Bool.Decides.nat_tests, lemmas.Int.ints, lemmas.List.Elements.recursion_from_All}
-use Rattle.stn_lift.proofs.FewBounds.{length-duration_bounds}
+use Rattle.std.{proofs.{Common.{◌≡◌, ◌≢◌, ◌⊎◌, inl, inr, ⊎_elim, ℕ, ◌+◌, ◌-◌, ◌*◌, ◌/◌, ◌%◌, ◌<◌, ℤ, ◌≤ℤ◌, zero, suc, Bool, true, false, cond, eqb, find, List, [], ◌∷◌, ◌++◌, map, length, get_or, Some, refl, sym, ap, subst, ◌∙◌, arith, ◌≤◌, ltb}, lemmas.{Bool.Decides.nat_tests, Int.ints, List.Elements.recursion_from_All}}, specs.{Prelude.unwrap_or, List.AllByRecursion}}
+use Rattle.stn_lift.{proofs.FewBounds.length-duration_bounds, specs.{BaseBounds.{duration_bound, duration_bounds, duration_of}, PlanSource.{PlanSource, bare, files, activities_of}}}
 use Rattle.stn_net.specs.Difference.{Difference}
-use Rattle.stn_lift.specs.BaseBounds.{duration_bound, duration_bounds, duration_of}
-use Rattle.stn_lift.specs.PlanSource.{PlanSource, bare, files, activities_of}
-use Rattle.stn_loosen.specs.{Slack.Slack, Slack.loose, Loosened.loose_durations, Promise.still, Promise.setting_of, Stepped.AreSteps}
-use Rattle.stn_loosen.proofs.{Settings.AreApart, Settings.setting_holds, Settings.each_weaker}
+use Rattle.stn_loosen.{specs.{Slack.{Slack, loose}, Loosened.loose_durations, Promise.{still, setting_of}, Stepped.AreSteps}, proofs.Settings.{AreApart, setting_holds, each_weaker}}
 
 steps_more : (before : ℕ) (durations : List Difference) (duration : Difference) → AreSteps before durations
     → duration.from ≡ 2 * (before + length durations) + 1 → duration.to ≡ 2 * (before + length durations) + 2 → AreSteps before (durations ++ duration ∷ [])

@@ -1,13 +1,8 @@
 -- A plan's own bounds as three parts: the horizon, the durations, the orders.
-use Rattle.std.proofs.Common.{◌≡◌, ℕ, ◌+◌, ◌-◌, ◌*◌, ◌≤◌, min, List, [], ◌++◌, length, take, drop, refl, sym, ap, ◌∙◌, arith, append-nil, length-append}
-use Rattle.std.proofs.lemmas.List.{take_rest}
-use Rattle.stn_lift.proofs.FewBounds.{length-duration_bounds}
-use Rattle.stn_net.specs.{Difference.Difference, Horizon.horizon_bounds}
-use Rattle.stn_net.proofs.Horizons.{length-horizon_bounds}
-use Rattle.stn_lift.specs.BaseBounds.{duration_of}
-use Rattle.stn_lift.specs.PlanSource.{PlanSource, bare, files, steps_of, events_of, base_bounds, activities_of}
-use Rattle.stn_loosen.specs.Loosened.{durations_of, orders_of}
-use Rattle.stn_loosen.proofs.Lists.{middle, last_part}
+use Rattle.std.proofs.{Common.{◌≡◌, ℕ, ◌+◌, ◌-◌, ◌*◌, ◌≤◌, min, List, [], ◌++◌, length, take, drop, refl, sym, ap, ◌∙◌, arith, append-nil, length-append}, lemmas.List.take_rest}
+use Rattle.stn_lift.{proofs.FewBounds.length-duration_bounds, specs.{BaseBounds.duration_of, PlanSource.{PlanSource, bare, files, steps_of, events_of, base_bounds, activities_of}}}
+use Rattle.stn_net.{specs.{Difference.Difference, Horizon.horizon_bounds}, proofs.Horizons.length-horizon_bounds}
+use Rattle.stn_loosen.{specs.Loosened.{durations_of, orders_of}, proofs.Lists.{middle, last_part}}
 
 pub parted : (source : PlanSource) → base_bounds source ≡ (horizon_bounds (events_of source) ++ durations_of source) ++ orders_of source
 parted (bare steps) = sym (append-nil (horizon_bounds (2 * steps) ++ []) ∙ append-nil (horizon_bounds (2 * steps)))

@@ -1,14 +1,9 @@
 -- The records of a whole plan.
-use Rattle.std.proofs.Common.{◌≡◌, ℕ, ◌≤◌, List, [], ◌++◌, length, ap, subst, ◌∙◌, arith, append-nil, All}
-use Rattle.std.specs.List.Sorted.{IsPermutation}
-use Rattle.std.proofs.lemmas.List.Sorted.{All-permutation}
-use Rattle.stn_net.specs.{Difference.Difference, Difference.NamesEvents, Schedule.Meets, Schedule.HasSchedule}
+use Rattle.std.{proofs.{Common.{◌≡◌, ℕ, ◌≤◌, List, [], ◌++◌, length, ap, subst, ◌∙◌, arith, append-nil, All}, lemmas.List.Sorted.All-permutation}, specs.List.Sorted.IsPermutation}
+use Rattle.stn_net.specs.{Difference.{Difference, NamesEvents}, Schedule.{Meets, HasSchedule}}
 use Rattle.stn_lift.specs.PlanSource.{PlanSource, events_of, planned_of, IsSoundSource}
 use Rattle.stn_records.specs.Content.{most_known}
-use Rattle.stn_loosen.specs.{declared.fault.LoosenFault.LoosenFault, Slack.Slack, Slack.IsSlack, Faults.IsCause, Making.all_bounds, Making.IsCauseWith}
-use Rattle.stn_loosen.specs.declared.fault.LoosenFault.TheVariants.{Full, NotRobust, Memory}
-use Rattle.stn_loosen.specs.Loosened.{durations_of, orders_of, AreNearestFirst, AreKept, bounds_with, loose_durations, AreMadeOf}
-use Rattle.stn_loosen.proofs.{Looser.loose_schedule, Looser.orders_met, Looser.orders_named, ThreeParts.few_durations}
+use Rattle.stn_loosen.{specs.{declared.fault.LoosenFault.{LoosenFault, TheVariants.{Full, NotRobust, Memory}}, Slack.{Slack, IsSlack}, Faults.IsCause, Making.{all_bounds, IsCauseWith}, Loosened.{durations_of, orders_of, AreNearestFirst, AreKept, bounds_with, loose_durations, AreMadeOf}}, proofs.{Looser.{loose_schedule, orders_met, orders_named}, ThreeParts.few_durations}}
 
 module _ (source : PlanSource) (sound : IsSoundSource source) (slack : Slack) (is : IsSlack slack) where
   -- there is room for all durations, and they have a schedule

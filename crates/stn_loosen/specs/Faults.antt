@@ -1,8 +1,7 @@
 use Rattle.std.specs.Prelude.{◌⊎◌, List}
 use Rattle.stn_net.specs.Difference.{Difference}
 use Rattle.stn_lift.specs.PlanSource.{PlanSource}
-use Rattle.stn_loosen.specs.{declared.fault.LoosenFault.LoosenFault, Slack.Slack, Loosened.AreFewLoosened, Loosened.AreTooMany, Robust.HasPromise, Robust.AreTooManyRobust}
-use Rattle.stn_loosen.specs.declared.fault.LoosenFault.TheVariants.{Full, NotRobust, Memory}
+use Rattle.stn_loosen.specs.{declared.fault.LoosenFault.{LoosenFault, TheVariants.{Full, NotRobust, Memory}}, Slack.Slack, Loosened.{AreFewLoosened, AreTooMany}, Robust.{HasPromise, AreTooManyRobust}}
 
 -- why a plan is not loosened
 abbrev pub IsCause : PlanSource → Slack → LoosenFault → Type 0

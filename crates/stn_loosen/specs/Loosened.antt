@@ -1,10 +1,8 @@
 -- The loosened plan: a bare plan with as many steps, and records that hold its durations with slack, and those of its orders that
 -- the others don't imply.
-use Rattle.std.specs.Prelude.{◌≡◌, ℕ, ◌*◌, ◌<◌, ◌≤◌, ◌⊎◌, ℤ, ◌-ℤ◌, List, [], ◌∷◌, ◌++◌, length, map}
-use Rattle.std.specs.{List.Sorted.IsPermutation, List.Sorted.IsSortedByKey, List.Sorted.IsStableByKey, Ordering.int_cmp}
-use Rattle.stn_net.specs.{Difference.Difference, Schedule.Meets, Schedule.IsSchedule, Schedule.times_of}
-use Rattle.stn_lift.specs.BaseBounds.{duration_of, duration_bounds, orders, events_interfere, event_times}
-use Rattle.stn_lift.specs.PlanSource.{PlanSource, bare, files, steps_of, planned_of, activities_of, base_bounds}
+use Rattle.std.specs.{Prelude.{◌≡◌, ℕ, ◌*◌, ◌<◌, ◌≤◌, ◌⊎◌, ℤ, ◌-ℤ◌, List, [], ◌∷◌, ◌++◌, length, map}, List.Sorted.{IsPermutation, IsSortedByKey, IsStableByKey}, Ordering.int_cmp}
+use Rattle.stn_net.specs.{Difference.Difference, Schedule.{Meets, IsSchedule, times_of}}
+use Rattle.stn_lift.specs.{BaseBounds.{duration_of, duration_bounds, orders, events_interfere, event_times}, PlanSource.{PlanSource, bare, files, steps_of, planned_of, activities_of, base_bounds}}
 use Rattle.stn_records.specs.Content.{most_known}
 use Rattle.stn_loosen.specs.Slack.{Slack, loose}
 

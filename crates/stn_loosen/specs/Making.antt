@@ -1,10 +1,9 @@
 -- For proofs alone: no public clause cites these words.
 use Rattle.std.specs.Prelude.{◌≡◌, ℕ, ℤ, ◌<◌, ◌≤◌, ◌-ℤ◌, ◌≤ℤ◌, neg_ℤ, ◌⊎◌, List, [], ◌∷◌, ◌++◌, length}
-use Rattle.stn_net.specs.{Difference.Difference, Horizon.horizon_bounds, Schedule.IsSchedule, Matrix.Table.Table, Matrix.Table.far_of, Matrix.Tightest.IsExact}
+use Rattle.stn_net.specs.{Difference.Difference, Horizon.horizon_bounds, Schedule.IsSchedule, Matrix.{Table.{Table, far_of}, Tightest.IsExact}}
 use Rattle.stn_conflict.specs.Listing.{Listing}
 use Rattle.stn_records.specs.Content.{most_known}
-use Rattle.stn_loosen.specs.{declared.fault.LoosenFault.LoosenFault, Loosened.Imply, Loosened.AreKept}
-use Rattle.stn_loosen.specs.declared.fault.LoosenFault.TheVariants.{Full, NotRobust, Memory}
+use Rattle.stn_loosen.specs.{declared.fault.LoosenFault.{LoosenFault, TheVariants.{Full, NotRobust, Memory}}, Loosened.{Imply, AreKept}}
 
 -- the horizon bounds of so many events, and then the bounds of records
 abbrev pub all_bounds : ℕ → List Difference → List Difference

@@ -1,8 +1,7 @@
 -- The state of a site that made some records, and nothing else.
-use Rattle.std.specs.Prelude.{◌≡◌, ℕ, ◌+◌, List, [], ◌∷◌}
-use Rattle.std.specs.FinMap.{entries}
+use Rattle.std.specs.{Prelude.{◌≡◌, ℕ, ◌+◌, List, [], ◌∷◌}, FinMap.entries}
 use Rattle.stn_net.specs.Difference.{Difference}
-use Rattle.stn_records.specs.{Id.SiteCounter, declared.record.Record.Record, Content.Content, Content.no_content}
+use Rattle.stn_records.specs.{Id.SiteCounter, declared.record.Record.Record, Content.{Content, no_content}}
 use Rattle.stn_site.specs.Held.{plain}
 
 -- plain records of these bounds, with the site's ids from a counter on

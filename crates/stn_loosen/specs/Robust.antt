@@ -3,8 +3,7 @@ use Rattle.std.specs.Prelude.{◌≡◌, ◌++◌, ◌<◌, ◌≤◌, ℕ, ℤ,
 use Rattle.stn_net.specs.{Difference.Difference, Horizon.horizon_bounds}
 use Rattle.stn_lift.specs.PlanSource.{PlanSource, events_of}
 use Rattle.stn_records.specs.Content.{most_known}
-use Rattle.stn_loosen.specs.{Slack.Slack, Promise.Promises, Moved.moved_bounds}
-use Rattle.stn_loosen.specs.Loosened.{orders_of, bounds_with, loose_durations, AreKept, AreLoosened}
+use Rattle.stn_loosen.specs.{Slack.Slack, Promise.Promises, Moved.moved_bounds, Loosened.{orders_of, bounds_with, loose_durations, AreKept, AreLoosened}}
 
 -- all bounds of the loosened plan, also the orders that others imply
 abbrev pub loose_bounds : PlanSource → Slack → List Difference

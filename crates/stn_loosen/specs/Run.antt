@@ -1,7 +1,6 @@
 -- Runs of a plan whose durations vary: what was executed so far, the last first.
 use Rattle.std.specs.Prelude.{◌≢◌, ℕ, ℤ, ◌-ℤ◌, ◌≤ℤ◌, ◌==◌, ◌++◌, List, [], ◌∷◌, map, find, All, Contains, Option, Some, None}
-use Rattle.stn_net.specs.Difference.{Difference}
-use Rattle.stn_net.specs.{Windows.Window.IsInWindow, Windows.Rehearsal.fixed_at}
+use Rattle.stn_net.specs.{Difference.Difference, Windows.{Window.IsInWindow, Rehearsal.fixed_at}}
 
 -- an event that was executed, and when
 pub record Execution : Type 0 where

@@ -1,6 +1,5 @@
 -- By how much the duration of a step may differ from its plan.
-use Rattle.std.specs.Prelude.{ℤ, pos, ◌+ℤ◌, ◌-ℤ◌, ◌≤ℤ◌}
-use Rattle.std.specs.Int.{int_min, int_max}
+use Rattle.std.specs.{Prelude.{ℤ, pos, ◌+ℤ◌, ◌-ℤ◌, ◌≤ℤ◌}, Int.{int_min, int_max}}
 use Rattle.stn_time.specs.Time.{horizon}
 use Rattle.stn_net.specs.Difference.{Difference}
 

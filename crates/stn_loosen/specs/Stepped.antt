@@ -1,9 +1,8 @@
 -- For proofs alone: no public clause cites these words.
 use Rattle.std.specs.Prelude.{◌≡◌, ◌⊎◌, ℕ, ◌+◌, ◌*◌, pos, neg_ℤ, ◌≤ℤ◌, ◌++◌, List, [], ◌∷◌}
 use Rattle.stn_time.specs.Time.{horizon, IsWithinHorizon}
-use Rattle.stn_net.specs.{Difference.Difference, Difference.IsBoundWithin, Schedule.HasSchedule}
-use Rattle.stn_loosen.specs.{declared.span.Span.Span, declared.fault.LoosenFault.LoosenFault, Loosened.AreKept, Making.all_bounds}
-use Rattle.stn_loosen.specs.declared.fault.LoosenFault.TheVariants.{Full, NotRobust, Memory}
+use Rattle.stn_net.specs.{Difference.{Difference, IsBoundWithin}, Schedule.HasSchedule}
+use Rattle.stn_loosen.specs.{declared.{span.Span.Span, fault.LoosenFault.{LoosenFault, TheVariants.{Full, NotRobust, Memory}}}, Loosened.AreKept, Making.all_bounds}
 
 -- the durations of steps one after the other, after so many others
 abbrev pub AreSteps : ℕ → List Difference → Type 0

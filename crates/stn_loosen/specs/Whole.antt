@@ -2,8 +2,7 @@
 use Rattle.std.specs.Prelude.{◌≡◌, List}
 use Rattle.stn_net.specs.Difference.{Difference}
 use Rattle.stn_lift.specs.PlanSource.{PlanSource}
-use Rattle.stn_loosen.specs.{declared.fault.LoosenFault.LoosenFault, Slack.Slack, Robust.HasPromise, Robust.AreRobust}
-use Rattle.stn_loosen.specs.declared.fault.LoosenFault.TheVariants.{Full, NotRobust, Memory}
+use Rattle.stn_loosen.specs.{declared.fault.LoosenFault.{LoosenFault, TheVariants.{Full, NotRobust, Memory}}, Slack.Slack, Robust.{HasPromise, AreRobust}}
 
 -- these are the records of the robust plan after those of the loosened one
 pub record IsMadeRobust (source : PlanSource) (slack : Slack) (loosened records : List Difference) : Type 0 where

@@ -1,16 +1,9 @@
-ghost use Rattle.std.specs.Prelude.{◌≡◌, ◌≤◌, ℕ, ℤ, All, IfOk, IfErr, OnOk};
-ghost use Rattle.stn_net.specs.Event.{most_steps};
-ghost use Rattle.stn_net.specs.Schedule.{IsSchedule};
-ghost use Rattle.stn_lift.specs.BaseBounds.{KeepsOrder};
-ghost use Rattle.stn_lift.specs.PlanSource.{bare, steps_of, base_bounds, events_of, planned_of, interfere_in_plan};
-ghost use Rattle.stn_records.specs.Content.{no_content, with_record};
-ghost use Rattle.stn_site.specs.Held.{next_id, plain};
-ghost use Rattle.stn_site.specs.Bounds.{all_bounds};
-ghost use Rattle.stn_loosen.specs.Loosened.{orders_of, loose_durations, bounds_with, Imply, AreFewLoosened};
-ghost use Rattle.stn_loosen.specs.Promise.{Promises};
-ghost use Rattle.stn_loosen.specs.Robust.{loose_bounds, HasPromise, AreFewRobust};
-ghost use Rattle.stn_loosen.specs.Faults.{IsCause, IsRobustCause};
-ghost use Rattle.stn_loosen.specs.Numbered.{Holds, HoldsSome};
+ghost use Rattle.std.specs.Prelude.{◌≡◌, ◌≤◌, ℕ, ℤ, None, length, All, IfOk, IfErr, OnOk};
+ghost use Rattle.stn_net.specs.{Difference.NamesEvents, Event.most_steps, Schedule.IsSchedule};
+ghost use Rattle.stn_lift.specs.{BaseBounds.KeepsOrder, PlanSource.{bare, steps_of, base_bounds, events_of, planned_of, interfere_in_plan}};
+ghost use Rattle.stn_records.specs.Content.{most_known, no_content, with_record};
+ghost use Rattle.stn_site.specs.{Held.{next_id, plain}, Bounds.all_bounds, Refusals.next_refusal};
+ghost use Rattle.stn_loosen.specs.{Loosened.{orders_of, loose_durations, bounds_with, Imply, AreFewLoosened}, Promise.Promises, Robust.{loose_bounds, HasPromise, AreFewRobust}, Faults.{IsCause, IsRobustCause}, Numbered.{Holds, HoldsSome}};
 
 use crate::fault::LoosenFault;
 use crate::plan::loosened;
@@ -21,7 +14,7 @@ use std::rc::Rc;
 use stn_lift::{Base, BaseFault};
 use stn_net::Bound;
 use stn_records::Site;
-use stn_site::SitePlan;
+use stn_site::{ReplicaFault, SitePlan};
 use stn_time::Memory;
 
 /// A site's copy of a bare plan with as many steps, which holds the records of the loosened plan and nothing else: they are
@@ -89,6 +82,8 @@ fn plan_with<A: Allocator + Copy>(
     base: &Base<A>,
     bounds: &[Bound],
 ) -> Result<SitePlan<A>, Memory>
+    requires named { All (NamesEvents (events_of base.now)) bounds.now }
+    requires few { length bounds.now ≤ most_known }
     ensures site { IfOk result (λ plan. plan.site ≡ site) }
     ensures source { IfOk result (λ plan. plan.source ≡ bare (steps_of base.now)) }
     ensures holds { IfOk result (λ plan. Holds site bounds.now plan.state) }
@@ -121,14 +116,19 @@ fn bare_site_plan<A: Allocator + Copy>(
     }
 }
 
-// Adds a bound.
+// Adds a bound on the plan's events, where the site can make one more record. Nothing but memory can be lacking.
 fn add_bound<A: Allocator + Copy>(plan: &mut SitePlan<A>, bound: Bound) -> Result<(), Memory>
+    requires named { NamesEvents (events_of plan.old.source) bound }
+    requires room { next_refusal plan.old ≡ None }
     ensures site { OnOk result (plan.new.site ≡ plan.old.site) }
     ensures source { OnOk result (plan.new.source ≡ plan.old.source) }
     ensures added { OnOk result (plan.new.state ≡ with_record plan.old.state (next_id plan.old) (plain bound)) }
 {
     match plan.add(bound.from(), bound.to(), bound.lo(), bound.hi()) {
         Ok(_) => Ok(()),
-        Err(_) => Err(Memory),
+        Err(fault) => {
+            prove!(fault == ReplicaFault::Memory);
+            Err(Memory)
+        }
     }
 }

@@ -1,6 +1,5 @@
 ghost use Rattle.std.specs.Prelude.{◌≡◌};
-ghost use Rattle.stn_loosen.specs.declared.fault.LoosenFault.TheVariants.{Memory};
-ghost use Rattle.stn_loosen.specs.Failures.{loosen_failure};
+ghost use Rattle.stn_loosen.specs.{declared.fault.LoosenFault.TheVariants.Memory, Failures.loosen_failure};
 
 use std::alloc::{AllocError, AllocFailed};
 use stn_refusal::{Code, Failure, Fault};

@@ -1,15 +1,7 @@
 ghost use Rattle.std.specs.Prelude.{◌≡◌, ◌≢◌, ◌↔◌, ◌-ℤ◌, ◌≤ℤ◌, ◌++◌, ℕ, ℤ, List, All, Contains};
-ghost use Rattle.stn_net.specs.Difference.{Difference};
-ghost use Rattle.stn_net.specs.Horizon.{horizon_bounds};
-ghost use Rattle.stn_net.specs.Schedule.{IsSchedule, HasSchedule};
-ghost use Rattle.stn_net.specs.Windows.Window.{IsInWindow};
+ghost use Rattle.stn_net.specs.{Difference.Difference, Horizon.horizon_bounds, Schedule.{IsSchedule, HasSchedule}, Windows.Window.IsInWindow};
 ghost use Rattle.stn_lift.specs.PlanSource.{PlanSource, events_of, IsSoundSource};
-ghost use Rattle.stn_loosen.specs.Slack.{Slack, IsSlack};
-ghost use Rattle.stn_loosen.specs.Loosened.{orders_of, bounds_with, loose_durations, AreLoosened, AreFewLoosened, AreTooMany};
-ghost use Rattle.stn_loosen.specs.Promise.{Promises};
-ghost use Rattle.stn_loosen.specs.Moved.{moved_bounds};
-ghost use Rattle.stn_loosen.specs.Robust.{loose_bounds, HasPromise, AreRobust};
-ghost use Rattle.stn_loosen.specs.Run.{Execution, executed_bounds, IsRun};
+ghost use Rattle.stn_loosen.specs.{Slack.{Slack, IsSlack}, Loosened.{orders_of, bounds_with, loose_durations, AreLoosened, AreFewLoosened, AreTooMany}, Promise.Promises, Moved.moved_bounds, Robust.{loose_bounds, HasPromise, AreRobust}, Run.{Execution, executed_bounds, IsRun}};
 
 /// The law that a plan and a tolerance have one loosened plan.
 pub fn one_loosened_plan()

@@ -2,17 +2,10 @@
 //! network of all bounds, since each bound on starts would move most entries of the matrix.
 
 ghost use Rattle.std.specs.Prelude.{◌≡◌, ◌+◌, ◌≤◌, ◌↔◌, ◌++◌, ◌∷◌, [], pos, ◌≤ℤ◌, List, length, map, All, IsTrue, IfOk, IfErr, OnOk};
-ghost use Rattle.stn_net.specs.Event.{most_events};
-ghost use Rattle.stn_net.specs.Difference.{Difference, NamesEvents};
-ghost use Rattle.stn_net.specs.Horizon.{horizon_bounds};
-ghost use Rattle.stn_net.specs.Schedule.{HasSchedule};
+ghost use Rattle.stn_net.specs.{Event.most_events, Difference.{Difference, NamesEvents}, Horizon.horizon_bounds, Schedule.HasSchedule};
 ghost use Rattle.stn_conflict.specs.Distances.{TellsWithin};
 ghost use Rattle.stn_records.specs.Content.{most_known};
-ghost use Rattle.stn_loosen.specs.Slack.{loose};
-ghost use Rattle.stn_loosen.specs.Loosened.{Imply, AreKept};
-ghost use Rattle.stn_loosen.specs.Moved.{moved_bounds};
-ghost use Rattle.stn_loosen.specs.Stepped.{AreSteps, as_bound, IsInReach, IsOpen, AreMadeBehind, IsCauseBehind, IsCauseIn};
-ghost use Rattle.stn_loosen.specs.Making.{all_bounds, AreTaken, IsShown, IsSearched, IsNext, IsCauseAt, IsCauseOf, IsCauseWith};
+ghost use Rattle.stn_loosen.specs.{Slack.loose, Loosened.{Imply, AreKept}, Moved.moved_bounds, Stepped.{AreSteps, as_bound, IsInReach, IsOpen, AreMadeBehind, IsCauseBehind, IsCauseIn}, Making.{all_bounds, AreTaken, IsShown, IsSearched, IsNext, IsCauseAt, IsCauseOf, IsCauseWith}};
 
 use crate::fault::LoosenFault;
 use crate::span::{Span, moved_sides};

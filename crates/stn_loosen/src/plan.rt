@@ -1,11 +1,8 @@
 ghost use Rattle.std.specs.Prelude.{◌≡◌, ℕ, ℤ, ◌≤◌, length, All, IfOk, IfErr};
-ghost use Rattle.stn_net.specs.Schedule.{IsSchedule};
-ghost use Rattle.stn_lift.specs.BaseBounds.{KeepsOrder};
-ghost use Rattle.stn_lift.specs.PlanSource.{base_bounds, events_of, planned_of, interfere_in_plan, IsSoundSource};
+ghost use Rattle.stn_net.specs.{Difference.NamesEvents, Schedule.IsSchedule};
+ghost use Rattle.stn_lift.specs.{BaseBounds.KeepsOrder, PlanSource.{base_bounds, events_of, planned_of, interfere_in_plan, IsSoundSource}};
 ghost use Rattle.stn_records.specs.Content.{most_known};
-ghost use Rattle.stn_loosen.specs.Loosened.{orders_of, bounds_with, Imply, AreLoosened};
-ghost use Rattle.stn_loosen.specs.Faults.{IsCause};
-ghost use Rattle.stn_loosen.specs.Making.{AreTaken};
+ghost use Rattle.stn_loosen.specs.{Loosened.{orders_of, bounds_with, Imply, AreLoosened}, Faults.IsCause, Making.AreTaken};
 
 use crate::fault::LoosenFault;
 use crate::making::Making;
@@ -27,6 +24,7 @@ pub fn loosened<A: Allocator + Copy>(
 ) -> Result<Vec<Bound, A>, LoosenFault>
     ensures records { IfOk result (λ records. AreLoosened base.now tolerance records.items) }
     ensures few { IfOk result (λ records. length records.items ≤ most_known) }
+    ensures named { IfOk result (λ records. All (NamesEvents (events_of base.now)) records.items) }
 
     // Each schedule of the plan is one of the loosened plan.
     ensures looser { IfOk result (λ records. (time : ℕ → ℤ) → IsSchedule (base_bounds base.now) time → IsSchedule (bounds_with base.now records.items) time) }

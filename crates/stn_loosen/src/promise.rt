@@ -1,14 +1,8 @@
-ghost use Rattle.std.specs.Prelude.{◌≡◌, ◌≤◌, ℕ, ℤ, length, IfOk, IfErr, OnOk};
-ghost use Rattle.stn_net.specs.Schedule.{IsSchedule};
-ghost use Rattle.stn_net.specs.Horizon.{horizon_bounds};
+ghost use Rattle.std.specs.Prelude.{◌≡◌, ◌≤◌, ℕ, ℤ, length, All, IfOk, IfErr, OnOk};
+ghost use Rattle.stn_net.specs.{Difference.NamesEvents, Schedule.IsSchedule, Horizon.horizon_bounds};
 ghost use Rattle.stn_lift.specs.PlanSource.{events_of, IsSoundSource};
 ghost use Rattle.stn_records.specs.Content.{most_known};
-ghost use Rattle.stn_loosen.specs.Loosened.{bounds_with, loose_durations, AreLoosened};
-ghost use Rattle.stn_loosen.specs.Promise.{Promises};
-ghost use Rattle.stn_loosen.specs.Robust.{loose_bounds, HasPromise, AreRobust};
-ghost use Rattle.stn_loosen.specs.Faults.{IsRobustCause};
-ghost use Rattle.stn_loosen.specs.Making.{AreTaken};
-ghost use Rattle.stn_loosen.specs.Whole.{IsMadeRobust, IsCauseAfter};
+ghost use Rattle.stn_loosen.specs.{Loosened.{bounds_with, loose_durations, AreLoosened}, Promise.Promises, Robust.{loose_bounds, HasPromise, AreRobust}, Faults.IsRobustCause, Making.AreTaken, Whole.{IsMadeRobust, IsCauseAfter}};
 
 use crate::fault::LoosenFault;
 use crate::making::Making;
@@ -33,6 +27,7 @@ pub fn robust<A: Allocator + Copy>(
 ) -> Result<Vec<Bound, A>, LoosenFault>
     ensures records { IfOk result (λ records. AreRobust base.now tolerance records.items) }
     ensures few { IfOk result (λ records. length records.items ≤ most_known) }
+    ensures named { IfOk result (λ records. All (NamesEvents (events_of base.now)) records.items) }
 
     // There is a promise.
     ensures promise { IfOk result (λ records. HasPromise base.now tolerance) }

@@ -1,8 +1,6 @@
 ghost use Rattle.std.specs.Prelude.{◌≡◌, ◌↔◌, IsSome, IfSome};
 ghost use Rattle.stn_time.specs.Time.{IsWithinHorizon};
-ghost use Rattle.stn_loosen.specs.Promise.{still, setting_of};
-ghost use Rattle.stn_loosen.specs.Moved.{moved_upper, moved_lower};
-ghost use Rattle.stn_loosen.specs.Stepped.{AreSteps, IsBoundOf, IsInReach, as_bound};
+ghost use Rattle.stn_loosen.specs.{Promise.{still, setting_of}, Moved.{moved_upper, moved_lower}, Stepped.{AreSteps, IsBoundOf, IsInReach, as_bound}};
 
 use stn_net::{Bound, Event};
 use stn_time::{HORIZON, Ms};

@@ -1,9 +1,14 @@
 use Rattle.std.proofs.Common.{List, All, sym, subst}
 use Rattle.stn_net.specs.{Difference.Difference, Schedule.IsSchedule}
-use Rattle.stn_lift.specs.BaseBounds.{KeepsOrder}
-use Rattle.stn_lift.specs.PlanSource.{events_of, interfere_in_plan, planned_of}
+use Rattle.stn_lift.specs.{BaseBounds.KeepsOrder, PlanSource.{events_of, interfere_in_plan, planned_of}}
 use Rattle.stn_loosen.specs.Loosened.{orders_of, Imply}
 use Rattle.stn_loosen.proofs.adding.loosened_site_plan.Goals as goal
+
+pub plan_with-requires-clause-named : goal.plan_with-requires-clause-named
+plan_with-requires-clause-named g c = rw c.deref.ensures.value c.in_ok-records.ensures.named
+
+pub plan_with-requires-clause-few : goal.plan_with-requires-clause-few
+plan_with-requires-clause-few g c = rw c.deref.ensures.value c.in_ok-records.ensures.few
 
 pub returns : goal.returns
 returns g c =

@@ -1,9 +1,9 @@
-use Rattle.std.proofs.Common.{◌≡◌, ◌+◌, [], ◌∷◌, ◌++◌, take, refl, sym, ap, subst, ◌∙◌, arith}
-use Rattle.std.proofs.lemmas.List.{take_more, take_all}
+use Rattle.std.proofs.{Common.{◌≡◌, ◌+◌, [], ◌∷◌, ◌++◌, take, refl, sym, ap, subst, ◌∙◌, arith, length-take}, lemmas.List.{take_more, take_all}}
+use Rattle.stn_net.specs.Difference.{NamesEvents}
+use Rattle.stn_lift.specs.PlanSource.{events_of}
 use Rattle.stn_records.specs.Content.{next_counter, with_record}
 use Rattle.stn_site.specs.{Held.plain, Bounds.all_bounds}
-use Rattle.stn_loosen.specs.Numbered.{Holds}
-use Rattle.stn_loosen.proofs.NumberedStates.{holds_none, holds_more, all_are}
+use Rattle.stn_loosen.{specs.Numbered.Holds, proofs.NumberedStates.{next_passes, holds_none, holds_more, all_are}}
 use Rattle.stn_loosen.proofs.adding.plan_with.Goals as goal
 
 pub loop-bound-init : goal.loop-bound-init
@@ -12,6 +12,21 @@ loop-bound-init g c = record {
   source = c.in_ok-plan.ensures.source ∙ rw c.steps.ensures.value refl;
   holds = holds_none c.args.site c.in_ok-plan.plan.state c.in_ok-plan.ensures.empty;
 }
+
+pub add_bound-requires-clause-named : goal.add_bound-requires-clause-named
+add_bound-requires-clause-named g c =
+    let place = c.loop-bound.bound-index in
+    let bound = c.bound-item.result in
+    rw c.loop-bound.invariant.source (subst (NamesEvents (events_of c.args.base.now)) (sym c.bound-item.is) (c.requires.named place bound c.loop-bound-test.true))
+
+pub add_bound-requires-clause-room : goal.add_bound-requires-clause-room
+add_bound-requires-clause-room g c =
+    let is = c.loop-bound.invariant in
+    let plan = c.loop-bound.plan in
+    let place = c.loop-bound.bound-index in
+    let bounds = c.args.bounds.now in
+    next_passes plan (take place bounds) (subst (λ n. Holds n (take place bounds) plan.state) (sym is.site) is.holds)
+    (omega (arith, length-take place bounds, c.loop-bound-test.true, c.requires.few))
 
 pub loop-bound-preserved : goal.loop-bound-preserved
 loop-bound-preserved g c =

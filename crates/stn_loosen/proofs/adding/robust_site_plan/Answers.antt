@@ -3,6 +3,12 @@ use Rattle.stn_net.specs.{Difference.Difference, Schedule.IsSchedule}
 use Rattle.stn_loosen.specs.{Loosened.loose_durations, Promise.Promises, Robust.loose_bounds}
 use Rattle.stn_loosen.proofs.adding.robust_site_plan.Goals as goal
 
+pub plan_with-requires-clause-named : goal.plan_with-requires-clause-named
+plan_with-requires-clause-named g c = rw c.deref.ensures.value c.in_ok-records.ensures.named
+
+pub plan_with-requires-clause-few : goal.plan_with-requires-clause-few
+plan_with-requires-clause-few g c = rw c.deref.ensures.value c.in_ok-records.ensures.few
+
 pub returns : goal.returns
 returns g c =
     let base = c.args.base.now in

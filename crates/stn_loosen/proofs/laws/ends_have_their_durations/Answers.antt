@@ -1,8 +1,6 @@
-use Rattle.std.proofs.Common.{◌≡◌}
-use Rattle.std.proofs.lemmas.List.Elements.{All-contains, All-from_recursion}
+use Rattle.std.proofs.{Common.◌≡◌, lemmas.List.Elements.{All-contains, All-from_recursion}}
 use Rattle.stn_net.specs.Difference.{Difference}
-use Rattle.stn_loosen.specs.{Loosened.bounds_with, Loosened.loose_durations, Promise.setting_of}
-use Rattle.stn_loosen.proofs.{Runs.run_possible, Runs.end_window, Robustness.apart, Robustness.records_robust, Robustness.records_promise}
+use Rattle.stn_loosen.{specs.{Loosened.{bounds_with, loose_durations}, Promise.setting_of}, proofs.{Runs.{run_possible, end_window}, Robustness.{apart, records_robust, records_promise}}}
 use Rattle.stn_loosen.proofs.laws.ends_have_their_durations.Goals as goal
 
 pub returns : goal.returns

@@ -1,5 +1,4 @@
-use Rattle.stn_loosen.specs.Loosened.{bounds_with, loose_durations}
-use Rattle.stn_loosen.proofs.{Runs.run_possible, Robustness.records_robust, Robustness.records_promise}
+use Rattle.stn_loosen.{specs.Loosened.{bounds_with, loose_durations}, proofs.{Runs.run_possible, Robustness.{records_robust, records_promise}}}
 use Rattle.stn_loosen.proofs.laws.robust_runs_complete.Goals as goal
 
 pub returns : goal.returns

@@ -1,8 +1,6 @@
-use Rattle.std.proofs.Common.{rules}
-use Rattle.std.specs.{Ordering.int_cmp, List.Sorted.IsSortedByKey, List.Sorted.IsStableByKey}
+use Rattle.std.{proofs.Common.rules, specs.{Ordering.int_cmp, List.Sorted.{IsSortedByKey, IsStableByKey}}}
 use Rattle.stn_net.specs.Schedule.{times_of}
-use Rattle.stn_loosen.specs.Loosened.{gap}
-use Rattle.stn_loosen.proofs.Lists.{key_given}
+use Rattle.stn_loosen.{specs.Loosened.gap, proofs.Lists.key_given}
 use Rattle.stn_loosen.proofs.nearest.sort_by_gap.Goals as goal
 
 pub returns : goal.returns

@@ -1,5 +1,4 @@
-use Rattle.std.proofs.Common.{sym, ◌∙◌}
-use Rattle.std.proofs.lemmas.List.{length-take-le}
+use Rattle.std.proofs.{Common.{sym, ◌∙◌}, lemmas.List.length-take-le}
 use Rattle.stn_loosen.proofs.ThreeParts.{horizon_fits}
 use Rattle.stn_loosen.proofs.parts.horizon_of.Goals as goal
 

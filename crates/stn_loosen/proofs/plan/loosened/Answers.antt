@@ -1,7 +1,15 @@
-use Rattle.std.proofs.Common.{rules}
-use Rattle.stn_loosen.specs.Slack.{IsSlack}
-use Rattle.stn_loosen.proofs.{Looser.looser, Orders.orders_implied, Orders.order_kept}
+use Rattle.std.proofs.Common.{All, subst, rules}
+use Rattle.stn_time.proofs.Each.{All-right}
+use Rattle.stn_net.specs.{Difference.NamesEvents, Horizon.horizon_bounds}
+use Rattle.stn_loosen.{specs.Slack.IsSlack, proofs.{Looser.looser, Orders.{orders_implied, order_kept}}}
 use Rattle.stn_loosen.proofs.plan.loosened.Goals as goal
+
+pub returns-clause-named : goal.returns-clause-named
+returns-clause-named g c =
+    let making = c.in_ok-make_loosened.field-0 in
+    let events = making.matrix.events in
+    subst (λ n. All (NamesEvents n) making.records.items) c.in_ok-make_loosened.ensures.events
+    (All-right (NamesEvents events) (horizon_bounds events) making.records.items c.in_ok-make_loosened.ensures.taken.named)
 
 pub returns-clause-looser : goal.returns-clause-looser
 returns-clause-looser g c =

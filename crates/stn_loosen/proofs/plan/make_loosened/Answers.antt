@@ -1,8 +1,6 @@
-use Rattle.std.proofs.Common.{◌≡◌, ◌∙◌, arith, rules}
-use Rattle.std.proofs.{lemmas.List.length-map, lemmas.Result.err_from_is_err_and}
+use Rattle.std.proofs.{Common.{◌≡◌, ◌∙◌, arith, rules}, lemmas.{List.length-map, Result.err_from_is_err_and}}
 use Rattle.stn_lift.specs.PlanSource.{events_of}
-use Rattle.stn_loosen.specs.{Slack.IsSlack, Loosened.loose_durations}
-use Rattle.stn_loosen.proofs.{Lasting.durations_last, Looser.durations_named, Whole.durations_fit, Whole.durations_possible, Whole.orders_possible, Whole.all_named, Whole.made_of, Whole.cause_of, plan.make_loosened.Given.Over, plan.make_loosened.Goals.In_ok-orders}
+use Rattle.stn_loosen.{specs.{Slack.IsSlack, Loosened.loose_durations}, proofs.{Lasting.durations_last, Looser.durations_named, Whole.{durations_fit, durations_possible, orders_possible, all_named, made_of, cause_of}, plan.make_loosened.{Given.Over, Goals.In_ok-orders}}}
 use Rattle.stn_loosen.proofs.plan.make_loosened.Goals as goal
 
 pub make_durations-requires-clause-named : goal.make_durations-requires-clause-named

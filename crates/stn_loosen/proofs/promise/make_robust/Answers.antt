@@ -1,7 +1,5 @@
-use Rattle.std.proofs.Common.{◌++◌, length, drop, take, ap, ◌∙◌, rules}
-use Rattle.std.proofs.{lemmas.List.take_rest, lemmas.Result.on_ok_weaker, lemmas.Result.IfErr-weaker}
-use Rattle.stn_loosen.specs.{Moved.moved_bounds, Stepped.IsCauseBehind, Whole.IsCauseAfter}
-use Rattle.stn_loosen.proofs.{MadeRobust.AreParted, MadeRobust.are_steps, MadeRobust.bounds_named, MadeRobust.made_robust, MadeRobust.made_promise, MadeRobust.cause_after, MadeRobust.on_both, promise.make_robust.Given.Over, promise.make_robust.Goals.After-deref-4}
+use Rattle.std.proofs.{Common.{◌++◌, length, drop, take, ap, ◌∙◌, rules}, lemmas.{List.take_rest, Result.{on_ok_weaker, IfErr-weaker}}}
+use Rattle.stn_loosen.{specs.{Moved.moved_bounds, Stepped.IsCauseBehind, Whole.IsCauseAfter}, proofs.{MadeRobust.{AreParted, are_steps, bounds_named, made_robust, made_promise, cause_after, on_both}, promise.make_robust.{Given.Over, Goals.After-deref-4}}}
 use Rattle.stn_loosen.proofs.promise.make_robust.Goals as goal
 
 -- the copies are the parts of the loosened plan

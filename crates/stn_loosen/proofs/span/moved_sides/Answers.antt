@@ -1,5 +1,4 @@
-use Rattle.std.proofs.Common.{arith}
-use Rattle.std.proofs.lemmas.Int.{ints}
+use Rattle.std.proofs.{Common.arith, lemmas.Int.ints}
 use Rattle.stn_loosen.proofs.Sides.{is_upper, is_lower}
 use Rattle.stn_loosen.proofs.span.moved_sides.Goals as goal
 

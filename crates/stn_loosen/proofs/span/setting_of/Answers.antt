@@ -1,5 +1,5 @@
 use Rattle.std.proofs.Common.{◌∙◌, ◌-◌, ◌/◌, inl, inr, refl, sym}
-use Rattle.stn_loosen.proofs.{Steps.not_end, Steps.end_set, Steps.past_set, span.setting_of.Goals.then-number-eq0-via-then-number-eq0, span.setting_of.Goals.then-number-eq0-via-else-number-eq0+then-number-eq1}
+use Rattle.stn_loosen.proofs.{Steps.{not_end, end_set, past_set}, span.setting_of.Goals.{then-number-eq0-via-then-number-eq0, then-number-eq0-via-else-number-eq0+then-number-eq1}}
 use Rattle.stn_loosen.proofs.span.setting_of.Goals as goal
 
 pub returns-then-number-eq0-clause-value : goal.returns-then-number-eq0-clause-value

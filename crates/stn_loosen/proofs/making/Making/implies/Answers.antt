@@ -1,9 +1,7 @@
-use Rattle.std.proofs.Common.{◌≡◌, ℤ, pos, neg_ℤ, ◌-ℤ◌, to_z, of_z, w64, [], ◌∷◌, refl, ⊎_elim, arith}
-use Rattle.std.proofs.{lemmas.Int.ints, lemmas.Result.IfOk-weaker, lemmas.Result.IfErr-weaker}
+use Rattle.std.proofs.{Common.{◌≡◌, ℤ, pos, neg_ℤ, ◌-ℤ◌, to_z, of_z, w64, [], ◌∷◌, refl, ⊎_elim, arith}, lemmas.{Int.ints, Result.{IfOk-weaker, IfErr-weaker}}}
 use Rattle.stn_time.specs.Time.{horizon}
 use Rattle.stn_conflict.specs.Distances.{TellsWithin}
-use Rattle.stn_loosen.specs.Stepped.{as_bound}
-use Rattle.stn_loosen.proofs.{Implied.shown_searched, Sides.upper_told, Sides.lower_told, Sides.cause_now}
+use Rattle.stn_loosen.{specs.Stepped.as_bound, proofs.{Implied.shown_searched, Sides.{upper_told, lower_told, cause_now}}}
 use Rattle.stn_loosen.proofs.making.Making.implies.Goals as goal
 
 pub returns-then-shows-clause-value : goal.returns-then-shows-clause-value

@@ -1,10 +1,7 @@
-use Rattle.std.proofs.Common.{◌≡◌, length, refl, subst, ◌∙◌, arith}
-use Rattle.std.proofs.{lemmas.List.take_all, lemmas.Result.err_from_is_err_and}
+use Rattle.std.proofs.{Common.{◌≡◌, length, refl, subst, ◌∙◌, arith}, lemmas.{List.take_all, Result.err_from_is_err_and}}
 use Rattle.stn_time.proofs.Each.{All-left, All-right}
-use Rattle.stn_net.specs.{Difference.NamesEvents, Horizon.horizon_bounds}
-use Rattle.stn_net.proofs.Horizons.{length-horizon_bounds}
-use Rattle.stn_loosen.specs.Making.{all_bounds}
-use Rattle.stn_loosen.proofs.{Implied.searched_first, Sides.moved_to_none, Sides.moved_more, Sides.moved_refused, Sides.moved_refused_last, Sides.IsMovedTo}
+use Rattle.stn_net.{specs.{Difference.NamesEvents, Horizon.horizon_bounds}, proofs.Horizons.length-horizon_bounds}
+use Rattle.stn_loosen.{specs.Making.all_bounds, proofs.{Implied.searched_first, Sides.{moved_to_none, moved_more, moved_refused, moved_refused_last, IsMovedTo}}}
 use Rattle.stn_loosen.proofs.making.Making.make_moved.Goals as goal
 
 pub new-requires-clause-begins : goal.new-requires-clause-begins

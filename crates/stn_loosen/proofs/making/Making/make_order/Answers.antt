@@ -1,9 +1,6 @@
-use Rattle.std.proofs.Common.{ℕ, List, length, inl, inr, refl, sym, ◌∙◌, subst}
-use Rattle.std.proofs.{lemmas.Bool.false≢true, lemmas.Result.on_ok_weaker, lemmas.Result.IfErr-weaker}
+use Rattle.std.proofs.{Common.{ℕ, List, length, inl, inr, refl, sym, ◌∙◌, subst}, lemmas.{Bool.false≢true, Result.{on_ok_weaker, IfErr-weaker}}}
 use Rattle.stn_net.specs.Difference.{Difference}
-use Rattle.stn_loosen.specs.{declared.fault.LoosenFault.LoosenFault, Loosened.Imply, Making.all_bounds, Making.IsShown, Making.IsCauseAt, Making.IsCauseOf}
-use Rattle.stn_loosen.specs.declared.fault.LoosenFault.TheVariants.{Full, NotRobust, Memory}
-use Rattle.stn_loosen.proofs.Implied.{shown_taken}
+use Rattle.stn_loosen.{specs.{declared.fault.LoosenFault.{LoosenFault, TheVariants.{Full, NotRobust, Memory}}, Loosened.Imply, Making.{all_bounds, IsShown, IsCauseAt, IsCauseOf}}, proofs.Implied.shown_taken}
 use Rattle.stn_loosen.proofs.making.Making.make_order.Goals as goal
 
 -- an order that is needed, and can't be made

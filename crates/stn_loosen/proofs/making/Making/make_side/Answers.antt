@@ -1,7 +1,5 @@
-use Rattle.std.proofs.Common.{sym, subst, ◌∙◌}
-use Rattle.std.proofs.lemmas.Bool.{false≢true}
-use Rattle.stn_loosen.specs.{Loosened.Imply, Stepped.as_bound, Stepped.IsBoundOf, Making.all_bounds}
-use Rattle.stn_loosen.proofs.{Implied.searched_more, Sides.side_bound}
+use Rattle.std.proofs.{Common.{sym, subst, ◌∙◌}, lemmas.Bool.false≢true}
+use Rattle.stn_loosen.{specs.{Loosened.Imply, Stepped.{as_bound, IsBoundOf}, Making.all_bounds}, proofs.{Implied.searched_more, Sides.side_bound}}
 use Rattle.stn_loosen.proofs.making.Making.make_side.Goals as goal
 
 pub returns-in_default-clause-fault : goal.returns-in_default-clause-fault

@@ -1,9 +1,6 @@
-use Rattle.std.proofs.Common.{[], ◌∷◌, sym, subst}
-use Rattle.std.proofs.lemmas.Result.{on_ok_weaker, IfErr-weaker, err_from_is_err_and}
+use Rattle.std.proofs.{Common.{[], ◌∷◌, sym, subst}, lemmas.Result.{on_ok_weaker, IfErr-weaker, err_from_is_err_and}}
 use Rattle.stn_net.specs.Difference.{Difference, NamesEvents}
-use Rattle.stn_loosen.specs.{Moved.moved_upper, Moved.moved_lower, Stepped.as_bound, Stepped.AreMadeBehind, Stepped.IsCauseBehind}
-use Rattle.stn_loosen.proofs.Sides.{upper_named, lower_named, made_behind, cause_behind, none_made}
-use Rattle.stn_loosen.proofs.making.Making.make_sides.Given.{Over}
+use Rattle.stn_loosen.{specs.{Moved.{moved_upper, moved_lower}, Stepped.{as_bound, AreMadeBehind, IsCauseBehind}}, proofs.{Sides.{upper_named, lower_named, made_behind, cause_behind, none_made}, making.Making.make_sides.Given.Over}}
 use Rattle.stn_loosen.proofs.making.Making.make_sides.Goals as goal
 
 pub make_side-requires-clause-named : goal.make_side-requires-clause-named

@@ -1,7 +1,5 @@
-use Rattle.std.proofs.Common.{refl, arith}
-use Rattle.std.proofs.lemmas.Int.{ints}
-use Rattle.stn_loosen.specs.Stepped.{as_bound}
-use Rattle.stn_loosen.proofs.Bounds.{bound_found}
+use Rattle.std.proofs.{Common.{refl, arith}, lemmas.Int.ints}
+use Rattle.stn_loosen.{specs.Stepped.as_bound, proofs.Bounds.bound_found}
 use Rattle.stn_loosen.proofs.span.Span.bound.Goals as goal
 
 pub returns-clause-found : goal.returns-clause-found

@@ -1,5 +1,4 @@
-use Rattle.std.proofs.Common.{◌∙◌, arith, rules}
-use Rattle.std.proofs.lemmas.Int.{ints, clamps}
+use Rattle.std.proofs.{Common.{◌∙◌, arith, rules}, lemmas.Int.{ints, clamps}}
 use Rattle.stn_loosen.proofs.Bounds.{bound_is_ok}
 use Rattle.stn_loosen.proofs.tolerance.Tolerance.loose.Goals as goal
 
