@@ -1,7 +1,7 @@
 ghost use Rattle.std.specs.Prelude.{◌≡◌};
 ghost use Rattle.stn_cause.specs.Cause.{cause_of, cause_text};
 
-use std::io::ErrorKind;
+use std::io::{Error, ErrorKind};
 
 /// Why a file, a folder or an address can't be used.
 #[derive(Clone, Copy, Debug, PartialEq, Eq)]
@@ -26,6 +26,8 @@ pub enum Cause {
     OtherName,
     /// The file is to be empty, and is not.
     NotEmpty,
+    /// The file has too many bytes.
+    TooLong,
     /// The disk can't be written.
     ReadOnly,
     /// The disk has no room.
@@ -46,6 +48,10 @@ pub enum Cause {
     Late,
     /// The other end went away.
     Left,
+    /// A read failed.
+    Unread,
+    /// A write failed.
+    Unwritten,
     /// The system says something else.
     Refused,
 }
@@ -96,6 +102,7 @@ impl Cause {
             Cause::There => b"is there already",
             Cause::OtherName => b"has another name too",
             Cause::NotEmpty => b"is not empty",
+            Cause::TooLong => b"has too many bytes",
             Cause::ReadOnly => b"is on a disk that can't be written",
             Cause::NoRoom => b"no room is left on the disk",
             Cause::Changed => b"another program changed it meanwhile",
@@ -106,7 +113,19 @@ impl Cause {
             Cause::Unreachable => b"can't be reached",
             Cause::Late => b"no answer in time",
             Cause::Left => b"the other end left",
+            Cause::Unread => b"can't be read",
+            Cause::Unwritten => b"can't be written",
             Cause::Refused => b"the system refuses it",
         }
+    }
+}
+
+impl From<Error> for Cause {
+    ghost use Rattle.std.specs.IoError.{error_kind};
+
+    ghost from_gives = { λ error given. given ≡ cause_of (error_kind error) };
+
+    fn from(error: Error) -> Cause {
+        Cause::of(error.kind())
     }
 }

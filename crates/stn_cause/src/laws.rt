@@ -1,6 +1,5 @@
 ghost use Rattle.std.specs.Prelude.{◌≡◌};
-ghost use Rattle.stn_cause.specs.Cause.{cause_text};
-ghost use Rattle.stn_cause.specs.declared.cause.Cause.{Cause};
+ghost use Rattle.stn_cause.specs.{Cause.cause_text, declared.cause.Cause.Cause};
 
 /// Two causes are never told alike.
 pub fn causes_told_apart()

@@ -1,15 +1,8 @@
 -- How effects end: what they leave if they stop, and that two runs of one end alike.
-use Rattle.std.proofs.Common.{◌≡◌, ◌⊎◌, inl, inr, ℕ, List, OnOk, IfErr, Option, Some, None, is_some, Result, Ok, Err, MatchResult, refl, sym, ap, subst, ◌∙◌}
-use Rattle.std.proofs.lemmas.Bool.{false≢true}
-use Rattle.std.proofs.lemmas.Option.{same_Some}
-use Rattle.std.specs.Prelude.{⊤}
+use Rattle.std.{proofs.{Common.{◌≡◌, ◌⊎◌, inl, inr, ℕ, List, OnOk, IfErr, Option, Some, None, is_some, Result, Ok, Err, MatchResult, refl, sym, ap, subst, ◌∙◌}, lemmas.{Bool.false≢true, Option.same_Some}}, specs.Prelude.⊤}
 use Rattle.stn_device.proofs.Known.{not_err}
-use Rattle.stn_effects.specs.Effects.{Effect, Then, stopped, went, seen, Gives, Finds, Makes, Reads, IsLack, EndAlike}
-use Rattle.stn_effects.specs.Printing.{Device, Prints, IsUnprinted, Writes}
-use Rattle.stn_refusal.specs.declared.failure.Failure.{Failure}
-use Rattle.stn_refusal.specs.declared.failure.Failure.TheVariants.{Failed}
-use Rattle.stn_refusal.specs.declared.failure.Fault.{Fault}
-use Rattle.stn_refusal.specs.declared.failure.Fault.TheVariants.{Memory}
+use Rattle.stn_effects.specs.{Effects.{Effect, Then, stopped, went, seen, Gives, Finds, Makes, Reads, IsLack, EndAlike}, Printing.{Device, Prints, IsUnprinted, Writes}}
+use Rattle.stn_refusal.specs.declared.failure.{Failure.{Failure, TheVariants.Failed}, Fault.{Fault, TheVariants.Memory}}
 
 -- a call that makes a value, or says the first cause against it
 pub makes_of : {World T X : Type 0} (Fails : Fault → Type 0) (see : T → X) (Is : X → Type 0) (IsCause : Option Failure → Type 0) (call : Result T Failure) (old : World)
@@ -37,10 +30,6 @@ abbrev pub StopsForLack : {World X : Type 0} → (Fault → Type 0) → Effect W
 StopsForLack {World} {X} Fails Does = (old new : World) (failure : Failure) → Does old new (Err failure) → IsLack Fails failure
 
 module _ {World X : Type 0} (Fails : Fault → Type 0) where
-  pub finds_same : (Is : World → X → Type 0) (Prevents : World → Failure → Type 0) → ChangesNothing (Finds Fails Is Prevents)
-  finds_same Is Prevents old new (Ok value) is = is.0
-  finds_same Is Prevents old new (Err failure) is = is.0
-
   pub makes_same : (Is : X → Type 0) (IsCause : Option Failure → Type 0) → ChangesNothing {World = World} (Makes Fails Is IsCause)
   makes_same Is IsCause old new (Ok value) is = is.0
   makes_same Is IsCause old new (Err failure) is = is.0

@@ -1,10 +1,6 @@
 -- What is done one after the other: each effect says what there was, what there is then, and what came of it.
 use Rattle.std.specs.Prelude.{◌≡◌, ◌⊎◌, Bool, true, false, Option, Some, None, Result, Ok, Err, ⊤}
-use Rattle.stn_refusal.specs.declared.failure.Failure.{Failure}
-use Rattle.stn_refusal.specs.declared.failure.Failure.TheVariants.{Refused, Failed}
-use Rattle.stn_refusal.specs.declared.refusal.Refusal.{Refusal}
-use Rattle.stn_refusal.specs.declared.failure.Fault.{Fault}
-use Rattle.stn_refusal.specs.declared.failure.Fault.TheVariants.{Memory}
+use Rattle.stn_refusal.specs.declared.{failure.{Failure.{Failure, TheVariants.{Refused, Failed}}, Fault.{Fault, TheVariants.Memory}}, refusal.Refusal.Refusal}
 
 -- from what there was to what there is then, with a value, or with why nothing further was done
 abbrev pub Effect : Type 0 → Type 0 → Type 1

@@ -1,16 +1,8 @@
 -- What is printed, on the output and on the standard error.
-use Rattle.std.specs.Prelude.{◌≡◌, ◌⊎◌, ℕ, ◌+◌, ◌-◌, ◌^◌, min, List, Option, Ok, Err}
-use Rattle.std.specs.Io.KnownBytes.{Appends}
-use Rattle.stn_device.specs.Bytes.{AppendsPart}
-use Rattle.stn_device.specs.Counted.{counted_device, failure_count}
-use Rattle.stn_device.specs.declared.counted.Counted.{Counted}
+use Rattle.std.specs.{Prelude.{◌≡◌, ◌⊎◌, ℕ, ◌+◌, ◌-◌, ◌^◌, min, List, Option, Ok, Err}, Io.KnownBytes.Appends}
+use Rattle.stn_device.specs.{Bytes.AppendsPart, Counted.{counted_device, failure_count}, declared.counted.Counted.Counted}
 use Rattle.stn_effects.specs.Effects.{Effect}
-use Rattle.stn_refusal.specs.Printed.{refusal_text, fault_text}
-use Rattle.stn_refusal.specs.declared.failure.Failure.{Failure}
-use Rattle.stn_refusal.specs.declared.failure.Failure.TheVariants.{Refused, Failed}
-use Rattle.stn_refusal.specs.declared.refusal.Refusal.{Refusal}
-use Rattle.stn_refusal.specs.declared.failure.Fault.{Fault}
-use Rattle.stn_refusal.specs.declared.failure.Fault.TheVariants.{Write, Memory}
+use Rattle.stn_refusal.specs.{Printed.{refusal_text, fault_text}, declared.{failure.{Failure.{Failure, TheVariants.{Refused, Failed}}, Fault.{Fault, TheVariants.{Write, Memory}}}, refusal.Refusal.Refusal}}
 
 -- a reader or a writer: the bytes that it has left or holds, where these are known, and how many of its calls failed
 pub record Device : Type 0 where

@@ -1,9 +1,5 @@
 -- What is found of bytes that are compared piece by piece.
-use Rattle.std.proofs.Common.{◌≡◌, ◌≢◌, ℕ, List, [], ◌++◌, Option, Some, None, false, sym, ap, ◌∙◌, append_assoc}
-use Rattle.std.proofs.lemmas.Bool.{false≢true}
-use Rattle.std.proofs.lemmas.List.{append_cancel_left}
-use Rattle.std.proofs.KnownBytes.{Consumes-trans}
-use Rattle.std.specs.Io.KnownBytes.{Consumes}
+use Rattle.std.{proofs.{Common.{◌≡◌, ◌≢◌, ℕ, List, [], ◌++◌, Option, Some, None, false, sym, ap, ◌∙◌, append_assoc}, lemmas.{Bool.false≢true, List.append_cancel_left}, KnownBytes.Consumes-trans}, specs.Io.KnownBytes.Consumes}
 use Rattle.stn_store.specs.Bytes.{AreKnown, AreTheseIn}
 
 -- what was read is the front of what the bytes are

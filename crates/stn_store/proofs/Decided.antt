@@ -1,15 +1,11 @@
 -- What a log and a text are that were read.
-use Rattle.std.proofs.Common.{◌≡◌, ℕ, ◌+◌, ◌<◌, ◌≤◌, List, [], ◌++◌, length, take, Option, Some, None, Result, Err, refl, sym, ap, subst, ◌∙◌, inl, inr, append-nil, arith}
-use Rattle.std.proofs.lemmas.List.{take_all, length-take}
-use Rattle.std.specs.{Prelude.IfSome, Prelude.◌⊎◌, Prelude.option_map, Io.KnownBytes.Consumes, Io.KnownBytes.IsAtEnd}
+use Rattle.std.{proofs.{Common.{◌≡◌, ℕ, ◌+◌, ◌<◌, ◌≤◌, List, [], ◌++◌, length, take, Option, Some, None, Result, Err, refl, sym, ap, subst, ◌∙◌, inl, inr, append-nil, arith}, lemmas.List.{take_all, length-take}}, specs.{Prelude.{IfSome, ◌⊎◌, option_map}, Io.KnownBytes.{Consumes, IsAtEnd}}}
 use Rattle.stn_device.specs.{declared.whole.ReadFault.ReadFault, Failures.read_failure}
 use Rattle.stn_device.specs.declared.whole.ReadFault.TheVariants as read
 use Rattle.stn_text.specs.Bytes.{most_text}
-use Rattle.stn_store.specs.{Log.Log, Log.IsLog, Log.IsDecided, Log.meaning_of, declared.log.fault.LoadFault.LoadFault, Log.Failures.load_failure}
+use Rattle.stn_store.specs.{Log.{Log, IsLog, IsDecided, meaning_of, Failures.load_failure}, declared.log.fault.LoadFault.LoadFault, Bytes.{IsLogIn, IsTextIn}}
 use Rattle.stn_store.specs.declared.log.fault.LoadFault.TheVariants as load
-use Rattle.stn_store.specs.Bytes.{IsLogIn, IsTextIn}
-use Rattle.stn_refusal.specs.declared.failure.Failure.TheVariants.{Failed}
-use Rattle.stn_refusal.specs.declared.failure.Fault.TheVariants.{Memory, Read, Bound}
+use Rattle.stn_refusal.specs.declared.failure.{Failure.TheVariants.Failed, Fault.TheVariants.{Memory, Read, Bound}}
 
 at_end : (read rest : List ℕ) (meaning : Result Log LoadFault) → rest ≡ [] → IsLog read meaning → IsLog (read ++ rest) meaning
 at_end read rest meaning e log = subst (λ (bytes : List ℕ). IsLog bytes meaning) (sym (ap (λ (more : List ℕ). read ++ more) e ∙ append-nil read)) log

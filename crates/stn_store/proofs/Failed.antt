@@ -1,9 +1,6 @@
 -- Why a call of a site failed, by the fault that it gave, and what is told of it.
-use Rattle.std.proofs.Common.{◌≡◌, ◌⊎◌, Option, Some, None, ap, inl, inr}
-use Rattle.std.specs.Prelude.{unwrap_or, option_map}
-use Rattle.stn_site.specs.declared.faults.ReplicaFault.{ReplicaFault}
-use Rattle.stn_site.specs.declared.faults.ReplicaFault.TheVariants.{Memory}
-use Rattle.stn_site.specs.Failures.{replica_failure}
+use Rattle.std.{proofs.Common.{◌≡◌, ◌⊎◌, Option, Some, None, ap, inl, inr}, specs.Prelude.{unwrap_or, option_map}}
+use Rattle.stn_site.specs.{declared.faults.ReplicaFault.{ReplicaFault, TheVariants.Memory}, Failures.replica_failure}
 use Rattle.stn_refusal.specs.declared.failure.Failure.TheVariants.{Failed}
 use Rattle.stn_refusal.specs.declared.failure.Fault.TheVariants as lack
 

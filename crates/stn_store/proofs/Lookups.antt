@@ -1,8 +1,6 @@
 -- What stands under a name, entry by entry.
-use Rattle.std.proofs.Common.{◌≡◌, ℕ, ◌+◌, ◌<◌, Bool, true, false, List, [], ◌∷◌, ◌++◌, length, map, take, get_or, Option, Some, None, refl, sym, ap, ◌∙◌}
-use Rattle.std.specs.{Bool.then_some, Option.option_or, Str.bytes_eq}
-use Rattle.std.proofs.lemmas.List.{take_more, map_push}
-use Rattle.stn_store.specs.{Memory.entry_of, Store.Entry, Store.bytes_under, declared.memory.NamedBytes.NamedBytes}
+use Rattle.std.{proofs.{Common.{◌≡◌, ℕ, ◌+◌, ◌<◌, Bool, true, false, List, [], ◌∷◌, ◌++◌, length, map, take, get_or, Option, Some, None, refl, sym, ap, ◌∙◌}, lemmas.List.{take_more, map_push}}, specs.{Bool.then_some, Option.option_or, Str.bytes_eq}}
+use Rattle.stn_store.specs.{Memory.entry_of, Store.{Entry, bytes_under}, declared.memory.NamedBytes.NamedBytes}
 
 or_none : {X : Type 0} (o : Option X) → option_or o None ≡ o
 or_none None = refl

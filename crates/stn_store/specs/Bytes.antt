@@ -1,7 +1,7 @@
 -- What the bytes of a reader are, as a log and as a text; of bytes that are not known this says that there are some.
 use Rattle.std.specs.Prelude.{◌≡◌, ◌↔◌, ℕ, ◌+◌, Bool, true, List, take, Option, Some, None, Result, ⊤}
 use Rattle.stn_text.specs.Bytes.{most_text}
-use Rattle.stn_store.specs.{Log.Log, Log.IsLog, declared.log.fault.LoadFault.LoadFault}
+use Rattle.stn_store.specs.{Log.{Log, IsLog}, declared.log.fault.LoadFault.LoadFault}
 
 -- the bytes, where they are known
 abbrev pub AreKnown : Option (List ℕ) → List ℕ → Type 0

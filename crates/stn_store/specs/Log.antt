@@ -1,18 +1,15 @@
 -- What the bytes of a log say, and the bytes that say it.
 pub mod Faults
+pub mod Loading
 pub mod Opening
 pub mod Failures
-use Rattle.std.specs.Prelude.{◌≡◌, ℕ, ◌<◌, ◌⊎◌, Bool, true, false, nat_lt, List, [], ◌∷◌, ◌++◌, length, take, Option, Some, None, Result, Ok, Err, option_map}
-use Rattle.std.specs.{Io.KnownBytes.Consumes, Io.KnownBytes.IsAtEnd, List.flat_map, List.AllByRecursion}
+use Rattle.std.specs.{Prelude.{◌≡◌, ℕ, ◌<◌, ◌⊎◌, Bool, true, false, nat_lt, List, [], ◌∷◌, ◌++◌, length, take, Option, Some, None, Result, Ok, Err, option_map}, Io.KnownBytes.{Consumes, IsAtEnd}, List.{flat_map, AllByRecursion}}
 use Rattle.stn_device.specs.Bytes.{most_bytes}
-use Rattle.stn_lift.specs.{PlanSource.PlanSource, PlanSource.base_of, declared.fault.BaseFault.BaseFault}
+use Rattle.stn_lift.specs.{PlanSource.{PlanSource, base_of}, declared.fault.BaseFault.BaseFault}
 use Rattle.stn_records.specs.Content.{Content, no_content, joined_contents}
-use Rattle.stn_site.specs.{declared.faults.ReplicaFault.ReplicaFault, Held.Held, Held.holding_state, Refusals.take_refusal}
-use Rattle.stn_wire.specs.Frame.{FrameContent, old_hello, old_records, hello, records, spelling, IsFrame}
-use Rattle.stn_wire.specs.Front.{IsFront, faulty, unfinished}
-use Rattle.stn_store.specs.{declared.log.version.Version.Version, declared.log.fault.LoadFault.LoadFault}
-use Rattle.stn_store.specs.declared.log.version.Version.TheVariants.{Old, New}
-use Rattle.stn_store.specs.declared.log.fault.LoadFault.TheVariants.{Read, Bound, Frame, LogForm, Base, Take, Memory}
+use Rattle.stn_site.specs.{declared.faults.ReplicaFault.ReplicaFault, Held.{Held, holding_state}, Refusals.take_refusal}
+use Rattle.stn_wire.specs.{Frame.{FrameContent, old_hello, old_records, hello, records, spelling, IsFrame}, Front.{IsFront, faulty, unfinished}}
+use Rattle.stn_store.specs.declared.log.{version.Version.{Version, TheVariants.{Old, New}}, fault.LoadFault.{LoadFault, TheVariants.{Read, Bound, Frame, LogForm, Base, Take, Memory}}}
 
 -- what a log says: what the plan is made from, and a state
 pub record Log : Type 0 where

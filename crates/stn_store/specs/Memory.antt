@@ -1,6 +1,6 @@
 -- What stands in a store in memory.
-use Rattle.std.specs.{Prelude.List, Prelude.map, String.string_bytes}
-use Rattle.stn_store.specs.{Store.Entry, declared.memory.NamedBytes.NamedBytes, declared.memory.MemoryStore.MemoryStore}
+use Rattle.std.specs.{Prelude.{List, map}, String.string_bytes}
+use Rattle.stn_store.specs.{Store.Entry, declared.memory.{NamedBytes.NamedBytes, MemoryStore.MemoryStore}}
 
 abbrev pub entry_of : {A : Type 0} → NamedBytes A → Entry
 entry_of one = record { name = string_bytes one.name; bytes = one.bytes.items }

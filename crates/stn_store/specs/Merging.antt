@@ -1,9 +1,7 @@
 -- Why a copy of a plan takes in nothing of another.
 use Rattle.std.specs.Prelude.{◌≡◌, ◌≢◌, ◌⊎◌, Option, Some, option_map}
 use Rattle.stn_site.specs.{Held.Held, Refusals.take_refusal, Failures.replica_failure}
-use Rattle.stn_refusal.specs.{declared.code.Code.TheVariants.OtherPlan, declared.failure.Failure.Failure, Refusals.refused}
-use Rattle.stn_refusal.specs.declared.failure.Failure.TheVariants.{Failed}
-use Rattle.stn_refusal.specs.declared.failure.Fault.TheVariants.{Memory}
+use Rattle.stn_refusal.specs.{declared.{code.Code.TheVariants.OtherPlan, failure.{Failure.{Failure, TheVariants.Failed}, Fault.TheVariants.Memory}}, Refusals.refused}
 
 -- the bases of two logs differ
 abbrev pub other_plan : Failure

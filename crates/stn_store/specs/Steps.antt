@@ -2,7 +2,7 @@
 use Rattle.std.specs.Prelude.{◌≡◌, ◌⊎◌, ℕ, false, List, Option, Ok, Err}
 use Rattle.stn_effects.specs.Effects.{Effect, Finds, IsLack}
 use Rattle.stn_site.specs.Held.{Held}
-use Rattle.stn_store.specs.{Log.Log, Store.Entry, Store.IsThere, Store.IsTaken, Store.IsMissing, Store.IsUnopened, Store.Opens, Store.Spells, Store.saved_too}
+use Rattle.stn_store.specs.{Log.Log, Store.{Entry, IsThere, IsTaken, IsMissing, IsUnopened, Opens, Spells, saved_too}}
 use Rattle.stn_refusal.specs.declared.failure.Fault.{Fault}
 
 -- what a store holds, if that is known

@@ -1,13 +1,10 @@
 -- What commands find in a store of logs and texts, and what they leave there.
-use Rattle.std.specs.Prelude.{◌≡◌, ◌⊎◌, ◌↔◌, ℕ, ◌+◌, Bool, true, List, [], ◌∷◌, ◌++◌, take, Option, Some, None, is_some, option_map, Result, Ok, Err, ⊤}
-use Rattle.std.specs.{Bool.then_some, Option.option_or, Str.bytes_eq}
+use Rattle.std.specs.{Prelude.{◌≡◌, ◌⊎◌, ◌↔◌, ℕ, ◌+◌, Bool, true, List, [], ◌∷◌, ◌++◌, take, Option, Some, None, is_some, option_map, Result, Ok, Err, ⊤}, Bool.then_some, Option.option_or, Str.bytes_eq}
 use Rattle.stn_text.specs.Bytes.{most_text}
 pub use Rattle.stn_effects.specs.Effects.{IsLack}
 use Rattle.stn_site.specs.Held.{Held}
-use Rattle.stn_store.specs.{Log.Log, Log.log_held, Log.log_text, Log.IsLog, declared.log.fault.LoadFault.LoadFault, Log.Failures.load_failure}
-use Rattle.stn_refusal.specs.{declared.code.Code.TheVariants.LogThere, declared.failure.Failure.Failure, Refusals.refused}
-use Rattle.stn_refusal.specs.declared.failure.Failure.TheVariants.{Failed}
-use Rattle.stn_refusal.specs.declared.failure.Fault.TheVariants.{File}
+use Rattle.stn_store.specs.{Log.{Log, log_held, log_text, IsLog, Failures.load_failure}, declared.log.fault.LoadFault.LoadFault}
+use Rattle.stn_refusal.specs.{declared.{code.Code.TheVariants.LogThere, failure.{Failure.{Failure, TheVariants.Failed}, Fault.TheVariants.File}}, Refusals.refused}
 
 -- bytes that were put under a name
 pub record Entry : Type 0 where

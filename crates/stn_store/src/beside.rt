@@ -1,29 +1,20 @@
 //! Files that this program makes beside a log.
 
 ghost use Rattle.std.specs.Prelude.{IfErr};
-ghost use Rattle.stn_store.specs.Store.{IsLack};
-ghost use Rattle.stn_store.specs.Files.{IsFileFault};
+ghost use Rattle.stn_store.specs.{Store.IsLack, Files.IsFileFault};
 
 use crate::place::NEW_MODE;
+use crate::trouble::{Undone, blame, caused, named};
+use std::alloc::Global;
 use std::fs::{self, File, Metadata, OpenOptions};
-use std::io::{self, ErrorKind};
+use std::io::{self, ErrorKind, Write};
 use std::os::unix::fs::{MetadataExt, OpenOptionsExt, fchown};
 use std::rt::Files;
-use stn_device::{Counted, write_whole};
-use stn_refusal::{Failure, Fault};
+use stn_cause::Cause;
+use stn_refusal::Fault;
 
 // Who may read and write a file until it is given the mode of another one.
 const OWN_MODE: u32 = 0o600;
-
-/// What a call on files answers.
-pub fn of_files<X: Drop>(answer: io::Result<X>) -> Result<X, Failure>
-    ensures { IfErr result (IsLack IsFileFault) }
-{
-    match answer {
-        Ok(value) => Ok(value),
-        Err(_) => Err(Failure::Failed(Fault::File)),
-    }
-}
 
 /// Makes a file where nothing is, not even a link.
 pub fn make_file<T: Files>(rt: &T, path: &str, mode: u32) -> io::Result<T::File> {
@@ -40,18 +31,21 @@ pub fn make_beside<T: Files + AllocGlobal>(
     rt: &T,
     log: &str,
     mode: u32,
-) -> Result<(String, T::File), Failure>
-    ensures { IfErr result (IsLack IsFileFault) }
+) -> Result<(String, T::File), Undone>
+    ensures { IfErr result (λ undone. IsLack IsFileFault undone.failure) }
 {
     for number in 0..u32::MAX {
         let path = format!(in rt.alloc(); "{log}.saving-{number}")?;
         match make_file(rt, path.as_str(), mode) {
             Ok(file) => return Ok((path, file)),
             Err(error) if error.kind() == ErrorKind::AlreadyExists => {}
-            Err(_) => break,
+            Err(error) => {
+                let cause = Cause::from(error);
+                return Err(blame(rt.alloc(), Fault::File, path.as_str(), cause));
+            }
         }
     }
-    Err(Failure::Failed(Fault::File))
+    Err(blame(rt.alloc(), Fault::File, log, Cause::There))
 }
 
 /// Writes a log beside the one that is there, with its mode and, where the system lets it, its owner, and
@@ -61,41 +55,47 @@ pub fn write_beside<T: Files<File = File> + AllocGlobal>(
     log: &str,
     old: Option<&Metadata>,
     text: &[u8],
-) -> Result<String, Failure>
-    ensures { IfErr result (IsLack IsFileFault) }
+) -> Result<String, Undone>
+    ensures { IfErr result (λ undone. IsLack IsFileFault undone.failure) }
 {
     let mode = if old.is_some() { OWN_MODE } else { NEW_MODE };
     let (path, file) = make_beside(rt, log, mode)?;
-    match fill(file, old, text) {
+    match fill(rt.alloc(), path.as_str(), file, old, text) {
         Ok(()) => Ok(path),
-        Err(failure) => {
+        Err(undone) => {
             let _ = fs::remove_file(rt, path.as_str());
-            Err(failure)
+            Err(undone)
         }
     }
 }
 
-// Writes a log into a file.
-fn fill(file: File, old: Option<&Metadata>, text: &[u8]) -> Result<(), Failure>
-    ensures { IfErr result (IsLack IsFileFault) }
+// Writes a log into the file of a path.
+fn fill(
+    alloc: Global,
+    path: &str,
+    file: File,
+    old: Option<&Metadata>,
+    text: &[u8],
+) -> Result<(), Undone>
+    ensures { IfErr result (λ undone. IsLack IsFileFault undone.failure) }
 {
     if let Some(old) = old {
-        of_files(keep(&file, old))?;
+        named(alloc, path, caused(keep(&file, old)))?;
     }
-    let mut writer = Counted::new(file);
-    match write_whole(&mut writer, text) {
-        Ok(()) => force(&writer.into_inner()),
-        Err(_) => Err(Failure::Failed(Fault::Write)),
+    let mut writer = &file;
+    match writer.write_all(text) {
+        Ok(()) => force(alloc, path, &file),
+        Err(error) => Err(blame(alloc, Fault::Write, path, Cause::from(error))),
     }
 }
 
-/// Waits until the device has what was written to a file, or the names of a folder. The log is saved by then.
-pub fn force(file: &File) -> Result<(), Failure>
-    ensures { IfErr result (IsLack IsFileFault) }
+/// Waits until the device has what was written to the file of a path, or the names of a folder. The log is saved by then.
+pub fn force(alloc: Global, path: &str, file: &File) -> Result<(), Undone>
+    ensures { IfErr result (λ undone. IsLack IsFileFault undone.failure) }
 {
     match file.sync_all() {
         Ok(()) => Ok(()),
-        Err(_) => Err(Failure::Failed(Fault::Write)),
+        Err(error) => Err(blame(alloc, Fault::Write, path, Cause::from(error))),
     }
 }
 

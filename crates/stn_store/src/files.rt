@@ -1,17 +1,20 @@
 //! Logs and texts as files.
 
-ghost use Rattle.stn_store.specs.Files.{IsFileFault};
+ghost use Rattle.std.specs.{Prelude.{◌≡◌, Ok, Err, MatchResult, IfOk, IfErr}, String.string_bytes};
+ghost use Rattle.stn_store.specs.{Files.IsFileFault, Store.IsLack};
 
-use crate::beside::of_files;
 use crate::lock::{Lock, can_lock};
 use crate::log::spell_log;
 use crate::place::{Place, resolve};
 use crate::reading::{are_these, read_log, read_text};
 use crate::store::Store;
+use crate::trouble::{Trouble, Undone, Watched, blame, caused, named};
 use std::alloc::Global;
+use std::cell::{Cell, RefCell};
 use std::fs::{self, File};
 use std::io::ErrorKind;
 use std::rt::Files;
+use stn_cause::Cause;
 use stn_records::Site;
 use stn_refusal::{Failure, Fault};
 use stn_site::SitePlan;
@@ -24,23 +27,94 @@ pub struct HeldFile {
     lock: Lock,
 }
 
-/// Files, each under its path.
+/// Files, each under its path, and what of them could not be used last.
 #[derive(Drop)]
 pub struct FileStore<'a, T> {
     rt: &'a T,
+    trouble: RefCell<Option<Trouble>>,
 }
 
 impl<'a, T> FileStore<'a, T> {
     /// The files of a runtime.
     pub fn new(rt: &'a T) -> FileStore<'a, T> {
-        FileStore { rt }
+        FileStore {
+            rt,
+            trouble: RefCell::new(None),
+        }
     }
+
+    // Keeps what can't be used.
+    fn keep(&self, trouble: Option<Trouble>) {
+        let _ = self.trouble.try_replace(trouble);
+    }
+
+    // What was done; where it was not, what can't be used is kept.
+    fn told<X: Drop>(&self, done: Result<X, Undone>) -> Result<X, Failure>
+        ensures { MatchResult done (λ value. result ≡ Ok value) (λ undone. result ≡ Err undone.failure) }
+    {
+        match done {
+            Ok(value) => Ok(value),
+            Err(Undone { failure, trouble }) => {
+                self.keep(trouble);
+                Err(failure)
+            }
+        }
+    }
+}
+
+impl<'a, T: AllocGlobal> FileStore<'a, T> {
+    // What was read of the file of a path; where its read failed, that is kept, and why.
+    fn unless_unread<X: Drop>(
+        &self,
+        path: &str,
+        cause: Option<Cause>,
+        read: Result<X, Failure>,
+    ) -> Result<X, Failure>
+        ensures { result ≡ read }
+    {
+        if let Err(Failure::Failed(Fault::Read)) = &read {
+            let cause = cause.unwrap_or(Cause::Unread);
+            self.keep(Trouble::new(self.rt.alloc(), path, cause).ok());
+        }
+        if let Err(Failure::Failed(Fault::Bound)) = &read {
+            self.keep(Trouble::new(self.rt.alloc(), path, Cause::TooLong).ok());
+        }
+        read
+    }
+}
+
+// Holds the log of a path.
+fn hold_at<T: Files<File = File> + AllocGlobal>(rt: &T, path: &str) -> Result<HeldFile, Undone>
+    ensures named { IfOk result (λ held. string_bytes held.name ≡ path.now) }
+    ensures failed { IfErr result (λ undone. IsLack IsFileFault undone.failure) }
+{
+    let name = String::from_str(rt.alloc(), path)?;
+    let path = resolve(rt, path)?;
+    let lock = Lock::take(rt, path.as_str())?;
+    let place = Place::find(rt, path)?;
+    place.fit(rt, &lock);
+    Ok(HeldFile { name, place, lock })
+}
+
+// Finds out whether the log of a path can be held and saved.
+fn can_save_at<T: Files<File = File> + AllocGlobal>(rt: &T, path: &str) -> Result<(), Undone>
+    ensures { IfErr result (λ undone. IsLack IsFileFault undone.failure) }
+{
+    let path = resolve(rt, path)?;
+    can_lock(rt, path.as_str())?;
+    Place::find(rt, path)?.can_save(rt)
+}
+
+// Opens the file of a path to be read.
+fn open_at<T: Files<File = File> + AllocGlobal>(rt: &T, path: &str) -> Result<File, Undone>
+    ensures { IfErr result (λ undone. IsLack IsFileFault undone.failure) }
+{
+    named(rt.alloc(), path, caused(fs::open(rt, path)))
 }
 
 // What files hold is known to no clause.
 impl<T: Files<File = File> + AllocGlobal> Store<Global> for FileStore<'_, T> {
-    ghost use Rattle.std.specs.Prelude.{None};
-    ghost use Rattle.std.specs.String.{string_bytes};
+    ghost use Rattle.std.specs.{Prelude.None, String.string_bytes};
 
     ghost entries = { λ _. None };
 
@@ -51,18 +125,11 @@ impl<T: Files<File = File> + AllocGlobal> Store<Global> for FileStore<'_, T> {
     ghost held_name = { λ held. string_bytes held.name };
 
     fn hold(&self, path: &str) -> Result<HeldFile, Failure> {
-        let name = String::from_str(self.rt.alloc(), path)?;
-        let path = resolve(self.rt, path)?;
-        let lock = Lock::take(self.rt, path.as_str())?;
-        let place = Place::find(self.rt, path)?;
-        place.fit(self.rt, &lock);
-        Ok(HeldFile { name, place, lock })
+        self.told(hold_at(self.rt, path))
     }
 
     fn can_save(&self, path: &str) -> Result<(), Failure> {
-        let path = resolve(self.rt, path)?;
-        can_lock(self.rt, path.as_str())?;
-        Place::find(self.rt, path)?.can_save(self.rt)
+        self.told(can_save_at(self.rt, path))
     }
 
     // A link is there even where it leads to nothing, and so is what can't be opened.
@@ -71,41 +138,70 @@ impl<T: Files<File = File> + AllocGlobal> Store<Global> for FileStore<'_, T> {
             Ok(_) => Ok(true),
             Err(error) => match error.kind() {
                 ErrorKind::NotFound | ErrorKind::NotADirectory => Ok(false),
-                _ => Err(Failure::Failed(Fault::File)),
+                _ => {
+                    let cause = Cause::from(error);
+                    self.told(Err(blame(self.rt.alloc(), Fault::File, path, cause)))
+                }
             },
         }
     }
 
     fn has(&self, path: &str, bytes: &[u8]) -> Result<bool, Failure> {
-        are_these(of_files(fs::open(self.rt, path))?, bytes)
+        let file = self.told(open_at(self.rt, path))?;
+        let cause = Cell::new(None);
+        let same = are_these(Watched::new(file, &cause), bytes);
+        self.unless_unread(path, cause.get(), same)
     }
 
     fn has_held(&self, held: &HeldFile, bytes: &[u8]) -> Result<bool, Failure> {
-        are_these(held.place.open(self.rt)?, bytes)
+        let file = self.told(held.place.open(self.rt))?;
+        let cause = Cell::new(None);
+        let same = are_these(Watched::new(file, &cause), bytes);
+        self.unless_unread(held.name.as_str(), cause.get(), same)
     }
 
     fn load(&self, path: &str, site: Site) -> Result<SitePlan<Global>, Failure> {
-        read_log(self.rt.alloc(), of_files(fs::open(self.rt, path))?, site)
+        let file = self.told(open_at(self.rt, path))?;
+        let cause = Cell::new(None);
+        let read = read_log(self.rt.alloc(), Watched::new(file, &cause), site);
+        self.unless_unread(path, cause.get(), read)
     }
 
     fn load_held(&self, held: &HeldFile, site: Site) -> Result<SitePlan<Global>, Failure> {
-        read_log(self.rt.alloc(), held.place.open(self.rt)?, site)
+        let file = self.told(held.place.open(self.rt))?;
+        let cause = Cell::new(None);
+        let read = read_log(self.rt.alloc(), Watched::new(file, &cause), site);
+        self.unless_unread(held.name.as_str(), cause.get(), read)
     }
 
     fn text(&self, path: &str) -> Result<Vec<u8>, Failure> {
-        read_text(self.rt.alloc(), of_files(fs::open(self.rt, path))?)
+        let file = self.told(open_at(self.rt, path))?;
+        let cause = Cell::new(None);
+        let text = read_text(self.rt.alloc(), Watched::new(file, &cause));
+        self.unless_unread(path, cause.get(), text)
     }
 
     fn save_new(&mut self, held: &HeldFile, plan: &SitePlan<Global>) -> Result<(), Failure> {
         let text = spell_log(self.rt.alloc(), plan)?;
         let made = held.place.make(self.rt, &text);
         held.place.fit(self.rt, &held.lock);
-        made
+        self.told(made)
     }
 
     fn save(&mut self, held: &HeldFile, plan: &SitePlan<Global>) -> Result<Vec<u8>, Failure> {
         let text = spell_log(self.rt.alloc(), plan)?;
-        held.place.replace(self.rt, &held.lock, &text)?;
+        self.told(held.place.replace(self.rt, &held.lock, &text))?;
         Ok(text)
+    }
+
+    fn trouble(&self) -> Option<Trouble> {
+        match self.trouble.try_take() {
+            Ok(trouble) => trouble,
+            Err(_) => None,
+        }
+    }
+
+    fn note(&self, trouble: Trouble) {
+        self.keep(Some(trouble));
     }
 }

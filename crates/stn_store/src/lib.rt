@@ -6,6 +6,7 @@ pub use log::{LoadFault, load, load_plan, one_log, save, some_log, spell_log};
 pub use memory::MemoryStore;
 pub use merging::{find_same, take_in};
 pub use store::Store;
+pub use trouble::Trouble;
 
 mod beside;
 mod files;
@@ -17,3 +18,4 @@ mod place;
 mod reading;
 mod same;
 mod store;
+mod trouble;

@@ -1,17 +1,17 @@
 //! The lock of a log: an empty file beside it. It is never removed.
 
 ghost use Rattle.std.specs.Prelude.{IfErr};
-ghost use Rattle.stn_store.specs.Store.{IsLack};
-ghost use Rattle.stn_store.specs.Files.{IsFileFault};
+ghost use Rattle.stn_store.specs.{Store.IsLack, Files.IsFileFault};
 
-use crate::beside::{give_owner, make_file, of_files};
+use crate::beside::{give_owner, make_file};
 use crate::place::NEW_MODE;
 use crate::same::has_name;
+use crate::trouble::{Undone, named};
 use std::fs::{self, File, Metadata, OpenOptions, Permissions};
-use std::io::{self, Error, ErrorKind};
+use std::io::{self, ErrorKind};
 use std::os::unix::fs::{MetadataExt, PermissionsExt};
 use std::rt::Files;
-use stn_refusal::Failure;
+use stn_cause::Cause;
 
 // The bits of a mode that say who may read, write and run a file.
 const ALL_BITS: u32 = 0o777;
@@ -33,35 +33,41 @@ fn mode_at<T: Files>(rt: &T, log: &str) -> u32 {
 }
 
 // Opens an empty file. What is no file, or isn't empty, is left alone.
-fn open_empty<T: Files>(rt: &T, path: &str) -> io::Result<T::File> {
+fn open_empty<T: Files>(rt: &T, path: &str) -> Result<T::File, Cause> {
     let found = fs::symlink_metadata(rt, path)?;
-    if !found.is_file() || found.len() != 0 {
-        return Err(Error::from(ErrorKind::AlreadyExists));
+    if found.is_dir() {
+        return Err(Cause::Folder);
+    }
+    if !found.is_file() {
+        return Err(Cause::NotFile);
+    }
+    if found.len() != 0 {
+        return Err(Cause::NotEmpty);
     }
     let mut options = OpenOptions::new();
     options.read(true);
     options.write(true);
     match options.open(rt, path) {
-        Err(error) if error.kind() == ErrorKind::PermissionDenied => fs::open(rt, path),
-        opened => opened,
+        Err(error) if error.kind() == ErrorKind::PermissionDenied => Ok(fs::open(rt, path)?),
+        opened => Ok(opened?),
     }
 }
 
 // Opens a lock, which is made where there is none; None where it was removed meanwhile.
-fn open_lock<T: Files>(rt: &T, path: &str, mode: u32) -> io::Result<Option<T::File>> {
+fn open_lock<T: Files>(rt: &T, path: &str, mode: u32) -> Result<Option<T::File>, Cause> {
     match make_file(rt, path, mode) {
         Ok(made) => Ok(Some(made)),
         Err(error) if error.kind() == ErrorKind::AlreadyExists => match open_empty(rt, path) {
             Ok(lock) => Ok(Some(lock)),
-            Err(error) if error.kind() == ErrorKind::NotFound => Ok(None),
-            Err(error) => Err(error),
+            Err(Cause::Missing) => Ok(None),
+            Err(cause) => Err(cause),
         },
-        Err(error) => Err(error),
+        Err(error) => Err(Cause::from(error)),
     }
 }
 
 // Waits for the lock of a path. One whose name was removed while this waited keeps nobody out: the next is taken.
-fn wait_for<T: Files<File = File>>(rt: &T, path: &str, mode: u32) -> io::Result<File> {
+fn wait_for<T: Files<File = File>>(rt: &T, path: &str, mode: u32) -> Result<File, Cause> {
     for _ in 0..u32::MAX {
         if let Some(lock) = open_lock(rt, path, mode)? {
             lock.lock()?;
@@ -70,15 +76,16 @@ fn wait_for<T: Files<File = File>>(rt: &T, path: &str, mode: u32) -> io::Result<
             }
         }
     }
-    Err(Error::from(ErrorKind::TimedOut))
+    Err(Cause::Late)
 }
 
 /// Finds out whether a log can be held, and waits for nobody.
-pub fn can_lock<T: Files<File = File> + AllocGlobal>(rt: &T, log: &str) -> Result<(), Failure>
-    ensures { IfErr result (IsLack IsFileFault) }
+pub fn can_lock<T: Files<File = File> + AllocGlobal>(rt: &T, log: &str) -> Result<(), Undone>
+    ensures { IfErr result (λ undone. IsLack IsFileFault undone.failure) }
 {
     let path = format!(in rt.alloc(); "{log}.lock")?;
-    let _lock = of_files(open_lock(rt, path.as_str(), mode_at(rt, log)))?;
+    let lock = open_lock(rt, path.as_str(), mode_at(rt, log));
+    let _lock = named(rt.alloc(), path.as_str(), lock)?;
     Ok(())
 }
 
@@ -91,11 +98,12 @@ pub struct Lock {
 
 impl Lock {
     /// Waits until no other program holds a log, and holds it.
-    pub fn take<T: Files<File = File> + AllocGlobal>(rt: &T, log: &str) -> Result<Lock, Failure>
-        ensures { IfErr result (IsLack IsFileFault) }
+    pub fn take<T: Files<File = File> + AllocGlobal>(rt: &T, log: &str) -> Result<Lock, Undone>
+        ensures { IfErr result (λ undone. IsLack IsFileFault undone.failure) }
     {
         let path = format!(in rt.alloc(); "{log}.lock")?;
-        let file = of_files(wait_for(rt, path.as_str(), mode_at(rt, log)))?;
+        let lock = wait_for(rt, path.as_str(), mode_at(rt, log));
+        let file = named(rt.alloc(), path.as_str(), lock)?;
         Ok(Lock { path, file })
     }
 

@@ -1,12 +1,12 @@
 //! Logs and texts in memory.
 
 ghost use Rattle.std.specs.Prelude.{◌≡◌, ◌++◌, [], ◌∷◌, option_map, OnOk, OnErr};
-ghost use Rattle.stn_store.specs.Store.{bytes_under};
-ghost use Rattle.stn_store.specs.Memory.{entries_of};
+ghost use Rattle.stn_store.specs.{Store.bytes_under, Memory.entries_of};
 
 use crate::log::spell_log;
 use crate::reading::{read_log, read_text};
 use crate::store::Store;
+use crate::trouble::Trouble;
 use std::alloc::Allocator;
 use stn_records::Site;
 use stn_refusal::{Code, Failure, Fault};
@@ -69,8 +69,7 @@ impl<A: Allocator + Copy> MemoryStore<A> {
 }
 
 impl<A: Allocator + Copy> Store<A> for MemoryStore<A> {
-    ghost use Rattle.std.specs.Prelude.{Some};
-    ghost use Rattle.std.specs.String.{string_bytes};
+    ghost use Rattle.std.specs.{Prelude.Some, String.string_bytes};
     ghost use Rattle.stn_refusal.specs.declared.failure.Fault.TheVariants.{Read};
 
     ghost entries = { λ store. Some (entries_of store) };
@@ -138,4 +137,11 @@ impl<A: Allocator + Copy> Store<A> for MemoryStore<A> {
         self.put(held.name.as_str(), text.clone()?)?;
         Ok(text)
     }
+
+    // It keeps nothing of what fails.
+    fn trouble(&self) -> Option<Trouble> {
+        None
+    }
+
+    fn note(&self, _trouble: Trouble) {}
 }

@@ -1,28 +1,27 @@
 //! What one site's copy of a plan takes in of another.
 
 ghost use Rattle.std.specs.Prelude.{◌≡◌, ◌≢◌, None, OnOk, OnErr, IfErr, MatchResult};
-ghost use Rattle.stn_site.specs.Calls.{took, Leaves};
-ghost use Rattle.stn_site.specs.Refusals.{take_refusal};
+ghost use Rattle.stn_site.specs.{Calls.{took, Leaves}, Refusals.take_refusal};
 ghost use Rattle.stn_store.specs.Merging.{other_plan, IsMergeFailure};
 
 use std::alloc::Allocator;
 use stn_lift::Base;
 use stn_refusal::{Code, Failure};
-use stn_site::SitePlan;
+use stn_site::{SiteCopy, SitePlan};
 
 /// Takes all that another copy of the same plan holds. A refusal changes nothing.
-pub fn take_in<A: Allocator + Copy>(
-    plan: &mut SitePlan<A>,
+pub fn take_in<A: Allocator + Copy, C: SiteCopy<A>>(
+    copy: &mut C,
     other: &SitePlan<A>,
 ) -> Result<(), Failure>
-    ensures same { OnOk result (plan.old.source ≡ other.now.source) }
-    ensures left { OnOk result (Leaves plan.old (took other.now.state) plan.new) }
-    ensures accepted { OnOk result (take_refusal plan.old other.now.state ≡ None) }
-    ensures refused { IfErr result (IsMergeFailure plan.old other.now) }
-    ensures kept { OnErr result (plan.new ≡ plan.old) }
+    ensures same { OnOk result ((C.held copy.old).source ≡ other.now.source) }
+    ensures left { OnOk result (Leaves (C.held copy.old) (took other.now.state) (C.held copy.new)) }
+    ensures accepted { OnOk result (take_refusal (C.held copy.old) other.now.state ≡ None) }
+    ensures refused { IfErr result (IsMergeFailure (C.held copy.old) other.now) }
+    ensures kept { OnErr result (copy.new ≡ copy.old) }
 {
-    find_same(plan.base(), other.base())?;
-    plan.take(other.records())?;
+    find_same(copy.plan().base(), other.base())?;
+    copy.take(other.records())?;
     Ok(())
 }
 

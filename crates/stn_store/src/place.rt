@@ -1,18 +1,18 @@
 //! The file of a log: where it is, and how it is replaced.
 
 ghost use Rattle.std.specs.Prelude.{◌≡◌, ◌⊎◌, IfErr};
-ghost use Rattle.stn_store.specs.Store.{log_there};
-ghost use Rattle.stn_store.specs.Store.{IsLack};
-ghost use Rattle.stn_store.specs.Files.{IsFileFault};
+ghost use Rattle.stn_store.specs.{Store.{log_there, IsLack}, Files.IsFileFault};
 
-use crate::beside::{force, make_beside, of_files, write_beside};
+use crate::beside::{force, make_beside, write_beside};
 use crate::lock::Lock;
 use crate::same::{has_name, is_free};
+use crate::trouble::{Undone, blame, caused, named};
 use std::fs::{self, File, Metadata, OpenOptions};
-use std::io::{self, Error, ErrorKind};
+use std::io::{self, ErrorKind};
 use std::os::unix::fs::MetadataExt;
 use std::path::Path;
 use std::rt::Files;
+use stn_cause::Cause;
 use stn_refusal::{Code, Failure, Fault};
 
 /// Who may read and write a new log; the system takes away what the umask says.
@@ -26,58 +26,72 @@ pub struct Place {
 }
 
 /// The path that a name leads to by now. It is no link.
-pub fn resolve<T: Files + AllocGlobal>(rt: &T, name: &str) -> Result<String, Failure>
-    ensures { IfErr result (IsLack IsFileFault) }
+pub fn resolve<T: Files + AllocGlobal>(rt: &T, name: &str) -> Result<String, Undone>
+    ensures { IfErr result (λ undone. IsLack IsFileFault undone.failure) }
 {
     match fs::symlink_metadata(rt, name) {
         Ok(found) if found.is_symlink() => {
-            Ok(of_files(fs::canonicalize(rt, name))?.into_string())
+            let found = named(rt.alloc(), name, caused(fs::canonicalize(rt, name)))?;
+            Ok(found.into_string())
         }
         Ok(_) => Ok(String::from_str(rt.alloc(), name)?),
         Err(error) if error.kind() == ErrorKind::NotFound && !name.is_empty() => {
             Ok(String::from_str(rt.alloc(), name)?)
         }
-        Err(_) => Err(Failure::Failed(Fault::File)),
+        Err(error) => Err(blame(rt.alloc(), Fault::File, name, Cause::from(error))),
     }
 }
 
-// Whether a save may put another file in place of what was found: a file that may be written, and has no other name.
-fn may_replace(found: &Metadata) -> bool {
-    found.is_file() && found.nlink() == 1 && !found.permissions().readonly()
+// What keeps a save from putting another file in place of what was found: it is no file, has another name, or may not be written.
+fn unfit(found: &Metadata) -> Option<Cause> {
+    if found.is_dir() {
+        Some(Cause::Folder)
+    } else if !found.is_file() {
+        Some(Cause::NotFile)
+    } else if found.nlink() != 1 {
+        Some(Cause::OtherName)
+    } else if found.permissions().readonly() {
+        Some(Cause::Forbidden)
+    } else {
+        None
+    }
 }
 
 // Opens a log to be written. What is no such file is left alone.
-fn open_log<T: Files>(rt: &T, path: &str) -> io::Result<T::File> {
-    if !may_replace(&fs::symlink_metadata(rt, path)?) {
-        return Err(Error::from(ErrorKind::PermissionDenied));
+fn open_log<T: Files>(rt: &T, path: &str) -> Result<T::File, Cause> {
+    if let Some(cause) = unfit(&fs::symlink_metadata(rt, path)?) {
+        return Err(cause);
     }
     let mut options = OpenOptions::new();
     options.write(true);
-    options.open(rt, path)
+    Ok(options.open(rt, path)?)
 }
 
 impl Place {
     /// The place of a path that is no link. A log that is there and may not be replaced is a fault: one that is no file, has another
     /// name, or may not be written.
-    pub fn find<T: Files<File = File>>(rt: &T, path: String) -> Result<Place, Failure>
-        ensures { IfErr result (IsLack IsFileFault) }
+    pub fn find<T: Files<File = File> + AllocGlobal>(rt: &T, path: String) -> Result<Place, Undone>
+        ensures { IfErr result (λ undone. IsLack IsFileFault undone.failure) }
     {
         match open_log(rt, path.as_str()) {
             Ok(log) => Ok(Place {
                 path,
                 log: Some(log),
             }),
-            Err(error) if error.kind() == ErrorKind::NotFound => Ok(Place { path, log: None }),
-            Err(_) => Err(Failure::Failed(Fault::File)),
+            Err(Cause::Missing) => Ok(Place { path, log: None }),
+            Err(cause) => Err(blame(rt.alloc(), Fault::File, path.as_str(), cause)),
         }
     }
 
     // What the system says of the log that was found.
-    fn found(&self) -> Result<Option<Metadata>, Failure>
-        ensures { IfErr result (IsLack IsFileFault) }
+    fn found<T: AllocGlobal>(&self, rt: &T) -> Result<Option<Metadata>, Undone>
+        ensures { IfErr result (λ undone. IsLack IsFileFault undone.failure) }
     {
         match &self.log {
-            Some(log) => Ok(Some(of_files(log.metadata())?)),
+            Some(log) => {
+                let found = named(rt.alloc(), self.path.as_str(), caused(log.metadata()))?;
+                Ok(Some(found))
+            }
             None => Ok(None),
         }
     }
@@ -90,13 +104,14 @@ impl Place {
     }
 
     /// Opens the log to be read.
-    pub fn open<T: Files<File = File>>(&self, rt: &T) -> Result<File, Failure>
-        ensures { IfErr result (IsLack IsFileFault) }
+    pub fn open<T: Files<File = File> + AllocGlobal>(&self, rt: &T) -> Result<File, Undone>
+        ensures { IfErr result (λ undone. IsLack IsFileFault undone.failure) }
     {
-        if of_files(self.stands(rt))? {
-            of_files(fs::open(rt, self.path.as_str()))
+        let path = self.path.as_str();
+        if named(rt.alloc(), path, caused(self.stands(rt)))? {
+            named(rt.alloc(), path, caused(fs::open(rt, path)))
         } else {
-            Err(Failure::Failed(Fault::File))
+            Err(blame(rt.alloc(), Fault::File, path, Cause::Changed))
         }
     }
 
@@ -109,13 +124,17 @@ impl Place {
     }
 
     /// Finds out whether the log can be written beside: a file is made there, and removed.
-    pub fn can_save<T: Files<File = File> + AllocGlobal>(&self, rt: &T) -> Result<(), Failure>
-        ensures { IfErr result (IsLack IsFileFault) }
+    pub fn can_save<T: Files<File = File> + AllocGlobal>(&self, rt: &T) -> Result<(), Undone>
+        ensures { IfErr result (λ undone. IsLack IsFileFault undone.failure) }
     {
         let folder = self.open_folder(rt)?;
-        of_files(folder.sync_all())?;
+        named(rt.alloc(), self.folder(), caused(folder.sync_all()))?;
         let (path, _file) = make_beside(rt, self.path.as_str(), NEW_MODE)?;
-        of_files(fs::remove_file(rt, path.as_str()))
+        named(
+            rt.alloc(),
+            path.as_str(),
+            caused(fs::remove_file(rt, path.as_str())),
+        )
     }
 
     /// Saves a log where nothing is. Where only the last force of its folder fails, that is the answer, though the log stands there.
@@ -123,20 +142,24 @@ impl Place {
         &self,
         rt: &T,
         text: &[u8],
-    ) -> Result<(), Failure>
-        ensures { IfErr result (λ failure. (failure ≡ log_there) ⊎ IsLack IsFileFault failure) }
+    ) -> Result<(), Undone>
+        ensures { IfErr result (λ undone. (undone.failure ≡ log_there) ⊎ IsLack IsFileFault undone.failure) }
     {
         let folder = self.open_folder(rt)?;
-        of_files(folder.sync_all())?;
+        named(rt.alloc(), self.folder(), caused(folder.sync_all()))?;
         let beside = write_beside(rt, self.path.as_str(), None, text)?;
         let linked = fs::hard_link(rt, beside.as_str(), self.path.as_str());
         let _ = fs::remove_file(rt, beside.as_str());
         match linked {
-            Ok(()) => force(&folder),
-            Err(error) if error.kind() == ErrorKind::AlreadyExists => Err(Failure::refused(
-                Code::LogThere,
-            )),
-            Err(_) => Err(Failure::Failed(Fault::File)),
+            Ok(()) => force(rt.alloc(), self.folder(), &folder),
+            Err(error) if error.kind() == ErrorKind::AlreadyExists => Err(Undone {
+                failure: Failure::refused(Code::LogThere),
+                trouble: None,
+            }),
+            Err(error) => {
+                let cause = Cause::from(error);
+                Err(blame(rt.alloc(), Fault::File, self.path.as_str(), cause))
+            }
         }
     }
 
@@ -147,17 +170,17 @@ impl Place {
         rt: &T,
         lock: &Lock,
         text: &[u8],
-    ) -> Result<(), Failure>
-        ensures { IfErr result (IsLack IsFileFault) }
+    ) -> Result<(), Undone>
+        ensures { IfErr result (λ undone. IsLack IsFileFault undone.failure) }
     {
         let folder = self.open_folder(rt)?;
-        let found = self.found()?;
+        let found = self.found(rt)?;
         let beside = write_beside(rt, self.path.as_str(), found.as_ref(), text)?;
         match self.take_name(rt, lock, &folder, beside.as_str()) {
-            Ok(()) => force(&folder),
-            Err(_) => {
+            Ok(()) => force(rt.alloc(), self.folder(), &folder),
+            Err(cause) => {
                 let _ = fs::remove_file(rt, beside.as_str());
-                Err(Failure::Failed(Fault::File))
+                Err(blame(rt.alloc(), Fault::File, self.path.as_str(), cause))
             }
         }
     }
@@ -170,22 +193,30 @@ impl Place {
         lock: &Lock,
         folder: &File,
         beside: &str,
-    ) -> io::Result<()> {
+    ) -> Result<(), Cause> {
         folder.sync_all()?;
         if !lock.holds(rt)? || !self.stands(rt)? {
-            return Err(Error::from(ErrorKind::ResourceBusy));
+            return Err(Cause::Changed);
         }
-        fs::rename(rt, beside, self.path.as_str())
+        Ok(fs::rename(rt, beside, self.path.as_str())?)
     }
 
-    // The folder of the log.
-    fn open_folder<T: Files<File = File>>(&self, rt: &T) -> Result<File, Failure>
-        ensures { IfErr result (IsLack IsFileFault) }
-    {
-        let folder = match Path::new(self.path.as_str()).parent() {
+    // The path of the log's folder.
+    fn folder(&self) -> &str {
+        match Path::new(self.path.as_str()).parent() {
             Some(folder) if !folder.as_str().is_empty() => folder.as_str(),
             _ => ".",
-        };
-        of_files(fs::open(rt, folder))
+        }
+    }
+
+    // Opens the folder of the log.
+    fn open_folder<T: Files<File = File> + AllocGlobal>(&self, rt: &T) -> Result<File, Undone>
+        ensures { IfErr result (λ undone. IsLack IsFileFault undone.failure) }
+    {
+        named(
+            rt.alloc(),
+            self.folder(),
+            caused(fs::open(rt, self.folder())),
+        )
     }
 }

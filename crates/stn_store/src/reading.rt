@@ -1,10 +1,7 @@
 //! Logs and texts by their bytes.
 
 ghost use Rattle.std.specs.Prelude.{◌≡◌, ◌⊎◌, Ok, Err, None, IfOk, IfErr};
-ghost use Rattle.stn_store.specs.Log.{log_held};
-ghost use Rattle.stn_store.specs.declared.log.fault.LoadFault.{LoadFault as LoadFaultView};
-ghost use Rattle.stn_store.specs.Log.Failures.{load_failure};
-ghost use Rattle.stn_store.specs.Bytes.{IsLogIn, IsTextIn, AreTheseIn};
+ghost use Rattle.stn_store.specs.{Log.{log_held, Failures.load_failure}, declared.log.fault.LoadFault.LoadFault as LoadFaultView, Bytes.{IsLogIn, IsTextIn, AreTheseIn}};
 ghost use Rattle.stn_refusal.specs.declared.failure.Failure.TheVariants.{Failed};
 ghost use Rattle.stn_refusal.specs.declared.failure.Fault.TheVariants as lack;
 

@@ -1,10 +1,10 @@
 //! Where commands find logs and texts, and leave logs.
 
 ghost use Rattle.std.specs.Prelude.{◌≡◌, ◌⊎◌, ℕ, false, List, Option, Ok, OnOk, OnErr, IfOk, IfErr};
-ghost use Rattle.stn_store.specs.Log.{log_held, IsLog};
-ghost use Rattle.stn_store.specs.Store.{Entry, IsThere, Has, Opens, IsUnopened, Spells, IsMissing, IsTaken, IsLack, saved_too};
+ghost use Rattle.stn_store.specs.{Log.{log_held, IsLog}, Store.{Entry, IsThere, Has, Opens, IsUnopened, Spells, IsMissing, IsTaken, IsLack, saved_too}};
 ghost use Rattle.stn_refusal.specs.declared.failure.Fault.{Fault};
 
+use crate::trouble::Trouble;
 use std::alloc::Allocator;
 use stn_records::Site;
 use stn_refusal::Failure;
@@ -78,4 +78,10 @@ pub trait Store<A: Allocator + Copy> {
         ensures saved { OnOk result (entries self.new ≡ saved_too (entries self.old) (held_name held.now) (log_held plan.now)) }
         ensures kept { OnErr result (entries self.new ≡ entries self.old) }
         ensures failed { IfErr result (IsLack fails) };
+
+    /// What can't be used, where the last call that failed knows it. It is given out once.
+    fn trouble(&self) -> Option<Trouble>;
+
+    /// Keeps for `trouble` what can't be used beside the store, as an address.
+    fn note(&self, trouble: Trouble);
 }

@@ -1,13 +1,11 @@
 -- Which fault an answer is, and what it counts.
-use Rattle.std.proofs.Common.{◌≡◌, Bool, true, false, Result, Err, refl, sym, ap, ◌∙◌}
-use Rattle.std.proofs.lemmas.Bool.{false≢true}
+use Rattle.std.proofs.{Common.{◌≡◌, Bool, true, false, Result, Err, refl, sym, ap, ◌∙◌}, lemmas.Bool.false≢true}
 use Rattle.stn_device.proofs.Known.{fault_or}
 use Rattle.stn_lift.specs.declared.fault.BaseFault.{BaseFault}
 use Rattle.stn_lift.specs.declared.fault.BaseFault.TheVariants as base
 use Rattle.stn_site.specs.declared.faults.ReplicaFault.{ReplicaFault}
 use Rattle.stn_site.specs.declared.faults.ReplicaFault.TheVariants as replica
-use Rattle.stn_store.specs.{Log.Faults.of_base, Log.Faults.of_replica, declared.log.fault.LoadFault.LoadFault}
-use Rattle.stn_store.specs.declared.log.fault.LoadFault.TheVariants.{Read, Bound}
+use Rattle.stn_store.specs.{Log.Faults.{of_base, of_replica}, declared.log.fault.LoadFault.{LoadFault, TheVariants.{Read, Bound}}}
 
 -- whether reading failed or went on too long, and no frame was refused
 abbrev pub is_cut_off : LoadFault → Bool

@@ -1,12 +1,7 @@
 -- Bytes have one meaning as a log.
-use Rattle.std.proofs.Common.{◌≡◌, ℕ, Bool, List, [], ◌∷◌, ◌++◌, length, Option, Some, Result, Ok, Err, inl, refl, sym, ap, subst, ◌∙◌, ⊎_elim, arith, append_assoc}
-use Rattle.std.specs.{Prelude.option_map, List.flat_map, List.AllByRecursion}
-use Rattle.std.proofs.lemmas.Bool.{false≢true}
-use Rattle.std.proofs.lemmas.Option.{same_Some, none-some}
-use Rattle.stn_wire.specs.{Frame.FrameContent, Frame.spelling, Frame.IsFrame, Front.Front, Front.whole, Front.faulty, Front.unfinished, Front.IsFront, declared.fault.WireFault.WireFault}
-use Rattle.stn_wire.proofs.Fronts.{whole_spelled}
-use Rattle.stn_store.specs.{Log.Log, Log.LogSoFar, Log.taken, Log.all_taken, Log.all_taken_by, Log.IsEnding, Log.IsAnswer, Log.IsRest, declared.log.fault.LoadFault.LoadFault}
-use Rattle.stn_store.specs.declared.log.fault.LoadFault.TheVariants.{Read, Bound, Frame, LogForm, Base, Take, Memory}
+use Rattle.std.{proofs.{Common.{◌≡◌, ℕ, Bool, List, [], ◌∷◌, ◌++◌, length, Option, Some, Result, Ok, Err, inl, refl, sym, ap, subst, ◌∙◌, ⊎_elim, arith, append_assoc}, lemmas.{Bool.false≢true, Option.{same_Some, none-some}}}, specs.{Prelude.option_map, List.{flat_map, AllByRecursion}}}
+use Rattle.stn_wire.{specs.{Frame.{FrameContent, spelling, IsFrame}, Front.{Front, whole, faulty, unfinished, IsFront}, declared.fault.WireFault.WireFault}, proofs.Fronts.whole_spelled}
+use Rattle.stn_store.specs.{Log.{Log, LogSoFar, taken, all_taken, all_taken_by, IsEnding, IsAnswer, IsRest}, declared.log.fault.LoadFault.{LoadFault, TheVariants.{Read, Bound, Frame, LogForm, Base, Take, Memory}}}
 
 not_unfinished : (frame : FrameContent) (n : ℕ) → whole frame n ≡ unfinished → ⊥
 not_unfinished frame n e = absurd cc

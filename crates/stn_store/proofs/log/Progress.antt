@@ -1,16 +1,10 @@
 -- A log that is read frame by frame.
-use Rattle.std.proofs.Common.{◌≡◌, ℕ, ◌+◌, ◌-◌, ◌<◌, ◌≤◌, Bool, true, false, List, [], ◌∷◌, ◌++◌, length, take, Option, Some, None, Result, Ok, Err, IfSome, inl, inr, refl, sym, ap, subst, ◌∙◌, arith, append_assoc, append-nil, length-append}
-use Rattle.std.specs.{Prelude.nat_lt, Prelude.is_some, Prelude.option_map, Io.KnownBytes.Consumes, Io.KnownBytes.IsAtEnd, List.flat_map, List.AllByRecursion}
-use Rattle.std.proofs.{KnownBytes.Consumes-nil, KnownBytes.Consumes-trans, Math.Seq.take-append-add, lemmas.List.take_all, lemmas.List.take_at, lemmas.Bool.false≢true, lemmas.Bool.le-ltb, lemmas.Bool.lt-ltb, lemmas.Grind.flat_map-append}
-use Rattle.stn_device.specs.Bytes.{most_bytes, ConsumesAtMost}
+use Rattle.std.{proofs.{Common.{◌≡◌, ℕ, ◌+◌, ◌-◌, ◌<◌, ◌≤◌, Bool, true, false, List, [], ◌∷◌, ◌++◌, length, take, Option, Some, None, Result, Ok, Err, IfSome, inl, inr, refl, sym, ap, subst, ◌∙◌, arith, append_assoc, append-nil, length-append}, KnownBytes.{Consumes-nil, Consumes-trans}, Math.Seq.take-append-add, lemmas.{List.{take_all, take_at}, Bool.{false≢true, le-ltb, lt-ltb}, Grind.flat_map-append}}, specs.{Prelude.{nat_lt, is_some, option_map}, Io.KnownBytes.{Consumes, IsAtEnd}, List.{flat_map, AllByRecursion}}}
+use Rattle.stn_device.specs.{Bytes.{most_bytes, ConsumesAtMost}, declared.whole.ReadFault.ReadFault}
 use Rattle.stn_time.proofs.Each.{each_pushed}
-use Rattle.stn_device.specs.declared.whole.ReadFault.{ReadFault}
-use Rattle.stn_wire.specs.{Frame.FrameContent, Frame.spelling, Frame.IsFrame, Front.IsFront, Front.faulty, Front.unfinished, declared.fault.WireFault.WireFault, Stream.IsNext, Stream.IsCounted, Stream.Held.Stream}
-use Rattle.stn_wire.proofs.Fronts.{fault_more}
+use Rattle.stn_wire.{specs.{Frame.{FrameContent, spelling, IsFrame}, Front.{IsFront, faulty, unfinished}, declared.fault.WireFault.WireFault, Stream.{IsNext, IsCounted, Held.Stream}}, proofs.Fronts.fault_more}
 use Rattle.stn_device.specs.declared.whole.ReadFault.TheVariants as stream
-use Rattle.stn_store.specs.{Log.Faults.of_stream, Log.Opening.opened_so_far, Log.Opening.closed_log, Log.Opening.IsRefused, declared.log.reading.Opened.Opened, declared.log.fault.LoadFault.LoadFault}
-use Rattle.stn_store.specs.Log.{Log, LogSoFar, log_held, taken, all_taken, all_taken_by, meaning_of, IsEnding, IsAnswer, IsRest, IsDecided, IsOpen}
-use Rattle.stn_store.specs.declared.log.fault.LoadFault.TheVariants.{Read, Bound, Frame, LogForm, Base, Take, Memory}
+use Rattle.stn_store.specs.{Log.{Log, LogSoFar, log_held, taken, all_taken, all_taken_by, meaning_of, IsEnding, IsAnswer, IsRest, IsDecided, IsOpen, Faults.of_stream, Opening.{opened_so_far, closed_log, IsRefused}}, declared.log.{reading.Opened.Opened, fault.LoadFault.{LoadFault, TheVariants.{Read, Bound, Frame, LogForm, Base, Take, Memory}}}}
 
 -- a read that failed
 pub stream_read : (fault : ReadFault) → of_stream fault ≡ Read → fault ≡ stream.Read

@@ -1,19 +1,12 @@
 -- What is saved says what a site holds.
-use Rattle.std.proofs.Common.{◌≡◌, ℕ, ◌+◌, ◌≤◌, Bool, false, List, [], ◌∷◌, ◌++◌, length, Option, Some, None, Result, Ok, refl, sym, ap, subst, ◌∙◌, arith, append-nil, length-append}
-use Rattle.std.specs.{Prelude.map, Prelude.nat_lt, Prelude.find, Bool.then_some, Set.distinct_count, FinMap.FinMap, FinMap.entries-from_sorted}
-use Rattle.stn_records.specs.{Record.same_records, Id.SiteCounter, Id.id_cmp, Id.lesser_of, declared.record.Record.Record, Maps.differ, Maps.dispute, Maps.with_entries}
+use Rattle.std.{proofs.{Common.{◌≡◌, ℕ, ◌+◌, ◌≤◌, Bool, false, List, [], ◌∷◌, ◌++◌, length, Option, Some, None, Result, Ok, refl, sym, ap, subst, ◌∙◌, arith, append-nil, length-append}, lemmas.{List.take_all, Bool.le-ltb}}, specs.{Prelude.{map, nat_lt, find}, Bool.then_some, Set.distinct_count, FinMap.{FinMap, entries-from_sorted}}}
+use Rattle.stn_records.{specs.{Record.same_records, Id.{SiteCounter, id_cmp, lesser_of}, declared.record.Record.Record, Maps.{differ, dispute, with_entries}, Content.{most_known, Content, same_ids, with_ids, replaced_ids, known_ids, known_count, known_in_either, no_content, dispute_contents, joined_contents, IsSound}}, proofs.Places.nothing_sorted}
 use Rattle.std.specs.FinMap as fin
-use Rattle.std.proofs.{lemmas.List.take_all, lemmas.Bool.le-ltb}
 use Rattle.stn_device.specs.Bytes.{most_bytes}
 use Rattle.stn_lift.specs.PlanSource.{PlanSource, events_of, base_of}
-use Rattle.stn_records.specs.Content.{most_known, Content, same_ids, with_ids, replaced_ids, known_ids, known_count, known_in_either, no_content, dispute_contents, joined_contents, IsSound}
-use Rattle.stn_records.proofs.Places.{nothing_sorted}
-use Rattle.stn_site.specs.{Bounds.RecordsName, Held.Held, Held.holding_state, Refusals.take_refusal, declared.faults.ReplicaFault.ReplicaFault, declared.faults.ReplicaFault.TheVariants.Full}
-use Rattle.stn_site.proofs.Refused.{agreed_take}
-use Rattle.stn_wire.specs.Spelling.{four}
-use Rattle.stn_wire.specs.Frame.{FrameContent, hello, records, body_of, spelling, IsFrame}
-use Rattle.stn_store.specs.Log.{Log, LogSoFar, log_held, so_far, log_text, opened, joined, taken, all_taken, all_taken_by, IsAnswer, IsLog}
-use Rattle.stn_store.specs.{declared.log.version.Version.TheVariants.New, declared.log.fault.LoadFault.LoadFault}
+use Rattle.stn_site.{specs.{Bounds.RecordsName, Held.{Held, holding_state}, Refusals.take_refusal, declared.faults.ReplicaFault.{ReplicaFault, TheVariants.Full}}, proofs.Refused.agreed_take}
+use Rattle.stn_wire.specs.{Spelling.four, Frame.{FrameContent, hello, records, body_of, spelling, IsFrame}}
+use Rattle.stn_store.specs.{Log.{Log, LogSoFar, log_held, so_far, log_text, opened, joined, taken, all_taken, all_taken_by, IsAnswer, IsLog}, declared.log.{version.Version.TheVariants.New, fault.LoadFault.LoadFault}}
 
 -- a log doesn't say by how much work it came
 pub same_log : (one other : Held) → other.source ≡ one.source → other.state ≡ one.state → log_held other ≡ log_held one

@@ -1,10 +1,7 @@
 -- Bytes that are cut into frames and a rest have a meaning as a log.
-use Rattle.std.proofs.Common.{◌≡◌, ℕ, Bool, true, false, List, [], ◌∷◌, length, Option, Some, None, Result, Ok, Err, ◌⊎◌, inl, inr, refl, arith}
-use Rattle.std.specs.Prelude.{option_map}
-use Rattle.stn_wire.specs.{Frame.FrameContent, Front.faulty, Front.unfinished, Front.IsFront, declared.fault.WireFault.WireFault}
-use Rattle.stn_wire.proofs.{Fronts.ShowsNone, Cuts.IsCut}
-use Rattle.stn_store.specs.{Log.Log, Log.LogSoFar, Log.all_taken, Log.IsEnding, Log.IsAnswer, Log.IsRest, declared.log.fault.LoadFault.LoadFault}
-use Rattle.stn_store.specs.declared.log.fault.LoadFault.TheVariants.{Bound, Frame, LogForm}
+use Rattle.std.{proofs.Common.{◌≡◌, ℕ, Bool, true, false, List, [], ◌∷◌, length, Option, Some, None, Result, Ok, Err, ◌⊎◌, inl, inr, refl, arith}, specs.Prelude.option_map}
+use Rattle.stn_wire.{specs.{Frame.FrameContent, Front.{faulty, unfinished, IsFront}, declared.fault.WireFault.WireFault}, proofs.{Fronts.ShowsNone, Cuts.IsCut}}
+use Rattle.stn_store.specs.{Log.{Log, LogSoFar, all_taken, IsEnding, IsAnswer, IsRest}, declared.log.fault.LoadFault.{LoadFault, TheVariants.{Bound, Frame, LogForm}}}
 
 -- what is answered where all frames were taken
 ending : (more : Bool) (log : Option LogSoFar) (rest : List ℕ) → ShowsNone rest → (meaning : Result Log LoadFault) × IsEnding more rest log meaning

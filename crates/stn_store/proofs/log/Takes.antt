@@ -1,15 +1,12 @@
 -- What a log makes of a frame, from what a base and a replica answer.
-use Rattle.std.proofs.Common.{◌≡◌, true, not, Option, Some, None, Ok, refl, sym, ap, subst, ◌∙◌}
-use Rattle.std.specs.Prelude.{unwrap_or, is_some}
-use Rattle.std.proofs.lemmas.Bool.{false≢true}
-use Rattle.std.proofs.lemmas.Option.{same_Some}
+use Rattle.std.{proofs.{Common.{◌≡◌, true, not, Option, Some, None, Ok, refl, sym, ap, subst, ◌∙◌}, lemmas.{Bool.false≢true, Option.same_Some}}, specs.Prelude.{unwrap_or, is_some}}
 use Rattle.stn_text.specs.Faults.{Fails}
-use Rattle.stn_lift.specs.{PlanSource.PlanSource, PlanSource.base_of, PlanSource.is_memory, declared.fault.BaseFault.BaseFault}
+use Rattle.stn_lift.specs.{PlanSource.{PlanSource, base_of, is_memory}, declared.fault.BaseFault.BaseFault}
 use Rattle.stn_lift.specs.declared.fault.BaseFault.TheVariants as base
-use Rattle.stn_records.specs.{Content.Content, Content.no_content, Content.dispute_contents, Content.join_contents, Content.joined_contents, ContentLaws.contents_dispute, ContentLaws.contents_undisputed}
-use Rattle.stn_site.specs.{Calls.Leaves, Calls.took, Held.Held, Refusals.take_refusal, declared.faults.ReplicaFault.ReplicaFault}
+use Rattle.stn_records.specs.{Content.{Content, no_content, dispute_contents, join_contents, joined_contents}, ContentLaws.{contents_dispute, contents_undisputed}}
+use Rattle.stn_site.specs.{Calls.{Leaves, took}, Held.Held, Refusals.take_refusal, declared.faults.ReplicaFault.ReplicaFault}
 use Rattle.stn_site.specs.declared.faults.ReplicaFault.TheVariants as replica
-use Rattle.stn_store.specs.{Log.Faults.of_base, Log.Faults.of_replica, Log.Log, Log.log_held, Log.so_far, Log.opened, Log.joined, Log.taken_in, Log.Opening.IsRefused, declared.log.version.Version.Version}
+use Rattle.stn_store.specs.{Log.{Log, log_held, so_far, opened, joined, taken_in, Faults.{of_base, of_replica}, Opening.IsRefused}, declared.log.version.Version.Version}
 
 -- a source without a base
 pub base_refused : (version : Version) (source : PlanSource) (fault : BaseFault) → Fails {Y = PlanSource} is_memory fault (base_of source) → IsRefused (opened version (base_of source)) (of_base fault)

@@ -1,6 +1,6 @@
 -- What is printed where a log is not loaded.
 use Rattle.stn_refusal.specs.declared.code.Code.TheVariants as code
-use Rattle.stn_refusal.specs.{declared.failure.Failure.Failure, declared.failure.Failure.TheVariants.Failed, Refusals.refused, Refusals.out_of_memory}
+use Rattle.stn_refusal.specs.{declared.failure.Failure.{Failure, TheVariants.Failed}, Refusals.{refused, out_of_memory}}
 use Rattle.stn_refusal.specs.declared.failure.Fault.TheVariants as device
 use Rattle.stn_wire.specs.Failures.{wire_failure}
 use Rattle.stn_lift.specs.Failures.{base_failure}

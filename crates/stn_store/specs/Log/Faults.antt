@@ -6,8 +6,7 @@ use Rattle.stn_lift.specs.declared.fault.BaseFault.{BaseFault}
 use Rattle.stn_lift.specs.declared.fault.BaseFault.TheVariants as base
 use Rattle.stn_site.specs.declared.faults.ReplicaFault.{ReplicaFault}
 use Rattle.stn_site.specs.declared.faults.ReplicaFault.TheVariants as replica
-use Rattle.stn_store.specs.declared.log.fault.LoadFault.{LoadFault}
-use Rattle.stn_store.specs.declared.log.fault.LoadFault.TheVariants.{Read, Bound, Frame, Base, Take, Memory}
+use Rattle.stn_store.specs.declared.log.fault.LoadFault.{LoadFault, TheVariants.{Read, Bound, Frame, Base, Take, Memory}}
 
 abbrev pub of_stream : ReadFault → LoadFault
 of_stream stream.Read = Read

@@ -1,7 +1,7 @@
 -- For proofs alone: no public clause cites these words.
 -- A log that is being read, as the code has it.
 use Rattle.std.specs.Prelude.{◌≡◌, Option, Some, None, Result, Ok, Err, IfSome, option_map}
-use Rattle.stn_store.specs.{Log.Log, Log.LogSoFar, Log.log_held, Log.so_far, Log.told_by, declared.log.reading.Opened.Opened, declared.log.fault.LoadFault.LoadFault, declared.log.fault.LoadFault.TheVariants.LogForm}
+use Rattle.stn_store.specs.{Log.{Log, LogSoFar, log_held, so_far, told_by}, declared.log.{reading.Opened.Opened, fault.LoadFault.{LoadFault, TheVariants.LogForm}}}
 
 -- what an opened log says
 abbrev pub opened_so_far : {A : Type 0} → Opened A → LogSoFar

@@ -1,7 +1,6 @@
 ghost use Rattle.std.specs.Prelude.{◌≡◌};
-ghost use Rattle.stn_store.specs.Log.Faults.{of_frame, of_stream, of_base, of_replica};
+ghost use Rattle.stn_store.specs.Log.{Faults.{of_frame, of_stream, of_base, of_replica}, Failures.load_failure};
 ghost use Rattle.stn_store.specs.declared.log.fault.LoadFault.TheVariants as load;
-ghost use Rattle.stn_store.specs.Log.Failures.{load_failure};
 
 use std::alloc::{AllocError, AllocFailed};
 use stn_device::ReadFault;

@@ -1,7 +1,5 @@
-ghost use Rattle.std.specs.Prelude.{◌≡◌, ◌<◌, ◌^◌, ℕ, List, Result};
-ghost use Rattle.std.specs.List.{AllByRecursion};
-ghost use Rattle.stn_store.specs.Log.{Log, IsLog};
-ghost use Rattle.stn_store.specs.declared.log.fault.LoadFault.{LoadFault};
+ghost use Rattle.std.specs.{Prelude.{◌≡◌, ◌<◌, ◌^◌, ℕ, List, Result}, List.AllByRecursion};
+ghost use Rattle.stn_store.specs.{Log.{Log, IsLog}, declared.log.fault.LoadFault.LoadFault};
 
 use stn_wire::{one_front, one_spelling};
 

@@ -1,12 +1,8 @@
-ghost use Rattle.std.specs.Prelude.{is_some, true, ◌≡◌, ◌≢◌, ◌+◌, ◌-◌, ◌^◌, ◌<◌, option_map, Some, None, Ok, Err, length, IfOk, IfErr, IfSome, OnOk, IsErrOf, MatchOption};
-ghost use Rattle.std.specs.Io.KnownBytes.{IsAtEnd};
-ghost use Rattle.stn_device.specs.Counted.{counted_device, failure_count, KeepsCount};
-ghost use Rattle.stn_device.specs.Bytes.{most_bytes, ConsumesAtMost};
-ghost use Rattle.stn_wire.specs.Frame.{content};
-ghost use Rattle.stn_wire.specs.Stream.{unread};
+ghost use Rattle.std.specs.{Prelude.{is_some, true, ◌≡◌, ◌≢◌, ◌+◌, ◌-◌, ◌^◌, ◌<◌, option_map, Some, None, Ok, Err, length, IfOk, IfErr, IfSome, OnOk, IsErrOf, MatchOption}, Io.KnownBytes.IsAtEnd};
+ghost use Rattle.stn_device.specs.{Counted.{counted_device, failure_count, KeepsCount}, Bytes.{most_bytes, ConsumesAtMost}};
+ghost use Rattle.stn_wire.specs.{Frame.content, Stream.unread};
 ghost use Rattle.stn_lift.specs.PlanSource.{plan_source, base_of};
-ghost use Rattle.stn_store.specs.Log.{Log, log_held, so_far, opened, taken, taken_in, taken_later, meaning_by, meaning_of, IsDecided, IsOpen};
-ghost use Rattle.stn_store.specs.Log.Opening.{opened_so_far, closed_log, IsRefused};
+ghost use Rattle.stn_store.specs.Log.{Log, log_held, so_far, opened, taken, taken_in, taken_later, meaning_by, meaning_of, IsDecided, IsOpen, Loading.Loads, Opening.{opened_so_far, closed_log, IsRefused}};
 
 use crate::log::fault::LoadFault;
 use crate::log::version::Version;
@@ -30,24 +26,8 @@ pub fn load_plan<R: Read, A: Allocator + Copy>(
     reader: &mut Counted<R>,
     site: Site,
 ) -> Result<SitePlan<A>, LoadFault>
-    requires reader_counts { failure_count reader.old < 2 ^ 64 - 1 }
-
-    // The answer is what the bytes say.
-    ensures meaning { IfSome (meaning_of result) (IsDecided (R.remaining (counted_device reader.old))
-        (R.remaining (counted_device reader.new))) }
-    ensures end { OnOk result (IsAtEnd (R.remaining (counted_device reader.new))) }
-    ensures site { IfOk result (λ plan. plan.site ≡ site) }
-
-    // A read that fails comes after frames that are all taken.
-    ensures open { IsErrOf result LoadFault.Read → IsOpen (R.remaining (counted_device reader.old))
-        (R.remaining (counted_device reader.new)) }
-
-    ensures read { IsErrOf result LoadFault.Read → failure_count reader.old < failure_count reader.new }
-    ensures bound { IsErrOf result LoadFault.Bound
-        → IfSome (R.remaining (counted_device reader.old)) (λ input. most_bytes < length input) }
-    ensures kept { result ≢ Err LoadFault.Read → KeepsCount reader.old reader.new }
-    ensures used { ConsumesAtMost (R.remaining (counted_device reader.old))
-        (R.remaining (counted_device reader.new)) (most_bytes + 1) }
+    requires { failure_count reader.old < 2 ^ 64 - 1 }
+    ensures { Loads R.remaining site reader.old reader.new result }
 {
     let mut frames = FrameReader::new(alloc);
     let mut log = None;
@@ -69,24 +49,8 @@ pub fn load<R: Read, A: Allocator + Copy>(
     reader: &mut Counted<R>,
     site: Site,
 ) -> Result<Replica<A>, LoadFault>
-    requires reader_counts { failure_count reader.old < 2 ^ 64 - 1 }
-
-    // The answer is what the bytes say.
-    ensures meaning { IfSome (meaning_of result) (IsDecided (R.remaining (counted_device reader.old))
-        (R.remaining (counted_device reader.new))) }
-    ensures end { OnOk result (IsAtEnd (R.remaining (counted_device reader.new))) }
-    ensures site { IfOk result (λ replica. replica.site ≡ site) }
-
-    // A read that fails comes after frames that are all taken.
-    ensures open { IsErrOf result LoadFault.Read → IsOpen (R.remaining (counted_device reader.old))
-        (R.remaining (counted_device reader.new)) }
-
-    ensures read { IsErrOf result LoadFault.Read → failure_count reader.old < failure_count reader.new }
-    ensures bound { IsErrOf result LoadFault.Bound
-        → IfSome (R.remaining (counted_device reader.old)) (λ input. most_bytes < length input) }
-    ensures kept { result ≢ Err LoadFault.Read → KeepsCount reader.old reader.new }
-    ensures used { ConsumesAtMost (R.remaining (counted_device reader.old))
-        (R.remaining (counted_device reader.new)) (most_bytes + 1) }
+    requires { failure_count reader.old < 2 ^ 64 - 1 }
+    ensures { Loads R.remaining site reader.old reader.new result }
 {
     let plan = load_plan(alloc, reader, site)?;
     Ok(Replica::of(plan)?)

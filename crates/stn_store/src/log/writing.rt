@@ -1,44 +1,42 @@
-ghost use Rattle.std.specs.Prelude.{◌≡◌, ◌≢◌, ◌^◌, ◌-◌, ◌<◌, Ok, Err, IfOk, OnOk, OnErr, IsErrOf};
-ghost use Rattle.std.specs.Io.KnownBytes.{Appends, Keeps};
-ghost use Rattle.stn_device.specs.Counted.{counted_device, failure_count, KeepsCount};
-ghost use Rattle.stn_device.specs.Bytes.{AppendsPart};
+ghost use Rattle.std.specs.{Prelude.{◌≡◌, ◌≢◌, ◌^◌, ◌-◌, ◌<◌, Ok, Err, IfOk, OnOk, OnErr, IsErrOf}, Io.KnownBytes.{Appends, Keeps}};
+ghost use Rattle.stn_device.specs.{Counted.{counted_device, failure_count, KeepsCount}, Bytes.AppendsPart};
 ghost use Rattle.stn_store.specs.Log.{log_held, log_text, IsLog};
 
 use std::alloc::Allocator;
 use std::io::Write;
 use stn_device::{Counted, OutputFault, write_whole};
-use stn_replica::Replica;
-use stn_site::SitePlan;
+use stn_site::{SiteCopy, SitePlan};
 use stn_time::Memory;
 use stn_wire::{Said, say};
 
-/// Writes the log of a replica: what its plan is made from, and all that the site holds. The site is not in it.
+/// Writes the log of a site's copy of a plan, as a replica: what the plan is made from, and all that the site holds. The site is not in
+/// it.
 ///
 /// Faults: `Write`, where a call of the writer failed or took nothing; then a front part of the log was written. `Memory`; then
 /// nothing was written.
-pub fn save<W: Write, A: Allocator + Copy>(
+pub fn save<W: Write, A: Allocator + Copy, C: SiteCopy<A>>(
     alloc: A,
-    replica: &Replica<A>,
+    copy: &C,
     writer: &mut Counted<W>,
 ) -> Result<(), OutputFault>
     requires writer_counts { failure_count writer.old < 2 ^ 64 - 1 }
 
     // The whole log was written.
     ensures written { OnOk result (Appends (W.contents (counted_device writer.old))
-        (W.contents (counted_device writer.new)) (log_text (log_held replica.now))) }
+        (W.contents (counted_device writer.new)) (log_text (log_held (C.held copy.now)))) }
 
-    // It says what the replica holds.
-    ensures loaded { OnOk result (IsLog (log_text (log_held replica.now)) (Ok (log_held replica.now))) }
+    // It says what the site holds.
+    ensures loaded { OnOk result (IsLog (log_text (log_held (C.held copy.now))) (Ok (log_held (C.held copy.now)))) }
 
     // What a fault leaves.
     ensures part { OnErr result (AppendsPart (W.contents (counted_device writer.old))
-        (W.contents (counted_device writer.new)) (log_text (log_held replica.now))) }
+        (W.contents (counted_device writer.new)) (log_text (log_held (C.held copy.now)))) }
     ensures unwritten { IsErrOf result OutputFault.Memory
         → Keeps (W.contents (counted_device writer.old)) (W.contents (counted_device writer.new)) }
     ensures write { IsErrOf result OutputFault.Write → failure_count writer.old < failure_count writer.new }
     ensures kept { result ≢ Err OutputFault.Write → KeepsCount writer.old writer.new }
 {
-    let text = spell_log(alloc, replica.plan())?;
+    let text = spell_log(alloc, copy.plan())?;
     write_whole(writer, &text)?;
     Ok(())
 }

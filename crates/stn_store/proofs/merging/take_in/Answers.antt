@@ -1,12 +1,11 @@
-use Rattle.std.proofs.Common.{Some, refl, ap, inl, inr, ⊎_elim}
-use Rattle.std.proofs.lemmas.Result.{err_from_is_err_and}
+use Rattle.std.proofs.{Common.{Some, refl, ap, inl, inr, ⊎_elim}, lemmas.Result.err_from_is_err_and}
 use Rattle.stn_store.proofs.Failed.{take_failed}
 use Rattle.stn_store.proofs.merging.take_in.Goals as goal
 
 pub returns-in_err-find_same : goal.returns-in_err-find_same
 returns-in_err-find_same g c =
     let p = err_from_is_err_and c.from_residual.result c.from_residual.ensures.1 in
-    let other = rw (c.base.ensures, c.base-2.ensures) at c.in_err-find_same.ensures in
+    let other = rw (c.base.ensures, c.plan.ensures.source, c.base-2.ensures) at c.in_err-find_same.ensures in
     rw (p.1, p.2) (record {
       same = tt;
       left = tt;
@@ -18,7 +17,7 @@ returns-in_err-find_same g c =
 pub returns-in_err-take : goal.returns-in_err-take
 returns-in_err-take g c =
     let p = err_from_is_err_and c.from_residual-in_err-take.result c.from_residual-in_err-take.ensures.1 in
-    let same = rw (c.base.ensures, c.base-2.ensures) at c.in_ok-find_same.ensures in
+    let same = rw (c.base.ensures, c.plan.ensures.source, c.base-2.ensures) at c.in_ok-find_same.ensures in
     rw (p.1, p.2) (record {
       same = tt;
       left = tt;
@@ -29,7 +28,7 @@ returns-in_err-take g c =
 
 pub returns : goal.returns
 returns g c = record {
-  same = rw (c.base.ensures, c.base-2.ensures) at c.in_ok-find_same.ensures;
+  same = rw (c.base.ensures, c.plan.ensures.source, c.base-2.ensures) at c.in_ok-find_same.ensures;
   left = rw c.records.ensures.value at c.in_ok-take.ensures.leaves;
   accepted = rw c.records.ensures.value at c.in_ok-take.ensures.accepted;
   refused = tt;

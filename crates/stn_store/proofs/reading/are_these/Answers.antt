@@ -1,7 +1,4 @@
-use Rattle.std.proofs.Common.{None, Some, take, arith}
-use Rattle.std.proofs.lemmas.Grind.{common_steps}
-use Rattle.std.proofs.lemmas.Bool.Decides.{Decides-eqb}
-use Rattle.std.proofs.lemmas.Slice.Eq.{strip_prefix_is}
+use Rattle.std.proofs.{Common.{None, Some, take, arith}, lemmas.{Grind.common_steps, Bool.Decides.Decides-eqb, Slice.Eq.strip_prefix_is}}
 use Rattle.stn_store.proofs.Compared.{alike_further, others_there}
 use Rattle.stn_store.proofs.reading.are_these.Goals as goal
 

@@ -1,5 +1,4 @@
-use Rattle.std.proofs.Common.{◌≡◌, ◌++◌, length, List, ℕ}
-use Rattle.std.specs.Io.KnownBytes.{Consumes}
+use Rattle.std.{proofs.Common.{◌≡◌, ◌++◌, length, List, ℕ}, specs.Io.KnownBytes.Consumes}
 use Rattle.stn_store.proofs.reading.are_these.Given as goal
 
 abbrev pub invariant-pieces : goal.invariant-pieces

@@ -1,5 +1,4 @@
-use Rattle.std.proofs.Common.{ap}
-use Rattle.std.proofs.lemmas.Result.{err_from_is_err_and}
+use Rattle.std.proofs.{Common.ap, lemmas.Result.err_from_is_err_and}
 use Rattle.stn_store.proofs.Decided.{decided_log_of, load_failed_of}
 use Rattle.stn_store.proofs.reading.read_log.Goals as goal
 

@@ -1,6 +1,4 @@
-use Rattle.std.proofs.Common.{Err, ap, ◌∙◌, take}
-use Rattle.std.specs.{Prelude.option_map, Io.Take.take_remaining}
-use Rattle.std.proofs.lemmas.Result.{err_from_is_err_and}
+use Rattle.std.{proofs.{Common.{Err, ap, ◌∙◌, take}, lemmas.Result.err_from_is_err_and}, specs.{Prelude.option_map, Io.Take.take_remaining}}
 use Rattle.stn_store.proofs.Decided.{text_read, text_failed}
 use Rattle.stn_store.proofs.reading.read_text.Goals as goal
 

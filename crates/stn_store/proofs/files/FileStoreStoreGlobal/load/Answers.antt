@@ -1,8 +1,6 @@
-use Rattle.std.proofs.Common.{◌≡◌, ℕ, List, Option, None, Result, Ok, Err}
-use Rattle.std.specs.Prelude.{IfOk}
-use Rattle.stn_store.specs.Log.{log_held}
+use Rattle.std.{proofs.Common.{◌≡◌, ℕ, List, Option, None, Result, Ok, Err}, specs.Prelude.IfOk}
+use Rattle.stn_store.specs.{Log.log_held, Bytes.IsLogIn, Store.Opens}
 use Rattle.stn_site.specs.Held.{Held}
-use Rattle.stn_store.specs.{Bytes.IsLogIn, Store.Opens}
 use Rattle.stn_refusal.specs.declared.failure.Failure.{Failure}
 use Rattle.stn_store.proofs.files.FileStoreStoreGlobal.load.Goals as goal
 
@@ -13,4 +11,4 @@ of_files name site known (Ok held) said own = record { said = record { bytes = s
 of_files name site known (Err failure) said own = tt
 
 pub returns-clause-opened : goal.returns-clause-opened
-returns-clause-opened g c = of_files c.args.path.now c.args.site None c.read_log.result c.read_log.ensures.said c.read_log.ensures.site
+returns-clause-opened g c = rw c.unless_unread.ensures (of_files c.args.path.now c.args.site None c.read_log-read.result c.read_log-read.ensures.said c.read_log-read.ensures.site)

@@ -1,5 +1,4 @@
-use Rattle.std.proofs.Common.{None, length, take}
-use Rattle.std.specs.Prelude.{nat_lt}
+use Rattle.std.{proofs.Common.{None, length, take}, specs.Prelude.nat_lt}
 use Rattle.stn_device.specs.Bytes.{most_bytes}
 use Rattle.stn_store.proofs.log.OneLog.{one_meaning}
 use Rattle.stn_store.proofs.log.laws.one_log.Goals as goal

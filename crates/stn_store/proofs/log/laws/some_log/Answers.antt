@@ -1,5 +1,4 @@
-use Rattle.std.proofs.Common.{length, arith, take}
-use Rattle.std.specs.Prelude.{nat_lt}
+use Rattle.std.{proofs.Common.{length, arith, take}, specs.Prelude.nat_lt}
 use Rattle.stn_device.specs.Bytes.{most_bytes}
 use Rattle.stn_wire.proofs.Cuts.{some_cut, bytes_before}
 use Rattle.stn_store.proofs.log.SomeLog.{meaning_of_cut}

@@ -1,9 +1,6 @@
-use Rattle.std.proofs.Common.{Ok, refl, sym, subst, ◌∙◌}
-use Rattle.std.proofs.lemmas.Result.{err_from_is_err_and}
-use Rattle.stn_device.specs.Counted.{counted_device}
-use Rattle.stn_store.specs.Log.{Log, IsDecided}
-use Rattle.stn_device.proofs.Known.{not_err}
-use Rattle.stn_store.proofs.{log.Answered.not_read, log.Answered.not_bound, log.Saved.same_log}
+use Rattle.std.proofs.{Common.{Ok, refl, sym, subst, ◌∙◌}, lemmas.Result.err_from_is_err_and}
+use Rattle.stn_device.{specs.Counted.counted_device, proofs.Known.not_err}
+use Rattle.stn_store.{specs.Log.{Log, IsDecided}, proofs.log.{Answered.{not_read, not_bound}, Saved.same_log}}
 use Rattle.stn_store.proofs.log.reading.load.Goals as goal
 
 pub returns-in_err-plan : goal.returns-in_err-plan

@@ -1,7 +1,6 @@
 use Rattle.std.proofs.Common.{Err, refl, ap}
-use Rattle.stn_store.specs.declared.log.fault.LoadFault.TheVariants.{Read}
+use Rattle.stn_store.{specs.declared.log.fault.LoadFault.TheVariants.Read, proofs.log.Answered.{not_read, not_bound}}
 use Rattle.stn_device.proofs.Known.{fault_or, not_err}
-use Rattle.stn_store.proofs.log.Answered.{not_read, not_bound}
 use Rattle.stn_store.proofs.log.reading.load_plan.Goals as goal
 
 pub returns-in-Err : goal.returns-in-Err

@@ -1,8 +1,7 @@
-use Rattle.std.proofs.Common.{refl, ◌∙◌}
-use Rattle.std.proofs.lemmas.Result.{err_from_is_err_and}
+use Rattle.std.proofs.{Common.{refl, ◌∙◌}, lemmas.Result.err_from_is_err_and}
 use Rattle.stn_lift.specs.PlanSource.{plan_source}
 use Rattle.stn_device.proofs.Known.{not_err}
-use Rattle.stn_store.proofs.{log.Answered.not_read, log.Answered.not_bound, log.Answered.base_not_cut, log.Takes.base_refused, log.Takes.base_opens}
+use Rattle.stn_store.proofs.log.{Answered.{not_read, not_bound, base_not_cut}, Takes.{base_refused, base_opens}}
 use Rattle.stn_store.proofs.log.reading.open_by.Goals as goal
 
 pub returns-in_err-base : goal.returns-in_err-base

@@ -1,14 +1,8 @@
-use Rattle.std.proofs.Common.{refl, ap, Ok, Err, ◌∙◌}
-use Rattle.std.proofs.lemmas.Result.{err_from_is_err_and}
-use Rattle.stn_wire.specs.Frame.{content}
-use Rattle.stn_device.specs.declared.whole.ReadFault.{ReadFault}
-use Rattle.stn_wire.specs.{Stream.Held.Stream, Stream.pending, Stream.wire_fault}
-use Rattle.stn_wire.proofs.Streams.{measure_falls}
+use Rattle.std.proofs.{Common.{refl, ap, Ok, Err, ◌∙◌}, lemmas.Result.err_from_is_err_and}
+use Rattle.stn_wire.{specs.{Frame.content, Stream.{pending, wire_fault, Held.Stream}}, proofs.Streams.measure_falls}
+use Rattle.stn_device.{specs.declared.whole.ReadFault.ReadFault, proofs.Known.{fails_more, fault_or, not_err}}
 use Rattle.stn_device.specs.declared.whole.ReadFault.TheVariants as stream
-use Rattle.stn_store.specs.{Log.Faults.of_stream, declared.log.fault.LoadFault.TheVariants.Read}
-use Rattle.stn_device.proofs.Known.{fails_more, fault_or, not_err}
-use Rattle.stn_store.proofs.log.Answered.{not_read, not_bound}
-use Rattle.stn_store.proofs.log.Progress.{begun, read_on, used_within, next_held, refuses, shows_fault, closed, cuts, stream_fails, stream_open, stream_used, stream_bound, stream_read}
+use Rattle.stn_store.{specs.{Log.Faults.of_stream, declared.log.fault.LoadFault.TheVariants.Read}, proofs.log.{Answered.{not_read, not_bound}, Progress.{begun, read_on, used_within, next_held, refuses, shows_fault, closed, cuts, stream_fails, stream_open, stream_used, stream_bound, stream_read}}}
 use Rattle.stn_store.proofs.log.reading.read_frames.Goals as goal
 
 pub frames-init : goal.frames-init

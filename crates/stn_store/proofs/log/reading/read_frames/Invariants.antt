@@ -1,9 +1,7 @@
-use Rattle.std.proofs.Common.{◌≡◌, ◌+◌, ◌-◌, length, IfSome}
-use Rattle.std.specs.Prelude.{option_map}
+use Rattle.std.{proofs.Common.{◌≡◌, ◌+◌, ◌-◌, length, IfSome}, specs.Prelude.option_map}
 use Rattle.stn_device.specs.Counted.{counted_device, KeepsCount}
 use Rattle.stn_wire.specs.Stream.{pending, IsReading}
-use Rattle.stn_store.specs.Log.Opening.{opened_so_far}
-use Rattle.stn_store.proofs.log.Progress.{Progress}
+use Rattle.stn_store.{specs.Log.Opening.opened_so_far, proofs.log.Progress.Progress}
 use Rattle.stn_store.proofs.log.reading.read_frames.Given as goal
 
 abbrev pub invariant-frames : goal.invariant-frames

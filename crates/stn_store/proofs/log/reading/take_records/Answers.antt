@@ -1,7 +1,5 @@
-use Rattle.std.proofs.Common.{refl, ◌∙◌}
-use Rattle.std.proofs.lemmas.Result.{err_from_is_err_and}
-use Rattle.stn_store.specs.Log.{log_held}
-use Rattle.stn_store.proofs.{log.Answered.not_read, log.Answered.not_bound, log.Answered.replica_not_cut, log.Takes.take_refused, log.Takes.state_taken}
+use Rattle.std.proofs.{Common.{refl, ◌∙◌}, lemmas.Result.err_from_is_err_and}
+use Rattle.stn_store.{specs.Log.log_held, proofs.log.{Answered.{not_read, not_bound, replica_not_cut}, Takes.{take_refused, state_taken}}}
 use Rattle.stn_store.proofs.log.reading.take_records.Goals as goal
 
 pub returns-in_err-take-in-Some : goal.returns-in_err-take-in-Some

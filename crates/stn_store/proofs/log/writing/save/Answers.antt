@@ -1,11 +1,6 @@
-use Rattle.std.proofs.Common.{◌≡◌, Ok, [], refl, sym, ap, subst, ◌∙◌}
-use Rattle.std.proofs.{KnownBytes.Appends-nil, KnownBytes.Keeps-refl, lemmas.Result.err_from_is_err_and}
-use Rattle.std.specs.Io.KnownBytes.{Appends}
-use Rattle.stn_device.specs.{Bytes.AppendsPart, Counted.counted_device}
-use Rattle.stn_store.specs.Log.{Log, log_held, log_text, IsLog}
-use Rattle.stn_device.specs.declared.whole.OutputFault.TheVariants.{Write, Memory}
-use Rattle.stn_device.proofs.Known.{fails_more, fault_or, not_err}
-use Rattle.stn_store.proofs.log.Saved.{same_log}
+use Rattle.std.{proofs.{Common.{◌≡◌, Ok, [], refl, sym, ap, subst, ◌∙◌}, KnownBytes.{Appends-nil, Keeps-refl}, lemmas.Result.err_from_is_err_and}, specs.Io.KnownBytes.Appends}
+use Rattle.stn_device.{specs.{Bytes.AppendsPart, Counted.counted_device, declared.whole.OutputFault.TheVariants.{Write, Memory}}, proofs.Known.{fails_more, fault_or, not_err}}
+use Rattle.stn_store.{specs.Log.{Log, log_held, log_text, IsLog}, proofs.log.Saved.same_log}
 use Rattle.stn_store.proofs.log.writing.save.Goals as goal
 
 apart : Write ≡ Memory → ⊥
@@ -17,7 +12,7 @@ returns-in_err-text g c =
     rw (p.1, p.2) (record {
       written = tt;
       loaded = tt;
-      part = ([], log_text (log_held c.args.replica.now), refl, Appends-nil _);
+      part = ([], log_text (log_held (g.C.SiteCopy.held c.args.copy.now)), refl, Appends-nil _);
       unwritten = λ _. Keeps-refl _;
       write = λ e. absurd (apart (sym (ap (fault_or Write) e)));
       kept = λ _. refl;
@@ -28,7 +23,7 @@ returns-in_err-write_whole g c =
     let p = err_from_is_err_and c.from_residual-in_err-write_whole.result c.from_residual-in_err-write_whole.ensures.1 in
     let before = g.W.Write.contents (counted_device c.args.writer.now) in
     let after = g.W.Write.contents (counted_device c.write_whole.new.writer) in
-    let same = same_log c.args.replica.now c.plan.result.now c.plan.ensures.source c.plan.ensures.state in
+    let same = same_log (g.C.SiteCopy.held c.args.copy.now) c.plan.result.now c.plan.ensures.source c.plan.ensures.state in
     let lost = c.in_err-write_whole.ensures in
     rw (p.1, p.2) (record {
       written = tt;
@@ -43,7 +38,7 @@ pub returns : goal.returns
 returns g c =
     let before = g.W.Write.contents (counted_device c.args.writer.now) in
     let after = g.W.Write.contents (counted_device c.write_whole.new.writer) in
-    let same = same_log c.args.replica.now c.plan.result.now c.plan.ensures.source c.plan.ensures.state in
+    let same = same_log (g.C.SiteCopy.held c.args.copy.now) c.plan.result.now c.plan.ensures.source c.plan.ensures.state in
     record {
       written = subst (Appends before after) (c.deref.ensures.value ∙ c.in_ok-text.ensures.text ∙ ap log_text same) c.in_ok-write_whole.ensures.written;
       loaded = subst (λ (log : Log). IsLog (log_text log) (Ok log)) same c.in_ok-text.ensures.loaded;

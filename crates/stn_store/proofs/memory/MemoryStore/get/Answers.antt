@@ -1,8 +1,5 @@
-use Rattle.std.proofs.Common.{ℕ, List, Some, map, option_map, refl, sym, ap, ◌∙◌}
-use Rattle.std.specs.Str.{bytes_eq}
-use Rattle.std.proofs.lemmas.List.{take_all}
-use Rattle.stn_store.specs.{Memory.entry_of, Store.bytes_under}
-use Rattle.stn_store.proofs.{Lookups.under_this, Lookups.under_earlier, memory.MemoryStore.get.Goals.then-eq, memory.MemoryStore.get.Goals.else-eq}
+use Rattle.std.{proofs.{Common.{ℕ, List, Some, map, option_map, refl, sym, ap, ◌∙◌}, lemmas.List.take_all}, specs.Str.bytes_eq}
+use Rattle.stn_store.{specs.{Memory.entry_of, Store.bytes_under}, proofs.{Lookups.{under_this, under_earlier}, memory.MemoryStore.get.Goals.{then-eq, else-eq}}}
 use Rattle.stn_store.proofs.memory.MemoryStore.get.Goals as goal
 
 pub loop-entry-init : goal.loop-entry-init

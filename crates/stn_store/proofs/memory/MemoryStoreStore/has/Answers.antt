@@ -1,6 +1,4 @@
-use Rattle.std.proofs.Common.{refl, sym, inl}
-use Rattle.std.proofs.lemmas.Bool.Decides.{Decides-eqb}
-use Rattle.std.proofs.lemmas.Slice.Eq.{slice_eq-Decides}
+use Rattle.std.proofs.{Common.{refl, sym, inl}, lemmas.{Bool.Decides.Decides-eqb, Slice.Eq.slice_eq-Decides}}
 use Rattle.stn_store.proofs.memory.MemoryStoreStore.has.Goals as goal
 
 pub returns-in-Some : goal.returns-in-Some

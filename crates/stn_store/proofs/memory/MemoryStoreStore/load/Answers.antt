@@ -1,11 +1,7 @@
-use Rattle.std.proofs.Common.{◌≡◌, ℕ, List, Some, Result, Ok, Err, refl, sym, ap, inl, inr, ◌∙◌}
-use Rattle.std.specs.Prelude.{◌⊎◌, IfOk}
-use Rattle.std.proofs.lemmas.Result.{IfErr-weaker}
-use Rattle.stn_store.specs.{Log.log_held, declared.log.fault.LoadFault.LoadFault, Log.Failures.load_failure, Bytes.IsLogIn, Memory.entries_of, Store.Entry, Store.Opens, Store.IsUnopened, Store.IsLack, Store.bytes_under}
+use Rattle.std.{proofs.{Common.{◌≡◌, ℕ, List, Some, Result, Ok, Err, refl, sym, ap, inl, inr, ◌∙◌}, lemmas.Result.IfErr-weaker}, specs.Prelude.{◌⊎◌, IfOk}}
+use Rattle.stn_store.{specs.{Log.{log_held, Failures.load_failure}, declared.log.fault.LoadFault.LoadFault, Bytes.IsLogIn, Memory.entries_of, Store.{Entry, Opens, IsUnopened, IsLack, bytes_under}}, proofs.Lacks.lack_of_memory}
 use Rattle.stn_site.specs.Held.{Held}
-use Rattle.stn_refusal.specs.{declared.failure.Failure.Failure, declared.failure.Failure.TheVariants.Failed}
-use Rattle.stn_refusal.specs.declared.failure.Fault.TheVariants.{Memory, Read}
-use Rattle.stn_store.proofs.Lacks.{lack_of_memory}
+use Rattle.stn_refusal.specs.declared.failure.{Failure.{Failure, TheVariants.Failed}, Fault.TheVariants.{Memory, Read}}
 use Rattle.stn_store.proofs.memory.MemoryStoreStore.load.Goals as goal
 
 of_memory : (entries : List Entry) (name : List ℕ) (site : ℕ) (known : List ℕ) (loaded : Result Held Failure) → bytes_under entries name ≡ Some known
