@@ -1,3 +1,4 @@
 pub mod Served
 pub mod Joined
+mod Asked
 mod Keepings

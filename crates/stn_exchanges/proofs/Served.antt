@@ -1,103 +1,106 @@
 -- Sessions with the sites that come, one after the other.
-use Rattle.std.proofs.Common.{◌≡◌, ℕ, ◌+◌, ◌<◌, List, [], ◌∷◌, ◌++◌, map, Option, None, Some, refl, sym, ap, subst, ◌∙◌, append_assoc, append-nil, length-append}
-use Rattle.std.specs.Prelude.{flat_map}
-use Rattle.std.specs.Io.KnownBytes.{Appends}
-use Rattle.std.proofs.KnownBytes.{Appends-nil, Appends-trans}
-use Rattle.std.proofs.lemmas.List.{flat_map_more, map-append}
-use Rattle.stn_device.specs.Partner.{PartnerState}
-use Rattle.stn_device.specs.Callers.{CallersState, Comes, gone_too}
+use Rattle.std.{proofs.{Common.{◌≡◌, ℕ, zero, suc, ◌+◌, ◌-◌, ◌<◌, List, [], ◌∷◌, ◌++◌, map, length, Option, None, Some, Result, Ok, Err, refl, sym, ap, subst, ◌∙◌, inl, inr, arith, append_assoc, append-nil}, KnownBytes.{Appends-nil, Appends-trans}}, specs.{Prelude.flat_map, Io.KnownBytes.Appends}}
+use Rattle.stn_device.{proofs.Known.not_err, specs.{Partner.PartnerState, Callers.{CallersState, Comes, gone_too}}}
+use Rattle.stn_effects.specs.{Effects.{Effect, Then, stopped, went}, Printing.{Device, Prints}}
+use Rattle.stn_exchanges.specs.{Connections.{Meeting, meeting, session_text, LetsGo, ServesSite, WithNext, Times, ServesSites}, Joining.Shared, Visits.{Visit, visit_text, AreVisits, ComeAndGo}}
 use Rattle.stn_lift.specs.PlanSource.{PlanSource}
-use Rattle.stn_records.specs.Content.{Content}
-use Rattle.stn_effects.specs.Printing.{Device, Prints}
-use Rattle.stn_store.specs.Store.{Entry}
 use Rattle.stn_line.specs.declared.words.SiteLog.{SiteLog}
-use Rattle.stn_exchanges.specs.Connections.{Visit, visit_text, IsVisit, AreVisits, ComeAndGo, Serves, StopsAtSession, StopsServing}
-use Rattle.stn_refusal.specs.declared.failure.Failure.{Failure}
-use Rattle.stn_refusal.specs.declared.failure.Fault.{Fault}
+use Rattle.stn_refusal.specs.declared.failure.{Failure.Failure, Fault.Fault}
+use Rattle.stn_session.specs.declared.session.{Served.Served, ServeFault.ServeFault}
 
--- a site that came and went
-came_one : (came left went : Option CallersState) (visit : Visit) → Comes came left visit.met → went ≡ gone_too left visit.gone
-    → ComeAndGo came went (visit ∷ [])
-came_one None left went visit none gone = gone ∙ ap (λ (callers : Option CallersState). gone_too callers visit.gone) none
-came_one (Some old) left went visit one gone = (one.0, one.1, gone ∙ ap (λ (callers : Option CallersState). gone_too callers visit.gone) one.2)
+same_err : {X : Type 0} (failure other : Failure) → (let none : Result X Failure = Err failure in none) ≡ Err other → other ≡ failure
+same_err failure other is = cc
 
-pub come_one : (came left went : Option CallersState) (visit : Visit) (met gone : PartnerState) → visit.met ≡ met → visit.gone ≡ gone
-    → Comes came left met → went ≡ gone_too left gone → ComeAndGo came went (visit ∷ [])
-come_one came left went visit met gone is_met is_gone comes goes = came_one came left went visit (rw is_met comes) (rw is_gone goes)
+-- ---- so many times
+module _ {World X : Type 0} (Does : Effect World X) where
+  -- what comes of the rest comes of the whole
+  abbrev pub LeadsOn : ℕ → World → World → Type 0
+  LeadsOn done first now = (rest : ℕ) (last : World) (ended : Result (Unit {0}) Failure) → Times rest Does now last ended → Times (done + rest) Does first last ended
 
--- no site
+  pub leads_none : (first : World) → LeadsOn 0 first first
+  leads_none first rest last ended times = subst (λ n. Times n Does first last ended) (omega arith) times
+
+  pub leads_more : (done : ℕ) (first now next : World) (value : X) → LeadsOn done first now → Does now next (Ok value) → LeadsOn (done + 1) first next
+  leads_more done first now next value leads does rest last ended times =
+      let all : done + suc rest ≡ (done + 1) + rest = omega arith in
+      subst (λ n. Times n Does first last ended) all (leads (suc rest) last ended (went value next does times))
+
+  pub leads_all : (done count : ℕ) (first now : World) → LeadsOn done first now → done ≡ count → Times count Does first now (Ok tt)
+  leads_all done count first now leads all =
+      let same : done + 0 ≡ count = omega (arith, all) in
+      subst (λ n. Times n Does first now (Ok tt)) same (leads 0 now (Ok tt) (refl, refl))
+
+  pub leads_out : (done count : ℕ) (first now last : World) (failure : Failure) → LeadsOn done first now → done < count → Does now last (Err failure)
+      → Times count Does first last (Err failure)
+  leads_out done count first now last failure leads few does =
+      let left = count - done - 1 in
+      let same : done + suc left ≡ count = omega (arith, few) in
+      subst (λ n. Times n Does first last (Err failure)) same (leads (suc left) last (Err failure) (stopped failure does refl))
+
+  -- if it stops, fewer times were done
+  pub times_stop : (count : ℕ) (old new : World) (failure : Failure) → Times count Does old new (Err failure)
+      → (done : ℕ) × (between : World) × (done < count) × Times done Does old between (Ok tt) × Does between new (Err failure)
+  times_stop zero old new failure none = absurd (not_err tt failure (sym none.1))
+  times_stop (suc count) old new failure (stopped why does is) =
+      (0, old, omega arith, (refl, refl), subst (λ (why : Failure). Does old new (Err why)) (same_err failure why is) does)
+  times_stop (suc count) old new failure (went value between does later) =
+      let all = times_stop count between new failure later in
+      (suc all.0, all.1, omega (arith, all.2), went value between does all.3, all.4)
+
+-- ---- visits
+same_ok : {X : Type 0} (value other : X) → (let given : Result X Failure = Ok value in given) ≡ Ok other → other ≡ value
+same_ok value other is = cc
+
+prints_more : (a b c : Device) (text more : List ℕ) → Prints a b text → Prints b c more → Prints a c (text ++ more)
+prints_more a b c text more one two = (Appends-trans a.bytes b.bytes c.bytes text more one.0 two.0, two.1 ∙ one.1)
+
+-- the next site came and went
+come_first : (came left since after : Option CallersState) (visit : Visit) (visits : List Visit) → Comes came left visit.met → since ≡ gone_too left visit.gone
+    → ComeAndGo since after visits → ComeAndGo came after (visit ∷ visits)
+come_first None left since after visit visits none gone later =
+    subst (λ (callers : Option CallersState). ComeAndGo callers after visits) (gone ∙ ap (λ (callers : Option CallersState). gone_too callers visit.gone) none) later
+come_first (Some old) left since after visit visits one gone later =
+    let last = subst (λ (callers : Option CallersState). ComeAndGo callers after visits) (gone ∙ ap (λ (callers : Option CallersState). gone_too callers visit.gone) one.2) later in (
+      last.0,
+      one.1 ∙ ap (λ l. visit.met ∷ l) last.1,
+      last.2 ∙ ap (λ (gone : List PartnerState). Some (record { coming = last.0; gone = gone })) (append_assoc old.gone (visit.gone ∷ []) (map (λ (later : Visit). later.gone) visits)),
+    )
+
 come_none : (callers : Option CallersState) → ComeAndGo callers callers []
 come_none None = refl
 come_none (Some all) = (all.coming, refl, ap (λ (gone : List PartnerState). Some (record { coming = all.coming; gone = gone })) (sym (append-nil all.gone)))
 
--- one site more
-come_more : (came since went : Option CallersState) (visits : List Visit) (visit : Visit) → ComeAndGo came since visits
-    → ComeAndGo since went (visit ∷ []) → ComeAndGo came went (visits ++ visit ∷ [])
-come_more None since went visits visit none one = subst (λ (callers : Option CallersState). ComeAndGo callers went (visit ∷ [])) none one
-come_more (Some old) since went visits visit all one =
-    let last = subst (λ (callers : Option CallersState). ComeAndGo callers went (visit ∷ [])) all.2 one in (
-      last.0,
-      simp (map-append, append_assoc) (all.1 ∙ ap (λ l. map (λ (earlier : Visit). earlier.met) visits ++ l) last.1),
-      simp map-append (simp append_assoc at last.2),
-    )
+module _ (Fails : Fault → Type 0) (log : SiteLog) (source : PlanSource) where
+  -- the line of a session is printed of it, and nothing else
+  site_printed : (old new : Meeting PartnerState) (answer : Result Served ServeFault) → ServesSite Fails log source old new (Ok answer) → Prints old.out new.out (session_text answer)
+  site_printed old new answer (stopped why first is) = absurd (not_err answer why is)
+  site_printed old new answer (went done a first (stopped why second is)) = absurd (not_err answer why is)
+  site_printed old new answer (went done a first (went said b second (stopped why third is))) = absurd (not_err answer why is)
+  site_printed old new answer (went done a first (went said b second (went saved c third (stopped why fourth is)))) = absurd (not_err answer why is)
+  site_printed old new answer (went done a first (went said b second (went saved c third (went printed d fourth gone)))) =
+      let before : c.out ≡ old.out = third.2 ∙ second.1 ∙ first.2 in
+      let printed = subst (λ (out : Device). Prints out d.out (session_text said)) before fourth.0 in
+      subst (λ (ended : Result Served ServeFault). Prints old.out new.out (session_text ended)) (same_ok answer said gone.3)
+      (subst (λ (out : Device). Prints old.out out (session_text said)) (sym gone.2) printed)
 
--- no session yet
-pub serves_none : (callers : Option CallersState) (source : PlanSource) (log : SiteLog) (state : Content) (saves : Option (List Entry))
-    (device : Device) → Serves 0 callers callers source log state state saves saves device device
-serves_none callers source log state saves device = record {
-  visits = [];
-  many = refl;
-  sites = come_none callers;
-  sessions = (refl, refl);
-  printed = (Appends-nil device.bytes, refl);
-}
-
--- one session more
-visits_more : (source : PlanSource) (log : SiteLog) (first : Content) (old : Option (List Entry)) (visits : List Visit)
-    (middle : Content) (between : Option (List Entry)) (visit : Visit) (last : Content) (new : Option (List Entry))
-    → AreVisits source log first old visits middle between → IsVisit visit source log middle between last new
-    → AreVisits source log first old (visits ++ visit ∷ []) last new
-visits_more source log first old [] middle between visit last new none one = (
-  last,
-  new,
-  subst (λ (saves : Option (List Entry)). IsVisit visit source log first saves last new) none.1
-      (subst (λ (state : Content). IsVisit visit source log state between last new) none.0 one),
-  (refl, refl),
-)
-visits_more source log first old (earlier ∷ visits) middle between visit last new all one =
-    (all.0, all.1, all.2, visits_more source log all.0 all.1 visits middle between visit last new all.3 one)
-
-pub serves_more : (count : ℕ) (came since went : Option CallersState) (source here : PlanSource) (log : SiteLog) (first middle last : Content)
-    (before saves after : Option (List Entry)) (old between new : Device) (visit : Visit)
-    → Serves count came since source log first middle before saves old between → here ≡ source
-    → ComeAndGo since went (visit ∷ []) → IsVisit visit here log middle saves last after → Prints between new (visit_text visit)
-    → Serves (count + 1) came went source log first last before after old new
-serves_more count came since went source here log first middle last before saves after old between new visit done same site one told = record {
-  visits = done.visits ++ visit ∷ [];
-  many = length-append done.visits (visit ∷ []) ∙ ap (λ (n : ℕ). n + 1) done.many;
-  sites = come_more came since went done.visits visit done.sites site;
-  sessions = visits_more source log first before done.visits middle saves visit last after done.sessions
-      (subst (λ (plan : PlanSource). IsVisit visit plan log middle saves last after) same one);
-  printed = (
-    subst (Appends old.bytes new.bytes) (flat_map_more visit_text [] done.visits visit)
-        (Appends-trans old.bytes between.bytes new.bytes (flat_map visit_text done.visits) (visit_text visit) done.printed.0 told.0),
-    told.1 ∙ done.printed.1,
-  );
-}
-
--- and none more
-pub stops_serving : (Fails : Fault → Type 0) (count served : ℕ) (came since went : Option CallersState) (source here : PlanSource)
-    (log : SiteLog) (first middle last : Content) (before saves after : Option (List Entry)) (old between new : Device) (failure : Failure)
-    → Serves served came since source log first middle before saves old between → here ≡ source → served < count
-    → StopsAtSession Fails since went here log middle last saves after between new failure
-    → StopsServing Fails count came went source log first last before after old new failure
-stops_serving Fails count served came since went source here log first middle last before saves after old between new failure done same few stop = record {
-  served = served;
-  fewer = few;
-  since = since;
-  middle = middle;
-  saves = saves;
-  between = between;
-  sessions = done;
-  stop = subst (λ (plan : PlanSource). StopsAtSession Fails since went plan log middle last saves after between new failure) same stop;
-}
+  pub visits_of : (count : ℕ) (old new : Meeting (Option CallersState)) → ServesSites Fails log source count old new (Ok tt)
+      → (visits : List Visit) × (length visits ≡ count) × AreVisits Fails log source visits old new × ComeAndGo old.others new.others visits × Prints old.out new.out (flat_map visit_text visits)
+  visits_of zero old new none = (
+    [],
+    refl,
+    (ap (λ (all : Meeting (Option CallersState)). all.shared) none.0, ap (λ (all : Meeting (Option CallersState)). all.out) none.0),
+    subst (λ (all : Meeting (Option CallersState)). ComeAndGo old.others all.others []) (sym none.0) (come_none old.others),
+    subst (λ (all : Meeting (Option CallersState)). Prints old.out all.out []) (sym none.0) (Appends-nil old.out.bytes, refl),
+  )
+  visits_of (suc count) old new (stopped why first is) = absurd (not_err tt why is)
+  visits_of (suc count) old new (went answer between (inr alone) later) = absurd (not_err answer alone.0 alone.2)
+  visits_of (suc count) old new (went answer between (inl comes) later) =
+      let all = visits_of count between new later in
+      let visit : Visit = record { met = comes.0; gone = comes.1; answer = answer } in (
+        visit ∷ all.0,
+        ap (λ n. suc n) all.1,
+        (between, comes.5, all.2),
+        come_first old.others comes.2 between.others new.others visit all.0 comes.3 comes.4 all.3,
+        prints_more old.out between.out new.out (visit_text visit) (flat_map visit_text all.0)
+            (site_printed (meeting comes.0 old.shared old.out) (meeting comes.1 between.shared between.out) answer comes.5) all.4,
+      )

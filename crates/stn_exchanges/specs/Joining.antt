@@ -1,45 +1,70 @@
--- What a log says by now, taken in by a replica of its plan.
-use Rattle.std.specs.Prelude.{◌≡◌, ◌⊎◌, true, false, List, Option, Some}
+-- What a log says by now, taken in by a site of its plan, and saved.
+use Rattle.std.specs.Prelude.{◌≡◌, ◌≢◌, true, false, Option, Some, None, Ok, Err}
+use Rattle.stn_effects.specs.Effects.{Effect, Then, Finds, Makes, Gives}
 use Rattle.stn_lift.specs.PlanSource.{PlanSource}
 use Rattle.stn_records.specs.Content.{Content, join_contents}
 use Rattle.stn_site.specs.Held.{Held, holding_state}
-use Rattle.stn_store.specs.Merging.{IsMergeRefusal}
+use Rattle.stn_store.specs.{Merging.IsMergeRefusal, Steps.{Entries, Saves}, Store.{IsThere, Opens, IsUnopened}}
 use Rattle.stn_line.specs.declared.words.SiteLog.{SiteLog}
-use Rattle.stn_store.specs.Store.{Entry, IsThere, Opens, IsUnopened, IsLack, saved_too}
-use Rattle.stn_refusal.specs.declared.failure.Failure.{Failure}
-use Rattle.stn_refusal.specs.declared.failure.Fault.{Fault}
+use Rattle.stn_refusal.specs.declared.failure.{Failure.Failure, Fault.Fault}
 
--- a state joined with the one that the log says; a log that is gone says nothing
-abbrev pub JoinsLog : Option (List Entry) → SiteLog → PlanSource → Content → Content → Type 0
-JoinsLog entries log source first last =
-    (IsThere entries log.name.now false × (last ≡ first))
-    ⊎ ((said : Held) × Opens entries log.name.now log.site said × (said.source ≡ source) × (join_contents first said.state ≡ Some last))
+-- what the log of a site says; one that is gone says nothing
+abbrev pub IsSaid : SiteLog → Entries → Option Held → Type 0
+IsSaid log entries None = IsThere entries log.name.now false
+IsSaid log entries (Some said) = Opens entries log.name.now log.site said
 
--- why it can't be: memory ran out or a device of the store failed; the log is there and can't be opened; or it is another plan's, or
--- says what can't be taken in
-abbrev pub IsUntaken : (Fault → Type 0) → Option (List Entry) → SiteLog → PlanSource → Content → Failure → Type 0
-IsUntaken Fails entries log source state failure =
-    IsLack Fails failure
-    ⊎ (IsThere entries log.name.now true × IsUnopened entries log.name.now failure)
-    ⊎ ((said : Held) × Opens entries log.name.now log.site said × IsMergeRefusal (holding_state source state) said (Some failure))
+-- a log is there, and can't be opened
+abbrev pub IsUnsaid : SiteLog → Entries → Failure → Type 0
+IsUnsaid log entries failure = IsThere entries log.name.now true × IsUnopened entries log.name.now failure
 
--- the join, and the log saved with it
-abbrev pub SavesJoin : SiteLog → PlanSource → Content → Content → Option (List Entry) → Option (List Entry) → Type 0
-SavesJoin log source first last old new =
-    JoinsLog old log source first last × (new ≡ saved_too old log.name.now (record { source = source; state = last }))
+abbrev pub FindsSaid : (Fault → Type 0) → SiteLog → Effect Entries (Option Held)
+FindsSaid Fails log = Finds Fails (IsSaid log) (IsUnsaid log)
 
--- the join saved, and the site's own state left as it is
-abbrev pub KeepsIn : SiteLog → PlanSource → Content → Option (List Entry) → Option (List Entry) → Type 0
-KeepsIn log source state old new = (last : Content) × SavesJoin log source state last old new
+-- a copy of a plan takes in all that another one holds
+abbrev pub Joins : (Fault → Type 0) → Held → Held → Effect Entries Content
+Joins Fails ours theirs = Makes Fails (λ state. (ours.source ≡ theirs.source) × (join_contents ours.state theirs.state ≡ Some state)) (IsMergeRefusal ours theirs)
 
--- why it was not, and the log is as it was: memory ran out or a device of the store failed; the log can't be opened; or it is another
--- plan's, or can't take in the state
-abbrev pub FailsIn : (Fault → Type 0) → SiteLog → PlanSource → Content → Option (List Entry) → Option (List Entry) → Failure → Type 0
-FailsIn Fails log source state old new failure = (new ≡ old) × (IsLack Fails failure ⊎ IsUnopened old log.name.now failure
-    ⊎ ((said : Held) × Opens old log.name.now log.site said × IsMergeRefusal said (holding_state source state) (Some failure)))
+-- ---- before a session and after it, the site takes in what its log says
+abbrev pub TakesSaid : (Fault → Type 0) → PlanSource → Content → Option Held → Effect Entries Content
+TakesSaid Fails source state None = Gives state
+TakesSaid Fails source state (Some said) = Joins Fails (holding_state source state) said
 
--- why it was not saved, and what state was left: the log was not held, or it was not taken in; or the join was not saved
-abbrev pub IsUnkept : (Fault → Type 0) → Option (List Entry) → SiteLog → PlanSource → Content → Content → Failure → Type 0
-IsUnkept Fails entries log source first last failure =
-    (IsUntaken Fails entries log source first failure × (last ≡ first))
-    ⊎ (JoinsLog entries log source first last × IsLack Fails failure)
+-- what a site holds of its plan, and a store
+pub record Shared : Type 0 where
+  pub state : Content
+  pub entries : Entries
+
+abbrev pub shared : Content → Entries → Shared
+shared state entries = record { state = state; entries = entries }
+
+-- an effect on the store gives the state that the site holds then; if it stops, the state stays
+abbrev pub Becomes : (Content → Effect Entries Content) → Effect Shared (Unit {0})
+Becomes Does old new (Ok done) = Does old.state old.entries new.entries (Ok new.state)
+Becomes Does old new (Err failure) = Does old.state old.entries new.entries (Err failure) × (new.state ≡ old.state)
+
+abbrev pub TakesLog : (Fault → Type 0) → SiteLog → PlanSource → Effect Shared (Unit {0})
+TakesLog Fails log source =
+    Becomes (λ state.
+    Then (FindsSaid Fails log) (λ said.
+    TakesSaid Fails source state said))
+
+-- the log is saved with the state that the site holds
+abbrev pub SavesState : (Fault → Type 0) → SiteLog → PlanSource → Effect Shared (Unit {0})
+SavesState Fails log source old new ended =
+    Saves Fails log.name.now (record { source = source; state = old.state }) old.entries new.entries ended × (new.state ≡ old.state)
+
+abbrev pub SavesJoin : (Fault → Type 0) → SiteLog → PlanSource → Effect Shared (Unit {0})
+SavesJoin Fails log source =
+    Then (TakesLog Fails log source) (λ _.
+    SavesState Fails log source)
+
+-- ---- in a session, the log takes in a state of the site, which stays as it is
+abbrev pub SaidTakes : (Fault → Type 0) → PlanSource → Content → Option Held → Effect Entries Content
+SaidTakes Fails source state None = Gives state
+SaidTakes Fails source state (Some said) = Joins Fails said (holding_state source state)
+
+abbrev pub KeepsIn : (Fault → Type 0) → SiteLog → PlanSource → Content → Effect Entries (Unit {0})
+KeepsIn Fails log source state =
+    Then (FindsSaid Fails log) (λ said.
+    Then (SaidTakes Fails source state said) (λ joined.
+    Saves Fails log.name.now (record { source = source; state = joined })))

@@ -1,3 +1,4 @@
-pub mod Connections
 pub mod Joining
+pub mod Connections
+pub mod Visits
 pub mod Peer

@@ -1,10 +1,6 @@
 -- A site at the other end of a connection.
 use Rattle.std.specs.Prelude.{◌≡◌, ℕ, Option, None}
-use Rattle.stn_device.specs.Callers.{CallersState}
-use Rattle.stn_device.specs.Counted.{counted_device}
-use Rattle.stn_device.specs.Deadline.{deadline_of, limit_of}
-use Rattle.stn_device.specs.declared.deadline.UntilDeadline.{UntilDeadline}
-use Rattle.stn_device.specs.declared.partner.Partner.{Partner}
+use Rattle.stn_device.specs.{Callers.CallersState, Counted.counted_device, Deadline.{deadline_of, limit_of}, declared.{deadline.UntilDeadline.UntilDeadline, partner.Partner.Partner}}
 
 -- it is read and written up to one deadline, so many nanoseconds after some moment
 abbrev pub MayTake : {S : Type 0} → Partner (UntilDeadline S) (UntilDeadline S) → ℕ → Type 0

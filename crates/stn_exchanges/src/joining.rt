@@ -1,41 +1,30 @@
-//! What a log says by now, taken in by a replica.
+//! What a log says by now, taken in by a site, and saved.
 
-ghost use Rattle.std.specs.Prelude.{◌≡◌, ◌⊎◌, OnOk, OnErr, IfOk, IfErr, IfSome};
-ghost use Rattle.stn_exchanges.specs.Joining.{JoinsLog, IsUntaken, SavesJoin, KeepsIn, FailsIn, IsUnkept};
-ghost use Rattle.stn_site.specs.Calls.{Leaves, took};
-ghost use Rattle.stn_store.specs.Merging.{IsMergeFailure};
-ghost use Rattle.stn_store.specs.Log.{log_held};
-ghost use Rattle.stn_store.specs.Store.{Opens, IsUnopened, IsLack, saved_too};
+ghost use Rattle.std.specs.Prelude.{◌≡◌, ◌⊎◌, IfSome, IfOk, IfErr};
+ghost use Rattle.stn_exchanges.specs.Joining.{FindsSaid, TakesLog, SavesJoin, KeepsIn, shared};
+ghost use Rattle.stn_store.specs.{Log.log_held, Steps.Saves, Store.{Opens, IsUnopened, IsLack}};
 
 use std::alloc::Allocator;
 use stn_line::SiteLog;
 use stn_refusal::Failure;
-use stn_replica::Replica;
 use stn_session::Keeper;
-use stn_site::SitePlan;
-use stn_store::{Store, find_same, take_in as take_in_plan};
+use stn_site::{SiteCopy, SitePlan};
+use stn_store::{Store, take_in};
 
-/// Takes in what a log says, held or not. A log that is gone says nothing. A refusal or a fault changes nothing.
-pub fn take_log<'a, S: Store<A>, A: Allocator + Copy>(
+// What a log says, held or not. A log that is gone says nothing.
+fn find_said<'a, S: Store<A>, A: Allocator + Copy>(
     store: &'a S,
     log: &SiteLog<'_>,
     held: Option<&'a S::Held>,
-    replica: &mut Replica<A>,
-) -> Result<(), Failure>
+) -> Result<Option<SitePlan<A>>, Failure>
     requires { IfSome held (λ held. S.held_name held.now ≡ log.now.name.now) }
-    ensures taken { OnOk result (JoinsLog (S.entries store.now) log.now replica.old.source replica.old.state replica.new.state) }
-    ensures untaken { IfErr result (IsUntaken S.fails (S.entries store.now) log.now replica.old.source replica.old.state) }
-    ensures kept { OnErr result (replica.new ≡ replica.old) }
-    ensures source { replica.new.source ≡ replica.old.source }
-    ensures site { replica.new.site ≡ replica.old.site }
+    ensures { FindsSaid S.fails log.now (S.entries store.now) (S.entries store.now) result }
 {
     if store.is_there(log.name)? {
         let said = load(store, log, held)?;
-        let taken = take_in(replica, &said);
-        drop(said);
-        taken
+        Ok(Some(said))
     } else {
-        Ok(())
+        Ok(None)
     }
 }
 
@@ -55,22 +44,43 @@ fn load<S: Store<A>, A: Allocator + Copy>(
     }
 }
 
+/// Takes in what a log says, held or not. A log that is gone says nothing. A refusal or a fault changes nothing.
+pub fn take_log<'a, S: Store<A>, A: Allocator + Copy, C: SiteCopy<A>>(
+    store: &'a S,
+    log: &SiteLog<'_>,
+    held: Option<&'a S::Held>,
+    copy: &mut C,
+) -> Result<(), Failure>
+    requires { IfSome held (λ held. S.held_name held.now ≡ log.now.name.now) }
+    ensures taken { TakesLog S.fails log.now (C.held copy.old).source
+        (shared (C.held copy.old).state (S.entries store.now)) (shared (C.held copy.new).state (S.entries store.now)) result }
+    ensures source { (C.held copy.new).source ≡ (C.held copy.old).source }
+    ensures site { (C.held copy.new).site ≡ (C.held copy.old).site }
+{
+    match find_said(store, log, held)? {
+        Some(said) => {
+            let taken = take_in(copy, &said);
+            drop(said);
+            taken
+        }
+        None => Ok(()),
+    }
+}
+
 /// Takes in what a log says by now, and saves the join. No other program changes the log meanwhile.
-pub fn save_join<S: Store<A>, A: Allocator + Copy>(
+pub fn save_join<S: Store<A>, A: Allocator + Copy, C: SiteCopy<A>>(
     store: &mut S,
     log: &SiteLog<'_>,
-    replica: &mut Replica<A>,
+    copy: &mut C,
 ) -> Result<(), Failure>
-    ensures saved { OnOk result (SavesJoin log.now replica.old.source replica.old.state replica.new.state
-        (S.entries store.old) (S.entries store.new)) }
-    ensures unkept { IfErr result (IsUnkept S.fails (S.entries store.old) log.now replica.old.source replica.old.state replica.new.state) }
-    ensures unsaved { OnErr result (S.entries store.new ≡ S.entries store.old) }
-    ensures source { replica.new.source ≡ replica.old.source }
-    ensures site { replica.new.site ≡ replica.old.site }
+    ensures saved { SavesJoin S.fails log.now (C.held copy.old).source
+        (shared (C.held copy.old).state (S.entries store.old)) (shared (C.held copy.new).state (S.entries store.new)) result }
+    ensures source { (C.held copy.new).source ≡ (C.held copy.old).source }
+    ensures site { (C.held copy.new).site ≡ (C.held copy.old).site }
 {
     let held = store.hold(log.name)?;
-    take_log(store, log, Some(&held), replica)?;
-    save(store, &held, replica.plan())
+    take_log(store, log, Some(&held), copy)?;
+    save(store, &held, copy.plan())
 }
 
 // Saves a site's copy of a plan as the log that is held.
@@ -79,42 +89,27 @@ fn save<S: Store<A>, A: Allocator + Copy>(
     held: &S::Held,
     plan: &SitePlan<A>,
 ) -> Result<(), Failure>
-    ensures saved { OnOk result (S.entries store.new ≡ saved_too (S.entries store.old) (S.held_name held.now) (log_held plan.now)) }
-    ensures kept { OnErr result (S.entries store.new ≡ S.entries store.old) }
-    ensures failed { IfErr result (IsLack S.fails) }
+    ensures { Saves S.fails (S.held_name held.now) (log_held plan.now) (S.entries store.old) (S.entries store.new) result }
 {
     store.save(held, plan)?;
     Ok(())
 }
 
-// Takes all that another copy of the same plan holds. A refusal changes nothing.
-fn take_in<A: Allocator + Copy>(replica: &mut Replica<A>, said: &SitePlan<A>) -> Result<(), Failure>
-    ensures same { OnOk result (replica.old.source ≡ said.now.source) }
-    ensures left { OnOk result (Leaves replica.old (took said.now.state) replica.new) }
-    ensures refused { IfErr result (IsMergeFailure replica.old said.now) }
-    ensures kept { OnErr result (replica.new ≡ replica.old) }
-{
-    find_same(replica.base(), said.base())?;
-    replica.take(said.records())?;
-    Ok(())
-}
-
-/// Saves what a log says by now, joined with what a replica holds. The replica stays as it is.
+/// Saves what a log says by now, joined with what a site holds, whose copy of the plan stays as it is.
 pub fn keep_join<S: Store<A>, A: Allocator + Copy>(
     store: &mut S,
     log: &SiteLog<'_>,
-    replica: &Replica<A>,
+    plan: &SitePlan<A>,
 ) -> Result<(), Failure>
-    ensures kept { OnOk result (KeepsIn log.now replica.now.source replica.now.state (S.entries store.old) (S.entries store.new)) }
-    ensures failed { IfErr result (FailsIn S.fails log.now replica.now.source replica.now.state (S.entries store.old) (S.entries store.new)) }
+    ensures { KeepsIn S.fails log.now plan.now.source plan.now.state (S.entries store.old) (S.entries store.new) result }
 {
     let lock = store.hold(log.name)?;
-    if store.is_there(log.name)? {
-        let mut said = store.load_held(&lock, log.site)?;
-        take_in_plan(&mut said, replica.plan())?;
-        save(store, &lock, &said)
-    } else {
-        save(store, &lock, replica.plan())
+    match find_said(store, log, Some(&lock))? {
+        Some(mut said) => {
+            take_in(&mut said, plan)?;
+            save(store, &lock, &said)
+        }
+        None => save(store, &lock, plan),
     }
 }
 
@@ -125,11 +120,9 @@ pub struct InLog<'a, 'b> {
 }
 
 impl<'a, 'b, S: Store<A>, A: Allocator + Copy> Keeper<S, A> for InLog<'a, 'b> {
-    ghost keeps = { λ keeper source state old new. KeepsIn keeper.log.now source state (S.entries old) (S.entries new) };
+    ghost keeps = { λ keeper source state old new. KeepsIn S.fails keeper.log.now source state (S.entries old) (S.entries new) };
 
-    ghost fails = { λ keeper source state old new. FailsIn S.fails keeper.log.now source state (S.entries old) (S.entries new) };
-
-    fn keep(&self, store: &mut S, replica: &Replica<A>) -> Result<(), Failure> {
-        keep_join(store, self.log, replica)
+    fn keep(&self, store: &mut S, plan: &SitePlan<A>) -> Result<(), Failure> {
+        keep_join(store, self.log, plan)
     }
 }

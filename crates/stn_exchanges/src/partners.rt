@@ -1,10 +1,11 @@
 //! Sessions and exchanges with other sites, over any reader and writer.
 
-ghost use Rattle.std.specs.Prelude.{◌≡◌, ◌++◌, ◌-◌, ◌^◌, ◌<◌, Ok, IfOk, IfErr, OnOk, OnErr};
-ghost use Rattle.stn_device.specs.Counted.{failure_count};
-ghost use Rattle.stn_device.specs.Partner.{partner_state};
-ghost use Rattle.stn_exchanges.specs.Connections.{end_text, fault_word, session_answer, session_text, IsSessionBetween, IsSessionUnkept, IsSavedSession, IsUnservedSession, Visit, visit_text, IsVisit, PartsAfter, StopsAtPartner, Exchanges, StopsAsking, SendsTo, StopsSendingTo};
-ghost use Rattle.stn_effects.specs.Printing.{device_of, Prints, IsUnprinted};
+ghost use Rattle.std.specs.Prelude.{◌≡◌, ◌++◌, ◌-◌, ◌^◌, ◌<◌, OnOk};
+ghost use Rattle.stn_device.specs.{Counted.failure_count, Partner.partner_state};
+ghost use Rattle.stn_effects.specs.{Effects.seen, Printing.{Device, device_of, Writes}};
+ghost use Rattle.stn_exchanges.specs.{Connections.{end_text, fault_word, session_text, meeting, PartsAfter, ServesSite, Asks, Receives, SendsTo}, Joining.{KeepsIn, shared}};
+ghost use Rattle.stn_session.specs.Serving.{Serves, talk, session_answer};
+ghost use Rattle.stn_store.specs.Steps.{Entries};
 
 use crate::joining::{InLog, save_join, take_log};
 use itoa::Buffer;
@@ -14,83 +15,63 @@ use stn_device::{Counted, Finish, Partner};
 use stn_effects::{print, print_now};
 use stn_line::SiteLog;
 use stn_refusal::Failure;
-use stn_replica::Replica;
 use stn_session::{
     End, KeepingFault, ServeFault, Served, receive_replies, send_requests, serve_keeping,
 };
+use stn_site::SiteCopy;
 use stn_store::Store;
 use stn_time::Memory;
 
 /// Serves another site: takes in what the log says, serves a session, takes in what the log says by then, saves the log and prints how
 /// the session ended. Where the other site was refused, it is parted from. In the session, a state that the other site's records made
 /// another one is saved before that site is told of it.
-pub fn serve_partner<S: Store<A>, R: Read, W: Finish, O: Write, A: Allocator + Copy>(
+pub fn serve_partner<
+    S: Store<A>,
+    R: Read,
+    W: Finish,
+    O: Write,
+    A: Allocator + Copy,
+    C: SiteCopy<A>,
+>(
     alloc: A,
     store: &mut S,
     partner: &mut Partner<R, W>,
     log: &SiteLog<'_>,
-    replica: &mut Replica<A>,
+    copy: &mut C,
     out: &mut Counted<O>,
-) -> Result<(), Failure>
-    requires reader_counts { failure_count partner.old.reader < 2 ^ 64 - 1 }
-    requires writer_counts { failure_count partner.old.writer < 2 ^ 64 - 1 }
-    ensures served { OnOk result ((visit : Visit)
-        × (visit.met ≡ partner_state R.remaining W.contents W.ended partner.old)
-        × (visit.gone ≡ partner_state R.remaining W.contents W.ended partner.new)
-        × IsVisit visit replica.old.source log.now replica.old.state (S.entries store.old) replica.new.state (S.entries store.new)
-        × Prints (device_of O.contents out.old) (device_of O.contents out.new) (visit_text visit)) }
-    ensures stopped { IfErr result (StopsAtPartner S.fails (partner_state R.remaining W.contents W.ended partner.old) (partner_state R.remaining W.contents W.ended partner.new)
-        replica.old.source log.now replica.old.state replica.new.state
-        (S.entries store.old) (S.entries store.new) (device_of O.contents out.old) (device_of O.contents out.new)) }
-    ensures source { replica.new.source ≡ replica.old.source }
-    ensures site { replica.new.site ≡ replica.old.site }
-{
-    let session = serve_saved(alloc, store, partner, log, replica)?;
-    print_session(alloc, session, out)?;
-    part_after(session, partner);
-    Ok(())
-}
-
-// Takes in what the log says, serves a session, and saves the log.
-fn serve_saved<S: Store<A>, R: Read, W: Finish, A: Allocator + Copy>(
-    alloc: A,
-    store: &mut S,
-    partner: &mut Partner<R, W>,
-    log: &SiteLog<'_>,
-    replica: &mut Replica<A>,
 ) -> Result<Result<Served, ServeFault>, Failure>
     requires reader_counts { failure_count partner.old.reader < 2 ^ 64 - 1 }
     requires writer_counts { failure_count partner.old.writer < 2 ^ 64 - 1 }
-    ensures served { IfOk result (λ answer. IsSavedSession (partner_state R.remaining W.contents W.ended partner.old) (partner_state R.remaining W.contents W.ended partner.new)
-        replica.old.source log.now replica.old.state (S.entries store.old)
-        answer replica.new.state (S.entries store.new)) }
-    ensures unserved { IfErr result (IsUnservedSession S.fails (partner_state R.remaining W.contents W.ended partner.old) (partner_state R.remaining W.contents W.ended partner.new)
-        replica.old.source log.now replica.old.state replica.new.state (S.entries store.old) (S.entries store.new)) }
-    ensures source { replica.new.source ≡ replica.old.source }
-    ensures site { replica.new.site ≡ replica.old.site }
+    ensures served { ServesSite S.fails log.now (C.held copy.old).source
+        (meeting (partner_state R.remaining W.contents W.ended partner.old) (shared (C.held copy.old).state (S.entries store.old)) (device_of O.contents out.old))
+        (meeting (partner_state R.remaining W.contents W.ended partner.new) (shared (C.held copy.new).state (S.entries store.new)) (device_of O.contents out.new)) result }
+    ensures source { (C.held copy.new).source ≡ (C.held copy.old).source }
+    ensures site { (C.held copy.new).site ≡ (C.held copy.old).site }
 {
-    take_log(store, log, None, replica)?;
-    let session = serve_session(alloc, store, partner, log, replica)?;
-    save_join(store, log, replica)?;
+    take_log(store, log, None, copy)?;
+    let session = serve_session(alloc, store, partner, log, copy)?;
+    save_join(store, log, copy)?;
+    print_session(alloc, session, out)?;
+    part_after(session, partner);
     Ok(session)
 }
 
-// Serves a session, and saves in the log each state before the other site is told of it.
-fn serve_session<S: Store<A>, R: Read, W: Finish, A: Allocator + Copy>(
+// Serves a session, and saves in the log each state before the other site is told of it. A fault that ends a session is told in its
+// line; a state that could not be saved ends the serving.
+fn serve_session<S: Store<A>, R: Read, W: Finish, A: Allocator + Copy, C: SiteCopy<A>>(
     alloc: A,
     store: &mut S,
     partner: &mut Partner<R, W>,
     log: &SiteLog<'_>,
-    replica: &mut Replica<A>,
+    copy: &mut C,
 ) -> Result<Result<Served, ServeFault>, Failure>
     requires reader_counts { failure_count partner.old.reader < 2 ^ 64 - 1 }
     requires writer_counts { failure_count partner.old.writer < 2 ^ 64 - 1 }
-    ensures session { IfOk result (λ answer. IsSessionBetween (partner_state R.remaining W.contents W.ended partner.old) (partner_state R.remaining W.contents W.ended partner.new)
-        replica.old.source log.now replica.old.state answer replica.new.state (S.entries store.old) (S.entries store.new)) }
-    ensures unkept { IfErr result (IsSessionUnkept S.fails (partner_state R.remaining W.contents W.ended partner.old) (partner_state R.remaining W.contents W.ended partner.new)
-        replica.old.source log.now replica.old.state replica.new.state (S.entries store.old) (S.entries store.new)) }
-    ensures source { replica.new.source ≡ replica.old.source }
-    ensures site { replica.new.site ≡ replica.old.site }
+    ensures session { Serves (KeepsIn S.fails log.now (C.held copy.old).source) (C.held copy.old).source
+        (talk (device_of R.remaining partner.old.reader) (device_of W.contents partner.old.writer) (C.held copy.old).state (S.entries store.old))
+        (talk (device_of R.remaining partner.new.reader) (device_of W.contents partner.new.writer) (C.held copy.new).state (S.entries store.new)) result }
+    ensures source { (C.held copy.new).source ≡ (C.held copy.old).source }
+    ensures site { (C.held copy.new).site ≡ (C.held copy.old).site }
 {
     let keeper = InLog { log };
     let session = serve_keeping(
@@ -99,12 +80,12 @@ fn serve_session<S: Store<A>, R: Read, W: Finish, A: Allocator + Copy>(
         store,
         &mut partner.reader,
         &mut partner.writer,
-        replica,
+        copy,
     );
     answer_of(session)
 }
 
-// A fault that ends a session is told in its line; a state that could not be saved ends the serving.
+// What came of a session.
 fn answer_of(session: Result<Served, KeepingFault>) -> Result<Result<Served, ServeFault>, Failure>
     ensures { result ≡ session_answer session }
 {
@@ -136,8 +117,7 @@ fn print_session<W: Write, A: Allocator>(
     session: Result<Served, ServeFault>,
     out: &mut Counted<W>,
 ) -> Result<(), Failure>
-    ensures printed { OnOk result (Prints (device_of W.contents out.old) (device_of W.contents out.new) (session_text session)) }
-    ensures failed { IfErr result (IsUnprinted (device_of W.contents out.old) (device_of W.contents out.new) (session_text session)) }
+    ensures { Writes (session_text session) (device_of W.contents out.old) (device_of W.contents out.new) result }
 {
     let mut text = Vec::new(alloc);
     append_session(&mut text, session)?;
@@ -193,47 +173,63 @@ fn word_of(fault: ServeFault) -> &'static [u8]
     }
 }
 
-/// Sends another site what a replica holds and takes in what it replies; then what the log says by then is taken in, the log is saved,
+/// Sends another site what this site holds and takes in what it replies; then what the log says by then is taken in, the log is saved,
 /// and the text that came is printed.
-pub fn send_to_partner<S: Store<A>, R: Read, W: Finish, O: Write, A: Allocator + Copy>(
+pub fn send_to_partner<
+    S: Store<A>,
+    R: Read,
+    W: Finish,
+    O: Write,
+    A: Allocator + Copy,
+    C: SiteCopy<A>,
+>(
     alloc: A,
     store: &mut S,
     partner: &mut Partner<R, W>,
     log: &SiteLog<'_>,
-    replica: &mut Replica<A>,
+    copy: &mut C,
     out: &mut Counted<O>,
 ) -> Result<(), Failure>
     requires reader_counts { failure_count partner.old.reader < 2 ^ 64 - 1 }
     requires writer_counts { failure_count partner.old.writer < 2 ^ 64 - 1 }
-    ensures sent { OnOk result (SendsTo (partner_state R.remaining W.contents W.ended partner.old) (partner_state R.remaining W.contents W.ended partner.new)
-        replica.old.source log.now replica.old.state replica.new.state
-        (S.entries store.old) (S.entries store.new) (device_of O.contents out.old) (device_of O.contents out.new)) }
-    ensures stopped { IfErr result (StopsSendingTo S.fails (partner_state R.remaining W.contents W.ended partner.old) (partner_state R.remaining W.contents W.ended partner.new)
-        replica.old.source log.now replica.old.state replica.new.state
-        (S.entries store.old) (S.entries store.new) (device_of O.contents out.old) (device_of O.contents out.new)) }
-    ensures source { replica.new.source ≡ replica.old.source }
-    ensures site { replica.new.site ≡ replica.old.site }
+    ensures sent { SendsTo S.fails log.now (C.held copy.old).source
+        (meeting (partner_state R.remaining W.contents W.ended partner.old) (shared (C.held copy.old).state (S.entries store.old)) (device_of O.contents out.old))
+        (meeting (partner_state R.remaining W.contents W.ended partner.new) (shared (C.held copy.new).state (S.entries store.new)) (device_of O.contents out.new)) result }
+    ensures source { (C.held copy.new).source ≡ (C.held copy.old).source }
+    ensures site { (C.held copy.new).site ≡ (C.held copy.old).site }
 {
-    let text = ask(alloc, partner, replica)?;
-    save_join(store, log, replica)?;
+    ask(alloc, partner, copy)?;
+    let text = hear(alloc, partner, copy)?;
+    save_join(store, log, copy)?;
     print(&text, out)
 }
 
-// Sends what a replica holds, and takes in the replies: the text that came.
-fn ask<R: Read, W: Finish, A: Allocator + Copy>(
+// Tells another site the requests.
+fn ask<R: Read, W: Finish, A: Allocator + Copy, C: SiteCopy<A>>(
     alloc: A,
     partner: &mut Partner<R, W>,
-    replica: &mut Replica<A>,
-) -> Result<Vec<u8, A>, Failure>
-    requires reader_counts { failure_count partner.old.reader < 2 ^ 64 - 1 }
-    requires writer_counts { failure_count partner.old.writer < 2 ^ 64 - 1 }
-    ensures exchanged { IfOk result (λ text. Exchanges (partner_state R.remaining W.contents W.ended partner.old) (partner_state R.remaining W.contents W.ended partner.new)
-        replica.old.source replica.old.state replica.new.state (Ok text.items)) }
-    ensures refused { IfErr result (StopsAsking (partner_state R.remaining W.contents W.ended partner.old) (partner_state R.remaining W.contents W.ended partner.new)
-        replica.old.source replica.old.state replica.new.state) }
-    ensures source { replica.new.source ≡ replica.old.source }
-    ensures site { replica.new.site ≡ replica.old.site }
+    copy: &C,
+) -> Result<(), Failure>
+    ensures { (entries : Entries) (out : Device) → Asks (C.held copy.now).source
+        (meeting (partner_state R.remaining W.contents W.ended partner.old) (shared (C.held copy.now).state entries) out)
+        (meeting (partner_state R.remaining W.contents W.ended partner.new) (shared (C.held copy.now).state entries) out) result }
 {
-    send_requests(alloc, replica, &mut partner.writer)?;
-    Ok(receive_replies(alloc, &mut partner.reader, replica)?)
+    send_requests(alloc, copy, &mut partner.writer)?;
+    Ok(())
+}
+
+// Receives the replies: the text that came.
+fn hear<R: Read, W: Finish, A: Allocator + Copy, C: SiteCopy<A>>(
+    alloc: A,
+    partner: &mut Partner<R, W>,
+    copy: &mut C,
+) -> Result<Vec<u8, A>, Failure>
+    requires { failure_count partner.old.reader < 2 ^ 64 - 1 }
+    ensures received { (entries : Entries) → Receives (C.held copy.old).source
+        (talk (device_of R.remaining partner.old.reader) (device_of W.contents partner.old.writer) (C.held copy.old).state entries)
+        (talk (device_of R.remaining partner.new.reader) (device_of W.contents partner.new.writer) (C.held copy.new).state entries) (seen (λ text. text.items) result) }
+    ensures source { (C.held copy.new).source ≡ (C.held copy.old).source }
+    ensures site { (C.held copy.new).site ≡ (C.held copy.old).site }
+{
+    Ok(receive_replies(alloc, &mut partner.reader, copy)?)
 }

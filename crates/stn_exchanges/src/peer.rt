@@ -1,11 +1,7 @@
 //! Sites at the other end of a connection, each with the time that it may take.
 
-ghost use Rattle.std.specs.Prelude.{◌≡◌, IfOk, IfErr};
-ghost use Rattle.std.specs.Duration.{as_nanos};
-ghost use Rattle.stn_device.specs.Callers.{gone_too};
-ghost use Rattle.stn_device.specs.Counted.{failure_count};
-ghost use Rattle.stn_device.specs.Deadline.{limit_of};
-ghost use Rattle.stn_device.specs.Partner.{stranger};
+ghost use Rattle.std.specs.{Prelude.{◌≡◌, IfOk, IfErr}, Duration.as_nanos};
+ghost use Rattle.stn_device.specs.{Callers.gone_too, Counted.failure_count, Deadline.limit_of, Partner.stranger};
 ghost use Rattle.stn_exchanges.specs.Peer.{MayTake, strangers};
 ghost use Rattle.stn_refusal.specs.declared.failure.Failure.TheVariants.{Failed};
 ghost use Rattle.stn_refusal.specs.declared.failure.Fault.TheVariants as fault;

@@ -1,21 +1,10 @@
 -- Replies that come one after the other.
-use Rattle.std.proofs.Common.{◌≡◌, ℕ, ◌+◌, List, [], ◌∷◌, ◌++◌, length, ◌⊎◌, Option, Result, Ok, Err, refl, sym, ap, subst, ◌∙◌, inl, inr, ⊎_elim, arith, append_assoc, length-append}
-use Rattle.std.specs.Prelude.{flat_map, IfOk, IfErr, OnOk, OnErr}
-use Rattle.std.specs.Io.KnownBytes.{Consumes}
-use Rattle.std.proofs.KnownBytes.{Consumes-nil, Consumes-trans}
-use Rattle.std.proofs.lemmas.List.Sums.{fold-append}
+use Rattle.std.{proofs.{Common.{◌≡◌, ℕ, ◌+◌, List, [], ◌∷◌, ◌++◌, length, ◌⊎◌, Option, Result, Ok, Err, refl, sym, ap, subst, ◌∙◌, inl, inr, ⊎_elim, arith, append_assoc, length-append}, KnownBytes.{Consumes-nil, Consumes-trans}, lemmas.List.Sums.fold-append}, specs.{Prelude.{flat_map, IfOk, IfErr, OnOk, OnErr}, Io.KnownBytes.Consumes}}
 use Rattle.stn_time.proofs.Each.{each_pushed}
-use Rattle.stn_wire.proofs.Streams.{cut_more}
+use Rattle.stn_wire.{proofs.Streams.cut_more, specs.{Frame.{FrameContent, content, same, records, text, spelling, IsFrame}, declared.frame.Frame.Frame as WireFrame, Stream.{unread, pending, Held.Stream}}}
 use Rattle.stn_lift.specs.PlanSource.{PlanSource}
 use Rattle.stn_records.specs.Content.{Content}
-use Rattle.stn_wire.specs.Frame.{FrameContent, content, same, records, text, spelling, IsFrame}
-use Rattle.stn_wire.specs.declared.frame.Frame.{Frame as WireFrame}
-use Rattle.stn_wire.specs.Stream.Held.{Stream}
-use Rattle.stn_wire.specs.Stream.{unread, pending}
-use Rattle.stn_session.specs.Exchange.{Stage, greeting, handing, telling, told, failed, Reception, at_stage, expecting, greeted_by, handed, told_by, staged, IsWaiting, IsReception, IsReceived, seen}
-use Rattle.stn_session.specs.Turns.{Finds, Came, Leads}
-use Rattle.stn_session.specs.declared.exchange.ReplyFault.{ReplyFault}
-use Rattle.stn_session.specs.declared.exchange.ReplyFault.TheVariants.{Memory}
+use Rattle.stn_session.specs.{Exchange.{Stage, greeting, handing, telling, told, failed, Reception, at_stage, expecting, greeted_by, handed, told_by, staged, IsWaiting, IsReception, IsReceived, seen}, Turns.{Finds, Came, Leads}, declared.exchange.ReplyFault.{ReplyFault, TheVariants.Memory}}
 
 -- one frame more
 abbrev received : PlanSource → Reception → FrameContent → Reception

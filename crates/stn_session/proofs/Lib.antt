@@ -1,7 +1,6 @@
 pub mod Sessions
 pub mod Exchanges
 pub mod Unique
-pub mod Answered
 pub mod Taken
 pub mod OneReception
 pub mod SomeSession

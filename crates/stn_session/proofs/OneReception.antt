@@ -1,20 +1,10 @@
 -- Bytes have one reception.
-use Rattle.std.proofs.Common.{◌≡◌, ◌⊎◌, ℕ, ◌+◌, ◌-◌, ◌<◌, ◌≤◌, List, [], ◌∷◌, ◌++◌, length, take, Option, Some, None, Result, Ok, Err, refl, sym, ap, subst, ◌∙◌, inl, inr, ⊎_elim, arith, append_assoc, append-nil, length-append}
-use Rattle.std.specs.Prelude.{flat_map}
-use Rattle.std.specs.List.{AllByRecursion}
-use Rattle.std.proofs.lemmas.List.{take_at}
-use Rattle.std.proofs.Math.Seq.{take-append-add, take-nil}
+use Rattle.std.{proofs.{Common.{◌≡◌, ◌⊎◌, ℕ, ◌+◌, ◌-◌, ◌<◌, ◌≤◌, List, [], ◌∷◌, ◌++◌, length, take, Option, Some, None, Result, Ok, Err, refl, sym, ap, subst, ◌∙◌, inl, inr, ⊎_elim, arith, append_assoc, append-nil, length-append}, lemmas.List.take_at, Math.Seq.{take-append-add, take-nil}}, specs.{Prelude.flat_map, List.AllByRecursion}}
 use Rattle.stn_device.specs.Bytes.{most_bytes}
 use Rattle.stn_lift.specs.PlanSource.{PlanSource}
 use Rattle.stn_records.specs.Content.{Content}
-use Rattle.stn_wire.specs.Frame.{FrameContent, spelling, IsFrame}
-use Rattle.stn_wire.specs.Front.{Front, whole, faulty, unfinished, IsFront}
-use Rattle.stn_wire.proofs.{Fronts.fault_more, Fronts.whole_in_front, Streams.one_fault}
-use Rattle.stn_wire.specs.Stream.{wire_fault}
-use Rattle.stn_session.specs.Exchange.{Stage, greeting, told, failed, Reception, at_stage, expecting, staged, replied, IsWaiting, IsLost, IsReceived}
-use Rattle.stn_session.specs.Reception.{SaysReplies}
-use Rattle.stn_session.specs.declared.exchange.ReplyFault.{ReplyFault}
-use Rattle.stn_session.specs.declared.exchange.ReplyFault.TheVariants.{Refused, Frame, Reply, Replica, Read, Bound, Memory}
+use Rattle.stn_wire.{specs.{Frame.{FrameContent, spelling, IsFrame}, Front.{Front, whole, faulty, unfinished, IsFront}, Stream.wire_fault}, proofs.{Fronts.{fault_more, whole_in_front}, Streams.one_fault}}
+use Rattle.stn_session.specs.{Exchange.{Stage, greeting, told, failed, Reception, at_stage, expecting, staged, replied, IsWaiting, IsLost, IsReceived}, Reception.SaysReplies, declared.exchange.ReplyFault.{ReplyFault, TheVariants.{Refused, Frame, Reply, Replica, Read, Bound, Memory}}}
 
 -- what a stage answers, where no reply is waited for
 abbrev pub verdict : Stage → Option (Result (List ℕ) ReplyFault)

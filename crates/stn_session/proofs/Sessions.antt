@@ -1,31 +1,14 @@
 -- A session that goes on, frame by frame, and what it keeps.
-use Rattle.std.proofs.Common.{◌≡◌, ◌≢◌, ℕ, ◌+◌, ◌<◌, ◌≤◌, cond, Bool, true, false, List, [], ◌∷◌, ◌++◌, length, Option, Some, None, Err, refl, sym, ap, subst, ◌∙◌, inl, inr, ⊎_elim, arith, append_assoc, append-nil, length-append}
-use Rattle.std.specs.Prelude.{flat_map, is_some}
-use Rattle.std.specs.Io.KnownBytes.{Consumes, Appends}
-use Rattle.std.proofs.KnownBytes.{Consumes-nil, Consumes-trans, Appends-nil, Appends-trans}
-use Rattle.std.proofs.lemmas.List.Sums.{fold-append}
-use Rattle.stn_device.specs.Bytes.{AppendsPart}
+use Rattle.std.{proofs.{Common.{◌≡◌, ◌≢◌, ℕ, ◌+◌, ◌<◌, ◌≤◌, cond, Bool, true, false, List, [], ◌∷◌, ◌++◌, length, Option, Some, None, Result, Ok, Err, refl, sym, ap, subst, ◌∙◌, inl, inr, ⊎_elim, arith, append_assoc, append-nil, length-append}, KnownBytes.{Consumes-nil, Consumes-trans, Appends-nil, Appends-trans}, lemmas.List.Sums.fold-append}, specs.{Prelude.{flat_map, is_some, min, ◌^◌, ◌-◌, IsErrOf}, Io.KnownBytes.{Consumes, Appends, IsAtEnd}}}
+use Rattle.stn_device.{specs.{Bytes.AppendsPart, declared.whole.ReadFault.ReadFault}, proofs.Known.{not_err, fails_more}}
 use Rattle.stn_time.proofs.Each.{each_pushed}
-use Rattle.stn_wire.proofs.Streams.{cut_more}
+use Rattle.stn_wire.{proofs.Streams.cut_more, specs.{Frame.{FrameContent, spelling, refused, IsFrame}, Front.{IsFront, faulty, unfinished}, Stream.{wire_fault, frame_code, IsNext, IsCounted, Held.Stream}, declared.stream.fault.FrameFault.FrameFault}}
+use Rattle.stn_effects.specs.{Effects.{Effect, Gives}, Printing.Device}
 use Rattle.stn_lift.specs.PlanSource.{PlanSource}
 use Rattle.stn_records.specs.Content.{Content}
-use Rattle.stn_wire.specs.Frame.{FrameContent, spelling, refused, IsFrame}
-use Rattle.stn_wire.specs.Front.{IsFront, faulty, unfinished}
-use Rattle.stn_wire.specs.Stream.{wire_fault, frame_code, IsNext, IsCounted}
 use Rattle.stn_refusal.specs.declared.failure.Failure.{Failure}
-use Rattle.stn_session.specs.Keeping.{KeepsChange, KeepsEach, KeepsLast, IsKept, IsKeptBroken, IsUnkept, IsCutShort}
-use Rattle.stn_session.specs.Session.{Reply, said, Session, answer, opening, followed, advanced, talked, broken_off}
-use Rattle.stn_session.specs.Serving.{IsReplyBytes, AreReplies, WritesReplies, Reaches, Ends, GoesOn, Leaves, serve_fault}
-use Rattle.stn_wire.specs.declared.stream.fault.FrameFault.{FrameFault}
-use Rattle.stn_session.specs.declared.session.End.{End}
-use Rattle.stn_session.specs.declared.session.End.TheVariants.{Closed, Cut, Refused}
-use Rattle.stn_session.specs.Turns.{IsChange, Wrote, KeepsTurn, WroteKept, WroteRefused}
-use Rattle.stn_session.specs.declared.session.KeepingFault.{KeepingFault}
+use Rattle.stn_session.specs.{Session.{Reply, said, Session, answer, opening, followed, advanced, talked, broken_off}, Serving.{IsReplyBytes, AreReplies, WritesReplies, Reaches, Ends, GoesOn, Talk, talk, KeepsChange, KeepsEach, KeepsNothing, Point, Says, HearsWell, BreaksOff, EndsAt, Serves, session_answer, serve_fault}, declared.session.{End.{End, TheVariants.{Closed, Cut, Refused}}, Served.Served, KeepingFault.KeepingFault, ServeFault.{ServeFault, TheVariants.{Read, Write, Bound, Memory}}}, Turns.{IsChange, Wrote, KeepsTurn, KeepsLast, WroteKept, WroteRefused}}
 use Rattle.stn_session.specs.declared.session.KeepingFault.TheVariants as keeping
-use Rattle.stn_session.specs.declared.session.ServeFault.{ServeFault}
-use Rattle.stn_session.specs.declared.session.ServeFault.TheVariants.{Read, Write, Bound, Memory}
-use Rattle.stn_wire.specs.Stream.Held.{Stream}
-use Rattle.stn_device.specs.declared.whole.ReadFault.{ReadFault}
 use Rattle.stn_device.specs.declared.whole.ReadFault.TheVariants as stream
 
 -- ---- replies, one after the other
@@ -60,36 +43,38 @@ reaches_more first bytes session rest more r = record {
 }
 
 -- ---- the states that are kept
-each_more : {P : Type 0} (Keeps : Content → P → P → Type 0) (first : Session) (frames : List FrameContent) (frame : FrameContent) (old between new : P) → KeepsEach Keeps first frames old between
-    → KeepsChange Keeps (talked first frames).state (advanced (talked first frames) frame).state between new → KeepsEach Keeps first (frames ++ frame ∷ []) old new
-each_more Keeps first [] frame old between new none kept = (new, subst (λ place. KeepsChange Keeps first.state (advanced first frame).state place new) none kept, refl)
+each_more : {P : Type 0} (Keeps : Content → Effect P (Unit {0})) (first : Session) (frames : List FrameContent) (frame : FrameContent) (old between new : P) → KeepsEach Keeps first frames old between
+    → KeepsChange Keeps (talked first frames).state (advanced (talked first frames) frame).state between new (Ok tt) → KeepsEach Keeps first (frames ++ frame ∷ []) old new
+each_more Keeps first [] frame old between new none kept = (new, subst (λ place. KeepsChange Keeps first.state (advanced first frame).state place new (Ok tt)) none kept, refl)
 each_more Keeps first (one ∷ frames) frame old between new all kept = (all.0, all.1, each_more Keeps (advanced first one) frames frame all.0 between new all.2 kept)
 
 -- ---- how far a session has come
-pub record Progress {P : Type 0} (Keeps : Content → P → P → Type 0) (place kept : P) (first : Session) (before after old new : Option (List ℕ)) (rest : List ℕ) (taken : ℕ) (source : PlanSource) (state : Content) (greeted : Bool) (count : ℕ) : Type 0 where
+pub record Progress {P : Type 0} (Keeps : Content → Effect P (Unit {0})) (source : PlanSource) (old now : Talk P) (rest : List ℕ) (taken : ℕ) (greeted : Bool) (count : ℕ) : Type 0 where
   pub bytes : List ℕ
   pub session : Session
-  pub consumed : Consumes before after bytes
+  pub consumed : Consumes old.unheard.bytes now.unheard.bytes bytes
+  pub well : now.unheard.failures ≡ old.unheard.failures
   pub many : taken ≡ length bytes
-  pub reached : Reaches first bytes session rest
+  pub reached : Reaches (opening source old.state) bytes session rest
   pub on : session.ended ≡ None
-  pub written : WritesReplies old new session.replies
+  pub says : Says session old now
   pub counted : count ≡ session.frames
   pub source_is : source ≡ session.source
-  pub state_is : state ≡ session.state
+  pub state_is : now.state ≡ session.state
   pub greeted_is : greeted ≡ session.greeted
-  pub each : KeepsEach Keeps first reached.frames place kept
+  pub each : KeepsEach Keeps (opening source old.state) reached.frames old.place now.place
 
-pub begun : {P : Type 0} (Keeps : Content → P → P → Type 0) (place : P) (source : PlanSource) (state : Content) (before old : Option (List ℕ)) (rest : List ℕ) (taken : ℕ) → rest ≡ [] → taken ≡ 0
-    → Progress Keeps place place (opening source state) before before old old rest taken source state (opening source state).greeted 0
-begun Keeps place source state before old rest taken none zero = record {
+pub begun : {P : Type 0} (Keeps : Content → Effect P (Unit {0})) (source : PlanSource) (old : Talk P) (rest : List ℕ) (taken : ℕ) → rest ≡ [] → taken ≡ 0
+    → Progress Keeps source old old rest taken (opening source old.state).greeted 0
+begun Keeps source old rest taken none zero = record {
   bytes = [];
-  session = opening source state;
-  consumed = Consumes-nil before;
+  session = opening source old.state;
+  consumed = Consumes-nil old.unheard.bytes;
+  well = refl;
   many = zero;
   reached = record { frames = []; each = tt; cut = sym none; talked = refl };
   on = refl;
-  written = ([], refl, Appends-nil old);
+  says = (([], refl, Appends-nil old.told.bytes), refl);
   counted = refl;
   source_is = refl;
   state_is = refl;
@@ -97,12 +82,11 @@ begun Keeps place source state before old rest taken none zero = record {
   each = refl;
 }
 
-module _ {P : Type 0} {Keeps : Content → P → P → Type 0} {place kept : P} {first : Session} {before after old new : Option (List ℕ)} {rest : List ℕ} {taken : ℕ} {source : PlanSource} {state : Content} {greeted : Bool} {count : ℕ}
-    (p : Progress Keeps place kept first before after old new rest taken source state greeted count)
-    (last : Option (List ℕ)) (more : List ℕ) (read : Consumes after last more) where
+module _ {P : Type 0} {Keeps : Content → Effect P (Unit {0})} {source : PlanSource} {old now : Talk P} {rest : List ℕ} {taken : ℕ} {greeted : Bool} {count : ℕ}
+    (p : Progress Keeps source old now rest taken greeted count) (heard : Device) (more : List ℕ) (read : Consumes now.unheard.bytes heard.bytes more) where
   -- more bytes were read
-  consumed_all : Consumes before last (p.bytes ++ more)
-  consumed_all = Consumes-trans before after last p.bytes more p.consumed read
+  consumed_all : Consumes old.unheard.bytes heard.bytes (p.bytes ++ more)
+  consumed_all = Consumes-trans old.unheard.bytes now.unheard.bytes heard.bytes p.bytes more p.consumed read
 
   many_all : taken + length more ≡ length (p.bytes ++ more)
   many_all = omega (arith, p.many, length-append p.bytes more)
@@ -110,216 +94,242 @@ module _ {P : Type 0} {Keeps : Content → P → P → Type 0} {place kept : P} 
   few_all : taken + length more ≤ 16777216 → length (p.bytes ++ more) ≤ 16777216
   few_all few = omega (arith, few, many_all)
 
-  abbrev reached_all : Reaches first (p.bytes ++ more) p.session (rest ++ more)
-  reached_all = reaches_more first p.bytes p.session rest more p.reached
+  abbrev reached_all : Reaches (opening source old.state) (p.bytes ++ more) p.session (rest ++ more)
+  reached_all = reaches_more (opening source old.state) p.bytes p.session rest more p.reached
 
-  -- so the session ends, or a fault ends it
-  ends_with : (then : Option (List ℕ)) (end : End) (left : Session) → taken + length more ≤ 16777216 → Ends p.session (rest ++ more) end left → WritesReplies old then left.replies → count ≡ left.frames → state ≡ left.state
-      → IsKept Keeps first before last old then state place kept (record { frames = count; end = end })
-  ends_with then end left few ended written frames same = record {
-    served = record {
-      bytes = p.bytes ++ more;
-      session = p.session;
-      rest = rest ++ more;
-      last = left;
-      consumed = consumed_all;
-      few = few_all few;
-      reached = reached_all;
-      ended = ended;
-      written = written;
-      frames = frames;
-      left = same;
-    };
-    each = p.each;
-  }
+  abbrev all_read : Point P
+  all_read = record { bytes = p.bytes ++ more; session = p.session; rest = rest ++ more; kept = now.place }
 
-  breaks_with : (then : Option (List ℕ)) (now : Content) (keeps : P) (fault : ServeFault) → Leaves (length (p.bytes ++ more)) p.session (rest ++ more) old then now fault → KeepsLast Keeps p.session.state now kept keeps fault
-      → IsKeptBroken Keeps first before last old then now place keeps fault
-  breaks_with then now keeps fault leaves kept_last = record {
-    broken = record { bytes = p.bytes ++ more; session = p.session; rest = rest ++ more; consumed = consumed_all; reached = reached_all; on = p.on; leaves = leaves };
-    between = kept;
-    each = p.each;
-    last = kept_last;
-  }
+  -- so the session ends
+  ends_with : (then : Device) (state : Content) (place : P) (ended : Result (Result Served ServeFault) Failure) → EndsAt Keeps all_read old (talk heard then state place) ended
+      → Serves Keeps source old (talk heard then state place) ended
+  ends_with then state place ended is = record { at = all_read; consumed = consumed_all; reached = reached_all; each = p.each; ends = is }
 
-  -- the input ends after the last frame, or within one
-  pub closes : taken + length more ≤ 16777216 → rest ++ more ≡ [] → IsKept Keeps first before last old new state place kept (record { frames = count; end = Closed })
-  closes few none = ends_with new Closed p.session few (p.on, none, refl) p.written p.counted p.state_is
-
-  pub cuts : taken + length more ≤ 16777216 → IsFront (rest ++ more) unfinished → 0 < length (rest ++ more) → IsKept Keeps first before last old new state place kept (record { frames = count; end = Cut })
-  cuts few front some = ends_with new Cut p.session few (p.on, some, front, refl) p.written p.counted p.state_is
+  breaks_with : (then : Device) (state : Content) (place : P) (fault : ServeFault) → BreaksOff Keeps all_read old (talk heard then state place) fault
+      → Serves Keeps source old (talk heard then state place) (Ok (Err fault))
+  breaks_with then state place fault is = ends_with then state place (Ok (Err fault)) (p.on, is)
 
   -- nothing more comes of the stream
-  pub stream_fails : (A : Type 0) (now : Stream) (fault : ReadFault) → IsNext {A = A} (rest ++ more) now (Err fault) → IsCounted {A = A} (taken + length more) now (Err fault)
-      → IsKeptBroken Keeps first before last old new state place kept (serve_fault fault)
-  stream_fails A now stream.Read next few = breaks_with new state kept Read (few_all few, next, p.written, p.state_is) refl
-  stream_fails A now stream.Bound next many = breaks_with new state kept Bound (omega (arith, many, many_all), next, p.written, p.state_is) refl
-  stream_fails A now stream.Memory next few = breaks_with new state kept Memory (few_all few, p.written, inl p.state_is) refl
+  pub stream_fails : {X : Type 0} (A : Type 0) (stream_now : Stream) (fault : ReadFault) → IsNext {A = A} (rest ++ more) stream_now (Err fault) → IsCounted {A = A} (taken + length more) stream_now (Err fault)
+      → old.unheard.failures < 2 ^ 64 - 1 → (call : Result X ReadFault) → call ≡ Err fault
+      → (IsErrOf call stream.Read → heard.failures ≡ min (now.unheard.failures + 1) (2 ^ 64 - 1)) → (call ≢ Err stream.Read → heard.failures ≡ now.unheard.failures)
+      → Serves Keeps source old (talk heard now.told now.state now.place) (Ok (Err (serve_fault fault)))
+  stream_fails A stream_now stream.Read next few room call is fails keeps =
+      breaks_with now.told now.state now.place Read (
+        p.says,
+        p.state_is,
+        refl,
+        next,
+        few_all few,
+        fails_more old.unheard.failures now.unheard.failures heard.failures (fails is) p.well room,
+      )
+  stream_fails A stream_now stream.Bound next many room call is fails keeps =
+      breaks_with now.told now.state now.place Bound (p.says, p.state_is, refl, next, omega (arith, many, many_all), keeps (λ e. cc) ∙ p.well)
+  stream_fails A stream_now stream.Memory next few room call is fails keeps =
+      breaks_with now.told now.state now.place Memory (p.says, refl, (few_all few, keeps (λ e. cc) ∙ p.well), inl p.state_is)
 
-  -- a fault of the bytes is answered, or not
-  module _ (few : taken + length more ≤ 16777216) (fault : FrameFault) (front : IsFront (rest ++ more) (faulty (wire_fault fault))) (then : Option (List ℕ)) where
-    fault_answered : Appends new then (spelling (refused (frame_code fault))) → IsKept Keeps first before last old then state place kept (record { frames = count; end = Refused (frame_code fault) })
-    fault_answered wrote =
-        ends_with then (Refused (frame_code fault)) (broken_off p.session (frame_code fault)) few (inr (fault, p.on, front, refl, refl))
-        (writes_more old new then p.session.replies (said (refused (frame_code fault))) (spelling (refused (frame_code fault))) p.written refl wrote) p.counted p.state_is
+  module _ (few : taken + length more ≤ 16777216) (well : heard.failures ≡ now.unheard.failures) where
+    hears : (then : Device) (state : Content) (place : P) → HearsWell all_read old (talk heard then state place)
+    hears then state place = (few_all few, well ∙ p.well)
 
-    fault_cut_off : AppendsPart new then (spelling (refused (frame_code fault))) → IsKeptBroken Keeps first before last old then state place kept Write
-    fault_cut_off part =
-        breaks_with then state kept Write (
-          few_all few,
+    -- the input ends after the last frame, or within one
+    pub closes : rest ++ more ≡ [] → IsAtEnd heard.bytes → Serves Keeps source old (talk heard now.told now.state now.place) (Ok (Ok (record { frames = count; end = Closed })))
+    closes none done = ends_with now.told now.state now.place (Ok (Ok (record { frames = count; end = Closed })))
+        ((p.session, (p.on, none, refl), p.says, p.counted, p.state_is), refl, done, hears now.told now.state now.place)
+
+    pub cuts : IsFront (rest ++ more) unfinished → 0 < length (rest ++ more) → IsAtEnd heard.bytes
+        → Serves Keeps source old (talk heard now.told now.state now.place) (Ok (Ok (record { frames = count; end = Cut })))
+    cuts front some done = ends_with now.told now.state now.place (Ok (Ok (record { frames = count; end = Cut })))
+        ((p.session, (p.on, some, front, refl), p.says, p.counted, p.state_is), refl, done, hears now.told now.state now.place)
+
+    -- nothing was written
+    says_same : (then : Device) (state : Content) (place : P) → Appends now.told.bytes then.bytes [] → then.failures ≡ now.told.failures → Says p.session old (talk heard then state place)
+    says_same then state place none kept = (writes_same old.told.bytes now.told.bytes then.bytes p.session.replies p.says.0 none, kept ∙ p.says.1)
+
+    -- a write failed
+    told_fails : (then : Device) → old.told.failures < 2 ^ 64 - 1 → then.failures ≡ min (now.told.failures + 1) (2 ^ 64 - 1) → old.told.failures < then.failures
+    told_fails then room fails = fails_more old.told.failures now.told.failures then.failures fails p.says.1 room
+
+    -- a fault of the bytes is answered, or not
+    module _ (fault : FrameFault) (front : IsFront (rest ++ more) (faulty (wire_fault fault))) (then : Device) where
+      fault_answered : Appends now.told.bytes then.bytes (spelling (refused (frame_code fault))) → then.failures ≡ now.told.failures
+          → Serves Keeps source old (talk heard then now.state now.place) (Ok (Ok (record { frames = count; end = Refused (frame_code fault) })))
+      fault_answered wrote kept = ends_with then now.state now.place (Ok (Ok (record { frames = count; end = Refused (frame_code fault) }))) (
+        (
+          broken_off p.session (frame_code fault),
+          inr (fault, p.on, front, refl, refl),
           (
-            broken_off p.session (frame_code fault),
-            inr (fault, front, refl),
-            record {
-              done = p.written.0;
-              part = part.0;
-              later = part.1;
-              replied = p.written.1;
-              whole = replies_more p.session.replies p.written.0 (said (refused (frame_code fault))) (part.0 ++ part.1) p.written.1 (sym part.2);
-              appended = Appends-trans old new then p.written.0 part.0 p.written.2 part.3;
-            },
-            p.state_is,
+            writes_more old.told.bytes now.told.bytes then.bytes p.session.replies (said (refused (frame_code fault))) (spelling (refused (frame_code fault))) p.says.0 refl wrote,
+            kept ∙ p.says.1,
           ),
+          p.counted,
+          p.state_is,
+        ),
+        refl,
+        tt,
+        hears then now.state now.place,
+      )
+
+      fault_cut_off : AppendsPart now.told.bytes then.bytes (spelling (refused (frame_code fault))) → old.told.failures < then.failures
+          → Serves Keeps source old (talk heard then now.state now.place) (Ok (Err Write))
+      fault_cut_off part fails = breaks_with then now.state now.place Write (
+        (
+          broken_off p.session (frame_code fault),
+          record { goes_on = inr (fault, front, refl); state = p.state_is; keeps = inl (refl, (refl, refl)) },
+          record {
+            done = p.says.0.0;
+            part = part.0;
+            later = part.1;
+            replied = p.says.0.1;
+            whole = replies_more p.session.replies p.says.0.0 (said (refused (frame_code fault))) (part.0 ++ part.1) p.says.0.1 (sym part.2);
+            appended = Appends-trans old.told.bytes now.told.bytes then.bytes p.says.0.0 part.0 p.says.0.2 part.3;
+          },
+        ),
+        fails,
+        hears then now.state now.place,
+      )
+
+      pub refuses : (code : ℕ) → code ≡ frame_code fault → Appends now.told.bytes then.bytes (spelling (refused code)) → then.failures ≡ now.told.failures
+          → Serves Keeps source old (talk heard then now.state now.place) (Ok (Ok (record { frames = count; end = Refused code })))
+      refuses code is wrote kept =
+          subst (λ k. Serves Keeps source old (talk heard then now.state now.place) (Ok (Ok (record { frames = count; end = Refused k })))) (sym is)
+          (fault_answered (subst (λ k. Appends now.told.bytes then.bytes (spelling (refused k))) is wrote) kept)
+
+      module _ {X : Type 0} (room : old.told.failures < 2 ^ 64 - 1) (call : Result X KeepingFault)
+          (fails : IsErrOf call (keeping.Serve Write) → then.failures ≡ min (now.told.failures + 1) (2 ^ 64 - 1)) (keeps : call ≢ Err (keeping.Serve Write) → then.failures ≡ now.told.failures) where
+        pub refusal_fails : (broken : KeepingFault) → call ≡ Err broken → (code : ℕ) → code ≡ frame_code fault → WroteRefused code now.told.bytes then.bytes (Err broken)
+            → Serves Keeps source old (talk heard then now.state now.place) (session_answer (Err broken))
+        refusal_fails (keeping.Serve Write) by code is part =
+            fault_cut_off (subst (λ k. AppendsPart now.told.bytes then.bytes (spelling (refused k))) is part) (told_fails then room (fails by))
+        refusal_fails (keeping.Serve Memory) by code is none = breaks_with then now.state now.place Memory
+            (says_same then now.state now.place none (keeps (λ e. cc)), refl, hears then now.state now.place, inl p.state_is)
+        refusal_fails other by code is none = absurd none
+
+    -- a frame is answered, or not
+    module _ (frame : FrameContent) (later : List ℕ) (is : IsFrame frame) (front : rest ++ more ≡ spelling frame ++ later) (then : Device) (state : Content) where
+      next_is : advanced p.session frame ≡ followed p.session (answer source now.state greeted frame)
+      next_is =
+          ap (λ e. cond (is_some e) p.session (followed p.session (answer p.session.source p.session.state p.session.greeted frame))) p.on
+          ∙ (λ i. followed p.session (answer (sym p.source_is i) (sym p.state_is i) (sym p.greeted_is i) frame))
+
+      goes_on : GoesOn p.session (rest ++ more) (advanced p.session frame)
+      goes_on = inl (frame, later, is, front, refl)
+
+      module _ (left : state ≡ (answer source now.state greeted frame).state) where
+        state_left : state ≡ (advanced p.session frame).state
+        state_left = left ∙ sym (ap (λ (s : Session). s.state) next_is)
+
+        moves : (place : P) (kept : Result (Unit {0}) Failure) → KeepsChange Keeps now.state state now.place place kept
+            → KeepsChange Keeps p.session.state (advanced p.session frame).state now.place place kept
+        moves place kept change = subst (λ (s : Content). KeepsChange Keeps p.session.state s now.place place kept) state_left
+            (subst (λ (s : Content). KeepsChange Keeps s state now.place place kept) p.state_is change)
+
+        -- lack of memory after it was taken
+        frame_taken : Appends now.told.bytes then.bytes [] → then.failures ≡ now.told.failures → Serves Keeps source old (talk heard then state now.place) (Ok (Err Memory))
+        frame_taken none kept = breaks_with then state now.place Memory
+            (says_same then state now.place none kept, refl, hears then state now.place, inr (advanced p.session frame, goes_on, state_left))
+
+        -- its state was not kept
+        frame_unkept : (place : P) (failure : Failure) → Appends now.told.bytes then.bytes [] → then.failures ≡ now.told.failures
+            → KeepsChange Keeps now.state state now.place place (Err failure) → Serves Keeps source old (talk heard then state place) (Err failure)
+        frame_unkept place failure none kept change = ends_with then state place (Err failure) (
+          p.on,
+          says_same then state place none kept,
+          (advanced p.session frame, record { goes_on = goes_on; state = state_left; keeps = moves place (Err failure) change }),
+          hears then state place,
         )
-        (inl (p.state_is, refl))
 
-    pub refuses : (code : ℕ) → code ≡ frame_code fault → Appends new then (spelling (refused code)) → IsKept Keeps first before last old then state place kept (record { frames = count; end = Refused code })
-    refuses code is wrote =
-        subst (λ k. IsKept Keeps first before last old then state place kept (record { frames = count; end = Refused k })) (sym is) (fault_answered (subst (λ k. Appends new then (spelling (refused k))) is wrote))
+        module _ (bytes : List ℕ) (said_bytes : IsReplyBytes (answer source now.state greeted frame).reply bytes) (place : P) (keeps_change : KeepsChange Keeps now.state state now.place place (Ok tt)) where
+          moved : KeepsChange Keeps (talked (opening source old.state) p.reached.frames).state (advanced (talked (opening source old.state) p.reached.frames) frame).state now.place place (Ok tt)
+          moved = subst (λ (s : Session). KeepsChange Keeps s.state (advanced s frame).state now.place place (Ok tt)) p.reached.talked (moves place (Ok tt) keeps_change)
 
-    pub refusal_fails : (Fails : Content → P → P → Failure → Type 0) (code : ℕ) → code ≡ frame_code fault → (broken : KeepingFault) → WroteRefused code new then (Err broken)
-        → IsCutShort Keeps Fails first before last old then state place kept broken
-    refusal_fails Fails code is (keeping.Serve Write) part = fault_cut_off (subst (λ k. AppendsPart new then (spelling (refused k))) is part)
-    refusal_fails Fails code is (keeping.Serve Memory) none = breaks_with then state kept Memory (few_all few, writes_same old new then p.session.replies p.written none, inl p.state_is) refl
-    refusal_fails Fails code is fault none = absurd none
-
-  -- a frame is answered, or not
-  module _ (few : taken + length more ≤ 16777216) (frame : FrameContent) (later : List ℕ) (is : IsFrame frame) (front : rest ++ more ≡ spelling frame ++ later) (then : Option (List ℕ)) (now : Content) where
-    next_is : advanced p.session frame ≡ followed p.session (answer source state greeted frame)
-    next_is =
-        ap (λ e. cond (is_some e) p.session (followed p.session (answer p.session.source p.session.state p.session.greeted frame))) p.on
-        ∙ (λ i. followed p.session (answer (sym p.source_is i) (sym p.state_is i) (sym p.greeted_is i) frame))
-
-    goes_on : GoesOn p.session (rest ++ more) (advanced p.session frame)
-    goes_on = inl (frame, later, is, front, refl)
-
-    module _ (bytes : List ℕ) (said_bytes : IsReplyBytes (answer source state greeted frame).reply bytes) (left : now ≡ (answer source state greeted frame).state) (keeps : P)
-        (keeps_change : KeepsChange Keeps state now kept keeps) where
-      moves : KeepsChange Keeps p.session.state now kept keeps
-      moves = subst (λ (s : Content). KeepsChange Keeps s now kept keeps) p.state_is keeps_change
-
-      moved : KeepsChange Keeps (talked first p.reached.frames).state (advanced (talked first p.reached.frames) frame).state kept keeps
-      moved = subst (λ (s : Session). KeepsChange Keeps s.state (advanced s frame).state kept keeps) p.reached.talked
-          (subst (λ (s : Content). KeepsChange Keeps p.session.state s kept keeps) (left ∙ sym (ap (λ (s : Session). s.state) next_is)) moves)
-
-      frame_cut_off : AppendsPart new then bytes → IsKeptBroken Keeps first before last old then now place keeps Write
-      frame_cut_off part =
-          breaks_with then now keeps Write (
-            few_all few,
+          frame_cut_off : AppendsPart now.told.bytes then.bytes bytes → old.told.failures < then.failures → Serves Keeps source old (talk heard then state place) (Ok (Err Write))
+          frame_cut_off part fails = breaks_with then state place Write (
             (
               advanced p.session frame,
-              goes_on,
+              record { goes_on = goes_on; state = state_left; keeps = moves place (Ok tt) keeps_change },
               record {
-                done = p.written.0;
+                done = p.says.0.0;
                 part = part.0;
                 later = part.1;
-                replied = p.written.1;
-                whole = subst (λ (s : Session). AreReplies s.replies (p.written.0 ++ (part.0 ++ part.1))) (sym next_is)
-                    (replies_more p.session.replies p.written.0 (answer source state greeted frame).reply (part.0 ++ part.1) p.written.1 (subst (IsReplyBytes (answer source state greeted frame).reply) part.2 said_bytes));
-                appended = Appends-trans old new then p.written.0 part.0 p.written.2 part.3;
+                replied = p.says.0.1;
+                whole = subst (λ (s : Session). AreReplies s.replies (p.says.0.0 ++ (part.0 ++ part.1))) (sym next_is)
+                    (replies_more p.session.replies p.says.0.0 (answer source now.state greeted frame).reply (part.0 ++ part.1) p.says.0.1 (subst (IsReplyBytes (answer source now.state greeted frame).reply) part.2 said_bytes));
+                appended = Appends-trans old.told.bytes now.told.bytes then.bytes p.says.0.0 part.0 p.says.0.2 part.3;
               },
-              left ∙ sym (ap (λ (s : Session). s.state) next_is),
             ),
+            fails,
+            hears then state place,
           )
-          moves
 
-      module _ (wrote : Appends new then bytes) (says : Bool) (says_is : says ≡ (answer source state greeted frame).greeted) where
-        next_written : WritesReplies old then (advanced p.session frame).replies
-        next_written =
-            subst (λ (s : Session). WritesReplies old then s.replies) (sym next_is)
-            (writes_more old new then p.session.replies (answer source state greeted frame).reply bytes p.written said_bytes wrote)
+          module _ (wrote : Appends now.told.bytes then.bytes bytes) (kept : then.failures ≡ now.told.failures) (says : Bool) (says_is : says ≡ (answer source now.state greeted frame).greeted) where
+            next_said : Says (advanced p.session frame) old (talk heard then state place)
+            next_said = (
+              subst (λ (s : Session). WritesReplies old.told.bytes then.bytes s.replies) (sym next_is)
+                  (writes_more old.told.bytes now.told.bytes then.bytes p.session.replies (answer source now.state greeted frame).reply bytes p.says.0 said_bytes wrote),
+              kept ∙ p.says.1,
+            )
 
-        pub frame_answered : (answer source state greeted frame).ended ≡ None → (so_far : ℕ) → so_far ≡ taken + length more → (plan : PlanSource) → plan ≡ source
-            → Progress Keeps place keeps first before last old then later so_far plan now says (count + 1)
-        frame_answered on so_far so_far_is plan plan_is = record {
-          bytes = p.bytes ++ more;
-          session = advanced p.session frame;
-          consumed = consumed_all;
-          many = so_far_is ∙ many_all;
-          reached = reaches_frame first (p.bytes ++ more) p.session (rest ++ more) later frame reached_all is front;
-          on = ap (λ (s : Session). s.ended) next_is ∙ on;
-          written = next_written;
-          counted = ap (λ n. n + 1) p.counted ∙ sym (ap (λ (s : Session). s.frames) next_is);
-          source_is = plan_is ∙ (p.source_is ∙ sym (ap (λ (s : Session). s.source) next_is));
-          state_is = left ∙ sym (ap (λ (s : Session). s.state) next_is);
-          greeted_is = says_is ∙ sym (ap (λ (s : Session). s.greeted) next_is);
-          each = each_more Keeps first p.reached.frames frame place kept keeps p.each moved;
-        }
+            pub frame_answered : (answer source now.state greeted frame).ended ≡ None → (so_far : ℕ) → so_far ≡ taken + length more
+                → Progress Keeps source old (talk heard then state place) later so_far says (count + 1)
+            frame_answered on so_far so_far_is = record {
+              bytes = p.bytes ++ more;
+              session = advanced p.session frame;
+              consumed = consumed_all;
+              well = well ∙ p.well;
+              many = so_far_is ∙ many_all;
+              reached = reaches_frame (opening source old.state) (p.bytes ++ more) p.session (rest ++ more) later frame reached_all is front;
+              on = ap (λ (s : Session). s.ended) next_is ∙ on;
+              says = next_said;
+              counted = ap (λ n. n + 1) p.counted ∙ sym (ap (λ (s : Session). s.frames) next_is);
+              source_is = p.source_is ∙ sym (ap (λ (s : Session). s.source) next_is);
+              state_is = state_left;
+              greeted_is = says_is ∙ sym (ap (λ (s : Session). s.greeted) next_is);
+              each = each_more Keeps (opening source old.state) p.reached.frames frame old.place now.place place p.each moved;
+            }
 
-        pub frame_ends : (code : ℕ) → (answer source state greeted frame).ended ≡ Some code → IsKept Keeps first before last old then now place keeps (record { frames = count + 1; end = Refused code })
-        frame_ends code end = record {
-          served = record {
-            bytes = p.bytes ++ more;
-            session = advanced p.session frame;
-            rest = later;
-            last = advanced p.session frame;
-            consumed = consumed_all;
-            few = few_all few;
-            reached = reaches_frame first (p.bytes ++ more) p.session (rest ++ more) later frame reached_all is front;
-            ended = inl (ap (λ (s : Session). s.ended) next_is ∙ end, refl);
-            written = next_written;
-            frames = ap (λ n. n + 1) p.counted ∙ sym (ap (λ (s : Session). s.frames) next_is);
-            left = left ∙ sym (ap (λ (s : Session). s.state) next_is);
-          };
-          each = each_more Keeps first p.reached.frames frame place kept keeps p.each moved;
-        }
+            pub frame_ends : (code : ℕ) → (answer source now.state greeted frame).ended ≡ Some code
+                → Serves Keeps source old (talk heard then state place) (Ok (Ok (record { frames = count + 1; end = Refused code })))
+            frame_ends code end = record {
+              at = record { bytes = p.bytes ++ more; session = advanced p.session frame; rest = later; kept = place };
+              consumed = consumed_all;
+              reached = reaches_frame (opening source old.state) (p.bytes ++ more) p.session (rest ++ more) later frame reached_all is front;
+              each = each_more Keeps (opening source old.state) p.reached.frames frame old.place now.place place p.each moved;
+              ends = (
+                (
+                  advanced p.session frame,
+                  inl (ap (λ (s : Session). s.ended) next_is ∙ end, refl),
+                  next_said,
+                  ap (λ n. n + 1) p.counted ∙ sym (ap (λ (s : Session). s.frames) next_is),
+                  state_left,
+                ),
+                refl,
+                tt,
+                (few_all few, well ∙ p.well),
+              );
+            }
 
-    -- lack of memory: the frame was taken or not
-    frame_kept : Appends new then [] → now ≡ state → IsKeptBroken Keeps first before last old then now place kept Memory
-    frame_kept none same = breaks_with then now kept Memory (few_all few, writes_same old new then p.session.replies p.written none, inl (same ∙ p.state_is)) refl
+      -- lack of memory before it was
+      frame_kept : Appends now.told.bytes then.bytes [] → then.failures ≡ now.told.failures → state ≡ now.state → Serves Keeps source old (talk heard then state now.place) (Ok (Err Memory))
+      frame_kept none kept same = breaks_with then state now.place Memory
+          (says_same then state now.place none kept, refl, hears then state now.place, inl (same ∙ p.state_is))
 
-    frame_taken : Appends new then [] → now ≡ (answer source state greeted frame).state → IsKeptBroken Keeps first before last old then now place kept Memory
-    frame_taken none left =
-        breaks_with then now kept Memory
-        (few_all few, writes_same old new then p.session.replies p.written none, inr (advanced p.session frame, goes_on, left ∙ sym (ap (λ (s : Session). s.state) next_is))) refl
-
-    -- its state was not kept
-    frame_unkept : (Fails : Content → P → P → Failure → Type 0) (keeps : P) (failure : Failure) → Appends new then [] → now ≡ (answer source state greeted frame).state → now ≢ state
-        → Fails now kept keeps failure → IsUnkept Keeps Fails first before last old then now place keeps failure
-    frame_unkept Fails keeps failure none left changed fails = record {
-      bytes = p.bytes ++ more;
-      session = p.session;
-      rest = rest ++ more;
-      next = advanced p.session frame;
-      between = kept;
-      consumed = consumed_all;
-      few = few_all few;
-      reached = reached_all;
-      on = p.on;
-      goes_on = goes_on;
-      written = writes_same old new then p.session.replies p.written none;
-      left = left ∙ sym (ap (λ (s : Session). s.state) next_is);
-      changed = λ same. changed (same ∙ sym p.state_is);
-      each = p.each;
-      failed = fails;
-    }
-
-    frame_broken : (keeps : P) (broken : ServeFault) → Wrote (answer source state greeted frame) new then state now (Err broken) → KeepsLast Keeps state now kept keeps broken
-        → IsKeptBroken Keeps first before last old then now place keeps broken
-    frame_broken keeps Write wrote kept_last = frame_cut_off wrote.0 wrote.1 wrote.3 keeps kept_last wrote.2
-    frame_broken keeps Memory wrote kept_last =
-        subst (λ there. IsKeptBroken Keeps first before last old then now place there Memory) (sym kept_last)
-        (⊎_elim (λ same. frame_kept wrote.0 same) (λ left. frame_taken wrote.0 left) wrote.1)
-    frame_broken keeps Read none kept_last = absurd none
-    frame_broken keeps Bound none kept_last = absurd none
-
-    pub frame_fails : (Fails : Content → P → P → Failure → Type 0) (keeps : P) (broken : KeepingFault) → WroteKept Keeps Fails (answer source state greeted frame) new then state now kept keeps (Err broken)
-        → IsCutShort Keeps Fails first before last old then now place keeps broken
-    frame_fails Fails keeps (keeping.Serve fault) wrote = frame_broken keeps fault wrote.0 wrote.1
-    frame_fails Fails keeps (keeping.Keep failure) wrote = frame_unkept Fails keeps failure wrote.0 wrote.1 wrote.2 wrote.3
+      module _ {X : Type 0} (room : old.told.failures < 2 ^ 64 - 1) (place : P) (call : Result X KeepingFault)
+          (fails : IsErrOf call (keeping.Serve Write) → then.failures ≡ min (now.told.failures + 1) (2 ^ 64 - 1)) (keeps : call ≢ Err (keeping.Serve Write) → then.failures ≡ now.told.failures) where
+        pub frame_fails : (broken : KeepingFault) → call ≡ Err broken → WroteKept Keeps (answer source now.state greeted frame) now.told.bytes then.bytes now.state state now.place place (Err broken)
+            → Serves Keeps source old (talk heard then state place) (session_answer (Err broken))
+        frame_fails (keeping.Serve Write) by wrote = frame_cut_off wrote.0.3 wrote.0.0 wrote.0.1 place wrote.1 wrote.0.2 (told_fails then room (fails by))
+        frame_fails (keeping.Serve Memory) by wrote =
+            subst (λ there. Serves Keeps source old (talk heard then state there) (Ok (Err Memory))) (sym wrote.1)
+            (⊎_elim (λ same. frame_kept wrote.0.0 (keeps (λ e. cc)) same) (λ left. frame_taken left wrote.0.0 (keeps (λ e. cc))) wrote.0.1)
+        frame_fails (keeping.Serve Read) by none = absurd none.0
+        frame_fails (keeping.Serve Bound) by none = absurd none.0
+        frame_fails (keeping.Keep failure) by wrote = frame_unkept wrote.1 place failure wrote.0 (keeps (λ e. cc)) wrote.2
 
 -- ---- a turn keeps the state that it changed
-pub turn_kept : {P : Type 0} (Keeps : Content → P → P → Type 0) (before after : Content) (place kept : P) (changed : Bool) → IsChange before after changed
-    → KeepsTurn (Keeps after place kept) place kept changed → KeepsChange Keeps before after place kept
-turn_kept Keeps before after place kept true differs keeps = inr (differs, keeps)
-turn_kept Keeps before after place kept false same stays = inl (same, stays)
+pub turn_kept : {P : Type 0} (Keeps : PlanSource → Content → Effect P (Unit {0})) (source here : PlanSource) (before after there : Content) (place kept : P) (changed : Bool)
+    (ended : Result (Unit {0}) Failure) → here ≡ source → there ≡ after → IsChange before after changed → KeepsTurn (Keeps here there) changed place kept ended
+    → KeepsChange (Keeps source) before after place kept ended
+turn_kept Keeps source here before after there place kept true ended from left differs keeps =
+    inr (differs, subst (λ (state : Content). Keeps source state place kept ended) left (subst (λ (plan : PlanSource). Keeps plan there place kept ended) from keeps))
+turn_kept Keeps source here before after there place kept false ended from left same stays = inl (same, stays)

@@ -1,11 +1,9 @@
 -- Bytes that are cut into frames and a rest have a session.
 use Rattle.std.proofs.Common.{◌≡◌, ℕ, List, [], ◌∷◌, length, Option, Some, None, ◌⊎◌, inl, inr, refl, arith}
-use Rattle.stn_wire.specs.{Frame.FrameContent, Front.faulty, Front.unfinished, Front.IsFront, declared.fault.WireFault.WireFault, declared.stream.fault.FrameFault.FrameFault, Stream.wire_fault, Stream.frame_code}
+use Rattle.stn_wire.{specs.{Frame.FrameContent, Front.{faulty, unfinished, IsFront}, declared.{fault.WireFault.WireFault, stream.fault.FrameFault.FrameFault}, Stream.{wire_fault, frame_code}}, proofs.{Fronts.ShowsNone, Cuts.IsCut}}
 use Rattle.stn_wire.specs.declared.fault.WireFault.TheVariants as wire
 use Rattle.stn_wire.specs.declared.stream.fault.FrameFault.TheVariants as frame
-use Rattle.stn_wire.proofs.{Fronts.ShowsNone, Cuts.IsCut}
-use Rattle.stn_session.specs.{Session.Session, Session.talked, Session.broken_off, Serving.Ends, Serving.IsSession, declared.session.End.End}
-use Rattle.stn_session.specs.declared.session.End.TheVariants.{Closed, Cut, Refused}
+use Rattle.stn_session.specs.{Session.{Session, talked, broken_off}, Serving.{Ends, IsSession}, declared.session.End.{End, TheVariants.{Closed, Cut, Refused}}}
 
 -- a fault that bytes show is one of a frame
 of_frame : (rest : List ℕ) (fault : WireFault) → IsFront rest (faulty fault) → (one : FrameFault) × IsFront rest (faulty (wire_fault one))

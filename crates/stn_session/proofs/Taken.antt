@@ -1,19 +1,10 @@
 -- What is answered to records that are taken in, or refused.
-use Rattle.std.proofs.Common.{◌≡◌, ◌↔◌, ℕ, Bool, true, false, inr, not, List, ◌++◌, Option, Some, None, refl, sym, ap, subst, ◌∙◌}
-use Rattle.std.specs.Prelude.{is_some, option_and_then, IsTrue}
-use Rattle.std.proofs.lemmas.{Bool.false≢true, Option.same_Some}
+use Rattle.std.{proofs.{Common.{◌≡◌, ◌↔◌, ℕ, Bool, true, false, inr, not, List, ◌++◌, Option, Some, None, refl, sym, ap, subst, ◌∙◌}, lemmas.{Bool.false≢true, Option.same_Some}}, specs.Prelude.{is_some, option_and_then, IsTrue}}
 use Rattle.stn_refusal.specs.Refusals.{code_of}
-use Rattle.stn_records.specs.Content.{Content, IsPart, dispute_contents, join_contents, joined_contents}
-use Rattle.stn_records.specs.ContentLaws.{contents_dispute, contents_undisputed, contents_join}
-use Rattle.stn_site.specs.Calls.{Leaves, took}
-use Rattle.stn_site.specs.Failures.{replica_failure}
-use Rattle.stn_site.specs.Held.{Held}
-use Rattle.stn_site.specs.Refusals.{take_refusal}
-use Rattle.stn_site.specs.declared.faults.ReplicaFault.{ReplicaFault}
+use Rattle.stn_records.specs.{Content.{Content, IsPart, dispute_contents, join_contents, joined_contents}, ContentLaws.{contents_dispute, contents_undisputed, contents_join}}
+use Rattle.stn_site.specs.{Calls.{Leaves, took}, Failures.replica_failure, Held.Held, Refusals.take_refusal, declared.faults.ReplicaFault.ReplicaFault}
 use Rattle.stn_wire.specs.Frame.{spelling, records}
-use Rattle.stn_session.specs.Session.{Answer, take_code, taking}
-use Rattle.stn_session.specs.Turns.{IsAnswered, IsChange}
-use Rattle.stn_session.specs.declared.replies.Turn.{Turn}
+use Rattle.stn_session.specs.{Session.{Answer, take_code, taking}, Turns.{IsAnswered, IsChange}, declared.replies.Turn.Turn}
 
 none_there : {X : Type 0} (o : Option X) → not (is_some o) ≡ true → o ≡ None
 none_there None e = refl

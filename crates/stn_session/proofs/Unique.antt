@@ -1,15 +1,7 @@
 -- Bytes have one session.
-use Rattle.std.proofs.Common.{◌≡◌, ℕ, cond, List, [], ◌∷◌, ◌++◌, length, Option, Some, None, refl, sym, ap, subst, ◌∙◌, inl, ⊎_elim, arith, append_assoc, length-append}
-use Rattle.std.specs.Prelude.{flat_map, is_some}
-use Rattle.std.specs.List.{AllByRecursion}
-use Rattle.stn_wire.specs.Frame.{FrameContent, spelling, IsFrame}
-use Rattle.stn_wire.specs.Front.{Front, whole, faulty, unfinished, IsFront}
-use Rattle.stn_wire.specs.Stream.{wire_fault, frame_code}
-use Rattle.stn_session.specs.Session.{Session, answer, followed, advanced, talked, broken_off}
-use Rattle.stn_session.specs.Serving.{Ends, IsSession}
-use Rattle.stn_session.specs.declared.session.End.{End}
-use Rattle.stn_session.specs.declared.session.End.TheVariants.{Closed, Cut, Refused}
-use Rattle.stn_wire.proofs.{Fronts.whole_in_front, Streams.one_fault, Streams.spelling_some}
+use Rattle.std.{proofs.Common.{◌≡◌, ℕ, cond, List, [], ◌∷◌, ◌++◌, length, Option, Some, None, refl, sym, ap, subst, ◌∙◌, inl, ⊎_elim, arith, append_assoc, length-append}, specs.{Prelude.{flat_map, is_some}, List.AllByRecursion}}
+use Rattle.stn_wire.{specs.{Frame.{FrameContent, spelling, IsFrame}, Front.{Front, whole, faulty, unfinished, IsFront}, Stream.{wire_fault, frame_code}}, proofs.{Fronts.whole_in_front, Streams.{one_fault, spelling_some}}}
+use Rattle.stn_session.specs.{Session.{Session, answer, followed, advanced, talked, broken_off}, Serving.{Ends, IsSession}, declared.session.End.{End, TheVariants.{Closed, Cut, Refused}}}
 
 -- a session that has ended stays
 stays : (first : Session) (code : ℕ) → first.ended ≡ Some code → (frames : List FrameContent) → talked first frames ≡ first

@@ -1,18 +1,11 @@
 -- What a site asks of another, and what it makes of the replies.
-use Rattle.std.specs.Prelude.{◌≡◌, ◌⊎◌, ℕ, ◌+◌, ◌≤◌, fold, flat_map, List, [], ◌∷◌, ◌++◌, length, Option, Some, None, Result, Ok, Err, ⊤}
-use Rattle.std.specs.List.{AllByRecursion}
-use Rattle.std.specs.Io.KnownBytes.{Consumes, IsAtEnd}
+use Rattle.std.specs.{Prelude.{◌≡◌, ◌⊎◌, ℕ, ◌+◌, ◌≤◌, fold, flat_map, List, [], ◌∷◌, ◌++◌, length, Option, Some, None, Result, Ok, Err, ⊤}, List.AllByRecursion, Io.KnownBytes.{Consumes, IsAtEnd}}
 use Rattle.stn_device.specs.Bytes.{most_bytes}
 use Rattle.stn_lift.specs.PlanSource.{PlanSource}
 use Rattle.stn_records.specs.Content.{Content, joined_contents}
-use Rattle.stn_site.specs.Refusals.{take_refusal}
-use Rattle.stn_site.specs.declared.faults.ReplicaFault.{ReplicaFault}
-use Rattle.stn_wire.specs.Frame.{FrameContent, old_hello, old_records, hello, records, ask, text, refused, same, spelling, IsFrame}
-use Rattle.stn_wire.specs.Front.{IsFront, faulty, unfinished}
-use Rattle.stn_site.specs.Held.{holding_state}
-use Rattle.stn_wire.specs.Stream.{wire_fault}
-use Rattle.stn_session.specs.declared.exchange.ReplyFault.{ReplyFault}
-use Rattle.stn_session.specs.declared.exchange.ReplyFault.TheVariants.{Refused, Frame, Reply, Replica, Read, Bound, Memory}
+use Rattle.stn_site.specs.{Refusals.take_refusal, declared.faults.ReplicaFault.ReplicaFault, Held.holding_state}
+use Rattle.stn_wire.specs.{Frame.{FrameContent, old_hello, old_records, hello, records, ask, text, refused, same, spelling, IsFrame}, Front.{IsFront, faulty, unfinished}, Stream.wire_fault}
+use Rattle.stn_session.specs.declared.exchange.ReplyFault.{ReplyFault, TheVariants.{Refused, Frame, Reply, Replica, Read, Bound, Memory}}
 
 -- what is asked: HELLO with what the plan is made from, RECORDS with the whole state, ASK
 abbrev pub request_bytes : PlanSource → Content → List ℕ

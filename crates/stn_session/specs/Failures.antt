@@ -1,9 +1,7 @@
 -- What is printed where the replies of another site were not taken.
 use Rattle.stn_refusal.specs.declared.code.Code.TheVariants as code
-use Rattle.stn_refusal.specs.declared.failure.Failure.{Failure}
-use Rattle.stn_refusal.specs.declared.failure.Failure.TheVariants.{Failed}
+use Rattle.stn_refusal.specs.{declared.failure.Failure.{Failure, TheVariants.Failed}, Refusals.{refused, refused_with, out_of_memory}}
 use Rattle.stn_refusal.specs.declared.failure.Fault.TheVariants as device
-use Rattle.stn_refusal.specs.Refusals.{refused, refused_with, out_of_memory}
 use Rattle.stn_wire.specs.Stream.Failures.{frame_failure}
 use Rattle.stn_site.specs.Failures.{replica_failure}
 use Rattle.stn_session.specs.declared.exchange.ReplyFault.{ReplyFault}

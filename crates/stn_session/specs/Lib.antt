@@ -3,5 +3,4 @@ pub mod Serving
 pub mod Exchange
 pub mod Reception
 pub mod Turns
-pub mod Keeping
 pub mod Failures

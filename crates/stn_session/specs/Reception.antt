@@ -1,7 +1,6 @@
 -- What the bytes of a reader alone decide.
 use Rattle.std.specs.Prelude.{ℕ, List, Result, Ok, Err, ⊤}
-use Rattle.stn_session.specs.declared.exchange.ReplyFault.{ReplyFault}
-use Rattle.stn_session.specs.declared.exchange.ReplyFault.TheVariants.{Refused, Frame, Reply, Replica, Read, Bound, Memory}
+use Rattle.stn_session.specs.declared.exchange.ReplyFault.{ReplyFault, TheVariants.{Refused, Frame, Reply, Replica, Read, Bound, Memory}}
 
 -- the answer says what the replies are: no read failed, and memory did not run out
 abbrev pub SaysReplies : Result (List ℕ) ReplyFault → Type 0

@@ -1,14 +1,9 @@
 -- What a session answers to frames: a table by kinds, and its fold.
 use Rattle.std.specs.Prelude.{ℕ, ◌+◌, Bool, true, false, ◌==◌, ◌&&◌, if◌then◌else◌, fold, bytes_eq, List, [], ◌∷◌, ◌++◌, Option, Some, None, is_some, option_and_then}
-use Rattle.stn_refusal.specs.Codes.{number_of}
-use Rattle.stn_refusal.specs.Refusals.{code_of}
-use Rattle.stn_refusal.specs.declared.code.Code.{Code}
-use Rattle.stn_refusal.specs.declared.code.Code.TheVariants.{OtherPlan, Unexpected, OldVersion}
+use Rattle.stn_refusal.specs.{Codes.number_of, Refusals.code_of, declared.code.Code.{Code, TheVariants.{OtherPlan, Unexpected, OldVersion}}}
 use Rattle.stn_lift.specs.PlanSource.{PlanSource, bare, files}
 use Rattle.stn_records.specs.Content.{Content, joined_contents}
-use Rattle.stn_site.specs.Failures.{replica_failure}
-use Rattle.stn_site.specs.Held.{holding_state}
-use Rattle.stn_site.specs.Refusals.{take_refusal}
+use Rattle.stn_site.specs.{Failures.replica_failure, Held.holding_state, Refusals.take_refusal}
 use Rattle.stn_wire.specs.Frame.{FrameContent, old_hello, old_records, hello, records, ask, text, refused, same}
 
 -- two plans are made from the same, byte for byte

@@ -1,26 +1,14 @@
 -- For proofs alone: no public clause cites these words.
 -- What one frame of a session or an exchange brings, as the code has it.
-use Rattle.std.specs.Prelude.{◌≡◌, ◌≢◌, ◌⊎◌, ℕ, Bool, true, false, ◌+◌, ◌≤◌, List, [], ◌++◌, length, flat_map, Option, Result, Ok, Err}
-use Rattle.std.specs.List.{AllByRecursion}
-use Rattle.std.specs.Io.KnownBytes.{Consumes, Appends}
+use Rattle.std.specs.{Prelude.{◌≡◌, ◌≢◌, ◌⊎◌, ℕ, Bool, true, false, ◌+◌, ◌≤◌, List, [], ◌++◌, length, flat_map, Option, Result, Ok, Err}, List.AllByRecursion, Io.KnownBytes.{Consumes, Appends}}
 use Rattle.stn_device.specs.Bytes.{most_bytes, AppendsPart}
+use Rattle.stn_effects.specs.Effects.{Effect, Gives}
 use Rattle.stn_lift.specs.PlanSource.{PlanSource}
 use Rattle.stn_records.specs.Content.{Content}
-use Rattle.stn_wire.specs.Frame.{FrameContent, content, spelling, refused, IsFrame}
-use Rattle.stn_wire.specs.declared.frame.Frame.{Frame}
-use Rattle.stn_wire.specs.Stream.Held.{Stream}
-use Rattle.stn_wire.specs.Stream.{pending, IsReading}
-use Rattle.stn_session.specs.Session.{Answer}
-use Rattle.stn_session.specs.Serving.{IsReplyBytes}
-use Rattle.stn_session.specs.Exchange.{Stage, at_stage, expecting, replied, IsLost, IsReceived}
-use Rattle.stn_refusal.specs.declared.failure.Failure.{Failure}
-use Rattle.stn_session.specs.Keeping.{KeepsChange, KeepsLast}
-use Rattle.stn_session.specs.declared.session.KeepingFault.{KeepingFault}
+use Rattle.stn_wire.specs.{Frame.{FrameContent, content, spelling, refused, IsFrame}, declared.frame.Frame.Frame, Stream.{pending, IsReading, Held.Stream}}
+use Rattle.stn_session.specs.{Session.Answer, Serving.{IsReplyBytes, KeepsChange}, Exchange.{Stage, at_stage, expecting, replied, IsLost, IsReceived}, declared.{session.{KeepingFault.KeepingFault, ServeFault.ServeFault}, replies.Turn.Turn, exchange.ReplyFault.ReplyFault}}
 use Rattle.stn_session.specs.declared.session.KeepingFault.TheVariants as keeping
-use Rattle.stn_session.specs.declared.replies.Turn.{Turn}
-use Rattle.stn_session.specs.declared.session.ServeFault.{ServeFault}
 use Rattle.stn_session.specs.declared.session.ServeFault.TheVariants as serve
-use Rattle.stn_session.specs.declared.exchange.ReplyFault.{ReplyFault}
 
 -- whether the state is another one
 abbrev pub IsChange : Content → Content → Bool → Type 0
@@ -45,18 +33,25 @@ Wrote answer old new before after (Err serve.Write) = (bytes : List ℕ) × IsRe
 Wrote answer old new before after (Err serve.Memory) = Appends old new [] × ((after ≡ before) ⊎ (after ≡ answer.state))
 Wrote answer old new before after (Err other) = ⊥
 
--- the state was kept, where it changed
-abbrev pub KeepsTurn : {P : Type 0} → Type 0 → P → P → Bool → Type 0
-KeepsTurn Kept old new true = Kept
-KeepsTurn Kept old new false = new ≡ old
+-- the state is kept, where it changed
+abbrev pub KeepsTurn : {P : Type 0} → Effect P (Unit {0}) → Bool → Effect P (Unit {0})
+KeepsTurn Keeps true = Keeps
+KeepsTurn Keeps false = Gives tt
+
+-- what a fault kept of the frame that was not answered: its state, where part of the reply may be written
+abbrev pub KeepsLast : {P : Type 0} → (Content → Effect P (Unit {0})) → Content → Content → P → P → ServeFault → Type 0
+KeepsLast Keeps before after old new serve.Write = KeepsChange Keeps before after old new (Ok tt)
+KeepsLast Keeps before after old new serve.Read = new ≡ old
+KeepsLast Keeps before after old new serve.Bound = new ≡ old
+KeepsLast Keeps before after old new serve.Memory = new ≡ old
 
 -- the same of an answer before which the state was kept, where it is another one; where it could not be, nothing was written
-abbrev pub WroteKept : {P : Type 0} → (Content → P → P → Type 0) → (Content → P → P → Failure → Type 0) → Answer → Option (List ℕ) → Option (List ℕ) → Content → Content → P → P
+abbrev pub WroteKept : {P : Type 0} → (Content → Effect P (Unit {0})) → Answer → Option (List ℕ) → Option (List ℕ) → Content → Content → P → P
     → Result Turn KeepingFault → Type 0
-WroteKept Keeps Fails answer old new before after place kept (Ok turn) = Wrote answer old new before after (Ok turn) × KeepsChange Keeps before after place kept
-WroteKept Keeps Fails answer old new before after place kept (Err (keeping.Serve fault)) = Wrote answer old new before after (Err fault) × KeepsLast Keeps before after place kept fault
-WroteKept Keeps Fails answer old new before after place kept (Err (keeping.Keep failure)) =
-    Appends old new [] × (after ≡ answer.state) × (after ≢ before) × Fails after place kept failure
+WroteKept Keeps answer old new before after place kept (Ok turn) = Wrote answer old new before after (Ok turn) × KeepsChange Keeps before after place kept (Ok tt)
+WroteKept Keeps answer old new before after place kept (Err (keeping.Serve fault)) = Wrote answer old new before after (Err fault) × KeepsLast Keeps before after place kept fault
+WroteKept Keeps answer old new before after place kept (Err (keeping.Keep failure)) =
+    Appends old new [] × (after ≡ answer.state) × KeepsChange Keeps before after place kept (Err failure)
 
 -- REFUSED with the code was written, or a front part of it, or nothing
 abbrev pub WroteRefused : ℕ → Option (List ℕ) → Option (List ℕ) → Result (Unit {0}) KeepingFault → Type 0

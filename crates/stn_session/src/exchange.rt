@@ -1,16 +1,10 @@
 // What a site asks of another, and what it makes of the replies.
-ghost use Rattle.std.specs.Prelude.{◌≡◌, ◌≢◌, ◌⊎◌, ◌-◌, ◌^◌, ◌<◌, ◌++◌, ℕ, List, Option, Err, IfOk, IfErr, OnOk, OnErr, IsErrOf};
-ghost use Rattle.std.specs.Io.KnownBytes.{Appends};
-ghost use Rattle.stn_device.specs.Bytes.{AppendsPart};
-ghost use Rattle.stn_device.specs.Counted.{counted_device, failure_count, CountsFailure, KeepsCount};
+ghost use Rattle.std.specs.{Prelude.{◌≡◌, ◌≢◌, ◌⊎◌, ◌-◌, ◌^◌, ◌<◌, ◌++◌, ℕ, List, Option, Err, IfOk, IfErr, OnOk, OnErr, IsErrOf}, Io.KnownBytes.Appends};
+ghost use Rattle.stn_device.specs.{Bytes.AppendsPart, Counted.{counted_device, failure_count, CountsFailure, KeepsCount}};
 ghost use Rattle.stn_lift.specs.PlanSource.{PlanSource};
 ghost use Rattle.stn_records.specs.Content.{Content};
-ghost use Rattle.stn_wire.specs.Frame.{content, same, records, text};
-ghost use Rattle.stn_wire.specs.Stream.{unread, pending, IsReading};
-ghost use Rattle.stn_session.specs.Exchange.{request_bytes, at_stage, greeting, handing, telling, failed, greeted_by, handed, told_by, unexpected, IsReceived, seen};
-ghost use Rattle.stn_session.specs.Turns.{Finds, Came, Leads};
-ghost use Rattle.stn_session.specs.declared.exchange.ReplyFault.TheVariants.{Read, Memory};
-ghost use Rattle.stn_session.specs.Failures.{reply_failure};
+ghost use Rattle.stn_wire.specs.{Frame.{content, same, records, text}, Stream.{unread, pending, IsReading}};
+ghost use Rattle.stn_session.specs.{Exchange.{request_bytes, at_stage, greeting, handing, telling, failed, greeted_by, handed, told_by, unexpected, IsReceived, seen}, Turns.{Finds, Came, Leads}, declared.exchange.ReplyFault.TheVariants.{Read, Memory}, Failures.reply_failure};
 
 use crate::replies::append_state;
 use std::alloc::{AllocError, Allocator};
@@ -18,8 +12,7 @@ use std::io::{Read, Write};
 use stn_device::{Counted, OutputFault, ReadFault, write_whole};
 use stn_records::Records;
 use stn_refusal::{Code, Failure, Fault};
-use stn_replica::Replica;
-use stn_site::ReplicaFault;
+use stn_site::{ReplicaFault, SiteCopy};
 use stn_wire::{Frame, FrameFault, FrameReader, Next, Said, say};
 use thiserror::Error;
 
@@ -27,35 +20,34 @@ use thiserror::Error;
 /// its whole state, and ASK.
 ///
 /// Faults: `Memory`, after which nothing is written; `Write`, after which a part may be.
-pub fn send_requests<W: Write, A: Allocator + Copy>(
+pub fn send_requests<W: Write, A: Allocator + Copy, C: SiteCopy<A>>(
     alloc: A,
-    replica: &Replica<A>,
+    copy: &C,
     writer: &mut Counted<W>,
 ) -> Result<(), OutputFault>
-    requires { failure_count writer.old < 2 ^ 64 - 1 }
     ensures sent { OnOk result (Appends (W.contents (counted_device writer.old)) (W.contents (counted_device writer.new))
-        (request_bytes replica.now.source replica.now.state)) }
+        (request_bytes (C.held copy.now).source (C.held copy.now).state)) }
     ensures part { OnErr result (AppendsPart (W.contents (counted_device writer.old)) (W.contents (counted_device writer.new))
-        (request_bytes replica.now.source replica.now.state)) }
+        (request_bytes (C.held copy.now).source (C.held copy.now).state)) }
     ensures unwritten { IsErrOf result OutputFault.Memory → writer.new ≡ writer.old }
-    ensures write { IsErrOf result OutputFault.Write → failure_count writer.old < failure_count writer.new }
+    ensures write { IsErrOf result OutputFault.Write → CountsFailure writer.old writer.new }
     ensures kept { result ≢ Err OutputFault.Write → KeepsCount writer.old writer.new }
 {
     let mut out = Vec::new(alloc);
-    append_requests(replica, &mut out)?;
+    append_requests(copy, &mut out)?;
     write_whole(writer, &out)?;
     Ok(())
 }
 
 // Appends HELLO, RECORDS and ASK.
-fn append_requests<A: Allocator + Copy>(
-    replica: &Replica<A>,
+fn append_requests<A: Allocator + Copy, C: SiteCopy<A>>(
+    copy: &C,
     out: &mut Vec<u8, A>,
 ) -> Result<(), AllocError>
-    ensures { OnOk result (out.new.items ≡ out.old.items ++ request_bytes replica.now.source replica.now.state) }
+    ensures { OnOk result (out.new.items ≡ out.old.items ++ request_bytes (C.held copy.now).source (C.held copy.now).state) }
 {
-    say(&Said::Hello(replica.base().source()), out)?;
-    append_state(replica.records(), out)?;
+    say(&Said::Hello(copy.plan().base().source()), out)?;
+    append_state(copy.plan().records(), out)?;
     say::<A, A>(&Said::Ask, out)
 }
 
@@ -71,7 +63,7 @@ pub enum ReplyFault {
     /// Another frame stands where a reply is wanted, or the input ended.
     #[error("no reply")]
     Reply,
-    /// The replica refused the records.
+    /// This site refused the records.
     #[error(transparent)]
     Replica(ReplicaFault),
     /// A call of the reader failed.
@@ -106,41 +98,41 @@ impl From<ReplyFault> for Failure {
 ///
 /// Refused in the order of the frames: `Refused`, where the other site refused; `Frame`; `Reply`; `Replica`, where
 /// the records are refused; and `Read`, `Bound`, `Memory`. Records that were taken before a refusal stay taken.
-pub fn receive_replies<R: Read, A: Allocator + Copy>(
+pub fn receive_replies<R: Read, A: Allocator + Copy, C: SiteCopy<A>>(
     alloc: A,
     reader: &mut Counted<R>,
-    replica: &mut Replica<A>,
+    copy: &mut C,
 ) -> Result<Vec<u8, A>, ReplyFault>
     requires { failure_count reader.old < 2 ^ 64 - 1 }
 
-    // The bytes that were read are frames and a rest; the answer and the replica are what these come to.
-    ensures received { IsReceived replica.old.source replica.old.state (R.remaining (counted_device reader.old))
-        (R.remaining (counted_device reader.new)) replica.new.state (seen (λ bytes. bytes.items) result) }
-    ensures source { replica.new.source ≡ replica.old.source }
-    ensures site { replica.new.site ≡ replica.old.site }
+    // The bytes that were read are frames and a rest; the answer and the site's state are what these come to.
+    ensures received { IsReceived (C.held copy.old).source (C.held copy.old).state (R.remaining (counted_device reader.old))
+        (R.remaining (counted_device reader.new)) (C.held copy.new).state (seen (λ bytes. bytes.items) result) }
+    ensures source { (C.held copy.new).source ≡ (C.held copy.old).source }
+    ensures site { (C.held copy.new).site ≡ (C.held copy.old).site }
     ensures read { IsErrOf result Read → failure_count reader.old < failure_count reader.new }
     ensures kept { result ≢ Err Read → KeepsCount reader.old reader.new }
 {
     let mut frames = FrameReader::new(alloc);
-    take_replies(&mut frames, reader, replica)
+    take_replies(&mut frames, reader, copy)
 }
 
 // The three replies, one after the other.
-fn take_replies<R: Read, A: Allocator + Copy>(
+fn take_replies<R: Read, A: Allocator + Copy, C: SiteCopy<A>>(
     frames: &mut FrameReader<A>,
     reader: &mut Counted<R>,
-    replica: &mut Replica<A>,
+    copy: &mut C,
 ) -> Result<Vec<u8, A>, ReplyFault>
     requires { frames.old ≡ unread }
-    ensures received { IsReceived replica.old.source replica.old.state (R.remaining (counted_device reader.old))
-        (R.remaining (counted_device reader.new)) replica.new.state (seen (λ bytes. bytes.items) result) }
-    ensures source { replica.new.source ≡ replica.old.source }
-    ensures site { replica.new.site ≡ replica.old.site }
+    ensures received { IsReceived (C.held copy.old).source (C.held copy.old).state (R.remaining (counted_device reader.old))
+        (R.remaining (counted_device reader.new)) (C.held copy.new).state (seen (λ bytes. bytes.items) result) }
+    ensures source { (C.held copy.new).source ≡ (C.held copy.old).source }
+    ensures site { (C.held copy.new).site ≡ (C.held copy.old).site }
     ensures read { IsErrOf result Read → CountsFailure reader.old reader.new }
     ensures kept { result ≢ Err Read → KeepsCount reader.old reader.new }
 {
     take_same(frames, reader)?;
-    take_records(frames, reader, replica)?;
+    take_records(frames, reader, copy)?;
     take_text(frames, reader)
 }
 
@@ -163,23 +155,23 @@ fn take_same<R: Read, A: Allocator + Copy>(
 }
 
 // The second reply.
-fn take_records<R: Read, A: Allocator + Copy>(
+fn take_records<R: Read, A: Allocator + Copy, C: SiteCopy<A>>(
     frames: &mut FrameReader<A>,
     reader: &mut Counted<R>,
-    replica: &mut Replica<A>,
+    copy: &mut C,
 ) -> Result<(), ReplyFault>
     requires { IsReading frames.old }
     ensures leads { (first : Content) → (before : Option (List ℕ))
-        → Came replica.old.source first before (R.remaining (counted_device reader.old)) (pending frames.old) frames.old.count handing replica.old.state
-        → Leads replica.old.source first before (R.remaining (counted_device reader.new)) frames.new telling replica.new.state result }
-    ensures source { replica.new.source ≡ replica.old.source }
-    ensures site { replica.new.site ≡ replica.old.site }
+        → Came (C.held copy.old).source first before (R.remaining (counted_device reader.old)) (pending frames.old) frames.old.count handing (C.held copy.old).state
+        → Leads (C.held copy.old).source first before (R.remaining (counted_device reader.new)) frames.new telling (C.held copy.new).state result }
+    ensures source { (C.held copy.new).source ≡ (C.held copy.old).source }
+    ensures site { (C.held copy.new).site ≡ (C.held copy.old).site }
     ensures read { IsErrOf result Read → CountsFailure reader.old reader.new }
     ensures kept { result ≢ Err Read → KeepsCount reader.old reader.new }
 {
     let frame = next_reply(frames, reader)?;
     let theirs = records_of(frame)?;
-    let taken = take_in(replica, &theirs);
+    let taken = take_in(copy, &theirs);
     drop(theirs);
     taken
 }
@@ -277,19 +269,19 @@ fn text_of<A: Allocator>(frame: Frame<A>) -> Result<Vec<u8, A>, ReplyFault>
 }
 
 // Takes in what the other site holds.
-fn take_in<A: Allocator + Copy>(
-    replica: &mut Replica<A>,
+fn take_in<A: Allocator + Copy, C: SiteCopy<A>>(
+    copy: &mut C,
     theirs: &Records<A>,
 ) -> Result<(), ReplyFault>
-    ensures source { replica.new.source ≡ replica.old.source }
-    ensures site { replica.new.site ≡ replica.old.site }
-    ensures taken { OnOk result (handed replica.old.source replica.old.state (records theirs.now) ≡ at_stage telling replica.new.state) }
+    ensures source { (C.held copy.new).source ≡ (C.held copy.old).source }
+    ensures site { (C.held copy.new).site ≡ (C.held copy.old).site }
+    ensures taken { OnOk result (handed (C.held copy.old).source (C.held copy.old).state (records theirs.now) ≡ at_stage telling (C.held copy.new).state) }
     ensures refused { IfErr result (λ fault. (fault ≡ Memory)
-        ⊎ (handed replica.old.source replica.old.state (records theirs.now) ≡ at_stage (failed fault) replica.old.state)) }
-    ensures kept { OnErr result (replica.new.state ≡ replica.old.state) }
+        ⊎ (handed (C.held copy.old).source (C.held copy.old).state (records theirs.now) ≡ at_stage (failed fault) (C.held copy.old).state)) }
+    ensures kept { OnErr result ((C.held copy.new).state ≡ (C.held copy.old).state) }
     ensures read { result ≢ Err Read }
 {
-    match replica.take(theirs) {
+    match copy.take(theirs) {
         Ok(()) => Ok(()),
         Err(ReplicaFault::Memory) => Err(ReplyFault::Memory),
         Err(fault) => Err(ReplyFault::Replica(fault)),

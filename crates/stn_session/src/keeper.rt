@@ -1,40 +1,32 @@
 //! Where a session keeps what it takes in, before the other site is told of it.
 
-ghost use Rattle.std.specs.Prelude.{◌≡◌, OnOk, IfErr};
-
 use std::alloc::Allocator;
 use stn_refusal::Failure;
-use stn_replica::Replica;
+use stn_site::SitePlan;
 
 /// Keeps states of a plan in a place, as in a store of logs.
 pub trait Keeper<P, A: Allocator + Copy> {
+    ghost use Rattle.stn_effects.specs.Effects.{Effect};
     ghost use Rattle.stn_lift.specs.PlanSource.{PlanSource};
     ghost use Rattle.stn_records.specs.Content.{Content};
-    ghost use Rattle.stn_refusal.specs.declared.failure.Failure.{Failure as FailureView};
 
-    /// A state of a plan was kept: the place before, and after it.
-    ghost keeps: { Self → PlanSource → Content → P → P → Type 0 };
+    /// What it is to keep a state of a plan in the place.
+    ghost keeps: { Self → PlanSource → Content → Effect P (Unit {0}) };
 
-    /// It could not be kept, with this failure.
-    ghost fails: { Self → PlanSource → Content → P → P → FailureView → Type 0 };
-
-    /// Keeps the state of a replica.
-    fn keep(&self, place: &mut P, replica: &Replica<A>) -> Result<(), Failure>
-        ensures kept { OnOk result (keeps self.now replica.now.source replica.now.state place.old place.new) }
-        ensures failed { IfErr result (fails self.now replica.now.source replica.now.state place.old place.new) };
+    /// Keeps the state of a site's copy of a plan.
+    fn keep(&self, place: &mut P, plan: &SitePlan<A>) -> Result<(), Failure>
+        ensures { keeps self.now plan.now.source plan.now.state place.old place.new result };
 }
 
 /// Keeps nothing.
 pub struct Nowhere;
 
 impl<A: Allocator + Copy> Keeper<(), A> for Nowhere {
-    ghost use Rattle.std.specs.Prelude.{⊤};
+    ghost use Rattle.stn_session.specs.Serving.{KeepsNothing};
 
-    ghost keeps = { λ _ _ _ _ _. ⊤ };
+    ghost keeps = { λ _ _. KeepsNothing };
 
-    ghost fails = { λ _ _ _ _ _ _. ⊥ };
-
-    fn keep(&self, _place: &mut (), _replica: &Replica<A>) -> Result<(), Failure> {
+    fn keep(&self, _place: &mut (), _plan: &SitePlan<A>) -> Result<(), Failure> {
         Ok(())
     }
 }

@@ -1,8 +1,5 @@
-ghost use Rattle.std.specs.Prelude.{◌≡◌, ◌<◌, ◌^◌, ℕ, List};
-ghost use Rattle.std.specs.List.{AllByRecursion};
-ghost use Rattle.stn_session.specs.Session.{Session};
-ghost use Rattle.stn_session.specs.Serving.{IsSession};
-ghost use Rattle.stn_session.specs.declared.session.End.{End};
+ghost use Rattle.std.specs.{Prelude.{◌≡◌, ◌<◌, ◌^◌, ℕ, List}, List.AllByRecursion};
+ghost use Rattle.stn_session.specs.{Session.Session, Serving.IsSession, declared.session.End.End};
 
 use stn_wire::{one_front, one_spelling};
 

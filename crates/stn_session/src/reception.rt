@@ -1,9 +1,7 @@
 ghost use Rattle.std.specs.Prelude.{◌≡◌, ℕ, List, Option, Some, Result};
 ghost use Rattle.stn_lift.specs.PlanSource.{PlanSource};
 ghost use Rattle.stn_records.specs.Content.{Content};
-ghost use Rattle.stn_session.specs.Exchange.{IsReceived};
-ghost use Rattle.stn_session.specs.Reception.{SaysReplies};
-ghost use Rattle.stn_session.specs.declared.exchange.ReplyFault.{ReplyFault};
+ghost use Rattle.stn_session.specs.{Exchange.IsReceived, Reception.SaysReplies, declared.exchange.ReplyFault.ReplyFault};
 
 use stn_wire::{one_front, one_spelling};
 

@@ -3,14 +3,13 @@ ghost use Rattle.std.specs.Prelude.{◌≡◌, ◌⊎◌, ◌++◌, true, false,
 ghost use Rattle.stn_lift.specs.PlanSource.{plan_source};
 ghost use Rattle.stn_wire.specs.Frame.{content, spelling, hello, records, ask, refused};
 ghost use Rattle.stn_refusal.specs.Codes.{number_of};
-ghost use Rattle.stn_session.specs.Session.{answer};
-ghost use Rattle.stn_session.specs.Turns.{IsAnswered};
+ghost use Rattle.stn_session.specs.{Session.answer, Turns.IsAnswered};
 
 use std::alloc::{AllocError, Allocator};
 use stn_lift::Source;
 use stn_records::Records;
 use stn_refusal::{Code, Failure};
-use stn_replica::Replica;
+use stn_site::SiteCopy;
 use stn_time::Memory;
 use stn_wire::{Frame, Said, say};
 
@@ -21,43 +20,43 @@ pub(crate) struct Turn {
     pub(crate) greeted: bool,
     /// The code that ends the session.
     pub(crate) ended: Option<u8>,
-    /// Whether the replica's state is another one than before.
+    /// Whether the site's state is another one than before.
     pub(crate) changed: bool,
 }
 
 /// Does what a frame says, and appends the reply.
-pub(crate) fn reply_to<A: Allocator + Copy>(
+pub(crate) fn reply_to<A: Allocator + Copy, C: SiteCopy<A>>(
     alloc: A,
     frame: &Frame<A>,
     greeted: bool,
-    replica: &mut Replica<A>,
+    copy: &mut C,
     out: &mut Vec<u8, A>,
 ) -> Result<Turn, Memory>
-    ensures source { replica.new.source ≡ replica.old.source }
-    ensures site { replica.new.site ≡ replica.old.site }
-    ensures answered { IfOk result (IsAnswered (answer replica.old.source replica.old.state greeted (content frame.now)) replica.old.state replica.new.state out.old.items out.new.items) }
-    ensures left { OnErr result ((replica.new.state ≡ replica.old.state)
-        ⊎ (replica.new.state ≡ (answer replica.old.source replica.old.state greeted (content frame.now)).state)) }
+    ensures source { (C.held copy.new).source ≡ (C.held copy.old).source }
+    ensures site { (C.held copy.new).site ≡ (C.held copy.old).site }
+    ensures answered { IfOk result (IsAnswered (answer (C.held copy.old).source (C.held copy.old).state greeted (content frame.now)) (C.held copy.old).state (C.held copy.new).state out.old.items out.new.items) }
+    ensures left { OnErr result (((C.held copy.new).state ≡ (C.held copy.old).state)
+        ⊎ ((C.held copy.new).state ≡ (answer (C.held copy.old).source (C.held copy.old).state greeted (content frame.now)).state)) }
 {
     match frame {
-        Frame::Hello(source) => greet(source, greeted, replica, out),
-        Frame::Records(records) if greeted => take(records, replica, out),
-        Frame::Ask if greeted => report(alloc, replica, out),
+        Frame::Hello(source) => greet(source, greeted, copy, out),
+        Frame::Records(records) if greeted => take(records, copy, out),
+        Frame::Ask if greeted => report(alloc, copy, out),
         Frame::OldHello(_) | Frame::OldRecords(_) => end(Code::OldVersion, greeted, out),
         _ => end(Code::Unexpected, greeted, out),
     }
 }
 
-// HELLO: SAME, where the plan is the replica's own.
-fn greet<A: Allocator + Copy>(
+// HELLO: SAME, where the plan is the site's own.
+fn greet<A: Allocator + Copy, C: SiteCopy<A>>(
     source: &Source<A>,
     greeted: bool,
-    replica: &Replica<A>,
+    copy: &C,
     out: &mut Vec<u8, A>,
 ) -> Result<Turn, Memory>
-    ensures { IfOk result (IsAnswered (answer replica.now.source replica.now.state greeted (hello (plan_source source.now))) replica.now.state replica.now.state out.old.items out.new.items) }
+    ensures { IfOk result (IsAnswered (answer (C.held copy.now).source (C.held copy.now).state greeted (hello (plan_source source.now))) (C.held copy.now).state (C.held copy.now).state out.old.items out.new.items) }
 {
-    if source.same(replica.base().source()) {
+    if source.same(copy.plan().base().source()) {
         say::<A, A>(&Said::Same, out)?;
         Ok(Turn {
             greeted: true,
@@ -70,21 +69,21 @@ fn greet<A: Allocator + Copy>(
 }
 
 // RECORDS: the whole state, where it takes in the records; else what refuses them.
-fn take<A: Allocator + Copy>(
+fn take<A: Allocator + Copy, C: SiteCopy<A>>(
     theirs: &Records<A>,
-    replica: &mut Replica<A>,
+    copy: &mut C,
     out: &mut Vec<u8, A>,
 ) -> Result<Turn, Memory>
-    ensures source { replica.new.source ≡ replica.old.source }
-    ensures site { replica.new.site ≡ replica.old.site }
-    ensures answered { IfOk result (IsAnswered (answer replica.old.source replica.old.state true (records theirs.now)) replica.old.state replica.new.state out.old.items out.new.items) }
-    ensures left { OnErr result ((replica.new.state ≡ replica.old.state)
-        ⊎ (replica.new.state ≡ (answer replica.old.source replica.old.state true (records theirs.now)).state)) }
+    ensures source { (C.held copy.new).source ≡ (C.held copy.old).source }
+    ensures site { (C.held copy.new).site ≡ (C.held copy.old).site }
+    ensures answered { IfOk result (IsAnswered (answer (C.held copy.old).source (C.held copy.old).state true (records theirs.now)) (C.held copy.old).state (C.held copy.new).state out.old.items out.new.items) }
+    ensures left { OnErr result (((C.held copy.new).state ≡ (C.held copy.old).state)
+        ⊎ ((C.held copy.new).state ≡ (answer (C.held copy.old).source (C.held copy.old).state true (records theirs.now)).state)) }
 {
-    let brings = !replica.records().holds(theirs);
-    match replica.take(theirs) {
+    let brings = !copy.plan().records().holds(theirs);
+    match copy.take(theirs) {
         Ok(()) => {
-            append_state(replica.records(), out)?;
+            append_state(copy.plan().records(), out)?;
             Ok(Turn {
                 greeted: true,
                 ended: None,
@@ -103,15 +102,15 @@ fn take<A: Allocator + Copy>(
 }
 
 // ASK: the report.
-fn report<A: Allocator + Copy>(
+fn report<A: Allocator + Copy, C: SiteCopy<A>>(
     alloc: A,
-    replica: &Replica<A>,
+    copy: &C,
     out: &mut Vec<u8, A>,
 ) -> Result<Turn, Memory>
-    ensures { IfOk result (IsAnswered (answer replica.now.source replica.now.state true ask) replica.now.state replica.now.state out.old.items out.new.items) }
+    ensures { IfOk result (IsAnswered (answer (C.held copy.now).source (C.held copy.now).state true ask) (C.held copy.now).state (C.held copy.now).state out.old.items out.new.items) }
 {
     let mut text = Vec::new(alloc);
-    replica.report(&mut text)?;
+    copy.plan().report(&mut text)?;
     say::<A, A>(&Said::Text(&text), out)?;
     Ok(Turn {
         greeted: true,

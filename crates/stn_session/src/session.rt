@@ -1,12 +1,8 @@
 ghost use Rattle.std.specs.Prelude.{◌≡◌, ◌≢◌, ◌-◌, ◌^◌, ◌<◌, true, Err, IfOk, IfErr, OnOk, IsErrOf};
 ghost use Rattle.stn_device.specs.Counted.{counted_device, failure_count, CountsFailure, KeepsCount};
 ghost use Rattle.stn_wire.specs.Frame.{content};
-ghost use Rattle.stn_session.specs.Session.{opening, answer};
-ghost use Rattle.stn_session.specs.Serving.{IsServed, IsBroken, IsInputEnd, serve_fault};
-ghost use Rattle.stn_session.specs.Keeping.{IsKept, IsCutShort};
-ghost use Rattle.stn_session.specs.Turns.{KeepsTurn, WroteKept, WroteRefused};
-ghost use Rattle.stn_session.specs.declared.session.KeepingFault.TheVariants.{Serve, Keep};
-ghost use Rattle.stn_session.specs.declared.session.ServeFault.TheVariants.{Read, Write, Memory};
+ghost use Rattle.stn_effects.specs.Printing.{device_of};
+ghost use Rattle.stn_session.specs.{Session.answer, Serving.{Serves, KeepsNothing, talk, session_answer, serve_fault}, Turns.{KeepsTurn, WroteKept, WroteRefused}, declared.session.{KeepingFault.TheVariants.{Serve, Keep}, ServeFault.TheVariants.{Read, Write, Memory}}};
 
 use crate::keeper::{Keeper, Nowhere};
 use crate::replies::{Turn, append_refused, reply_to};
@@ -14,7 +10,7 @@ use std::alloc::{AllocError, Allocator};
 use std::io::{Read, Write};
 use stn_device::{Counted, ReadFault, WriteFault, write_whole};
 use stn_refusal::Failure;
-use stn_replica::Replica;
+use stn_site::{SiteCopy, SitePlan};
 use stn_wire::{Frame, FrameReader, Next};
 use thiserror::Error;
 
@@ -101,42 +97,41 @@ impl From<Failure> for KeepingFault {
 }
 
 // Answers a frame: does what it says, keeps the state, where it is another one by then, and writes the reply.
-fn answer_frame<P, K: Keeper<P, A>, W: Write, A: Allocator + Copy>(
+fn answer_frame<P, K: Keeper<P, A>, W: Write, A: Allocator + Copy, C: SiteCopy<A>>(
     alloc: A,
     frame: &Frame<A>,
     greeted: bool,
     keeper: &K,
     place: &mut P,
-    replica: &mut Replica<A>,
+    copy: &mut C,
     writer: &mut Counted<W>,
 ) -> Result<Turn, KeepingFault>
-    ensures source { replica.new.source ≡ replica.old.source }
-    ensures site { replica.new.site ≡ replica.old.site }
-    ensures wrote { WroteKept (K.keeps keeper.now replica.old.source) (K.fails keeper.now replica.old.source)
-        (answer replica.old.source replica.old.state greeted (content frame.now))
-        (W.contents (counted_device writer.old)) (W.contents (counted_device writer.new)) replica.old.state replica.new.state place.old place.new result }
+    ensures source { (C.held copy.new).source ≡ (C.held copy.old).source }
+    ensures site { (C.held copy.new).site ≡ (C.held copy.old).site }
+    ensures wrote { WroteKept (K.keeps keeper.now (C.held copy.old).source)
+        (answer (C.held copy.old).source (C.held copy.old).state greeted (content frame.now))
+        (W.contents (counted_device writer.old)) (W.contents (counted_device writer.new)) (C.held copy.old).state (C.held copy.new).state place.old place.new result }
     ensures write { IsErrOf result (Serve Write) → CountsFailure writer.old writer.new }
     ensures kept { result ≢ Err (Serve Write) → KeepsCount writer.old writer.new }
 {
     let mut out = Vec::new(alloc);
-    let turn = reply_to(alloc, frame, greeted, replica, &mut out)?;
-    keep_turn(turn, keeper, place, replica)?;
+    let turn = reply_to(alloc, frame, greeted, copy, &mut out)?;
+    keep_turn(turn, keeper, place, copy.plan())?;
     write_whole(writer, &out)?;
     Ok(turn)
 }
 
-// Keeps the state of a replica that a frame changed.
+// Keeps the state of a site that a frame changed.
 fn keep_turn<P, K: Keeper<P, A>, A: Allocator + Copy>(
     turn: Turn,
     keeper: &K,
     place: &mut P,
-    replica: &Replica<A>,
+    plan: &SitePlan<A>,
 ) -> Result<(), Failure>
-    ensures kept { OnOk result (KeepsTurn (K.keeps keeper.now replica.now.source replica.now.state place.old place.new) place.old place.new turn.changed) }
-    ensures failed { IfErr result (λ failure. (turn.changed ≡ true) × K.fails keeper.now replica.now.source replica.now.state place.old place.new failure) }
+    ensures { KeepsTurn (K.keeps keeper.now plan.now.source plan.now.state) turn.changed place.old place.new result }
 {
     if turn.changed {
-        keeper.keep(place, replica)
+        keeper.keep(place, plan)
     } else {
         Ok(())
     }
@@ -163,37 +158,23 @@ fn refuse<W: Write, A: Allocator + Copy>(
 ///
 /// A fault leaves what the frames that were answered left; after `Memory` and `Write` one frame more may
 /// be taken, whose reply is not written, or not all of it.
-pub fn serve<R: Read, W: Write, A: Allocator + Copy>(
+pub fn serve<R: Read, W: Write, A: Allocator + Copy, C: SiteCopy<A>>(
     alloc: A,
     reader: &mut Counted<R>,
     writer: &mut Counted<W>,
-    replica: &mut Replica<A>,
+    copy: &mut C,
 ) -> Result<Served, ServeFault>
     requires reader_counts { failure_count reader.old < 2 ^ 64 - 1 }
     requires writer_counts { failure_count writer.old < 2 ^ 64 - 1 }
 
-    // The bytes that were read are frames and a rest; the replies, the replica, the count and the end are those of the session.
-    ensures served { IfOk result (IsServed (opening replica.old.source replica.old.state)
-        (R.remaining (counted_device reader.old)) (R.remaining (counted_device reader.new))
-        (W.contents (counted_device writer.old)) (W.contents (counted_device writer.new)) replica.new.state) }
-
-    // The input ended where the answer says so.
-    ensures end { IfOk result (λ served. IsInputEnd served.end (R.remaining (counted_device reader.new))) }
-
-    // What a fault leaves.
-    ensures broken { IfErr result (IsBroken (opening replica.old.source replica.old.state)
-        (R.remaining (counted_device reader.old)) (R.remaining (counted_device reader.new))
-        (W.contents (counted_device writer.old)) (W.contents (counted_device writer.new)) replica.new.state) }
-    ensures source { replica.new.source ≡ replica.old.source }
-    ensures site { replica.new.site ≡ replica.old.site }
-
-    // Each fault has its cause.
-    ensures read { IsErrOf result Read → failure_count reader.old < failure_count reader.new }
-    ensures write { IsErrOf result Write → failure_count writer.old < failure_count writer.new }
-    ensures reader_kept { result ≢ Err Read → KeepsCount reader.old reader.new }
-    ensures writer_kept { result ≢ Err Write → KeepsCount writer.old writer.new }
+    // The bytes that were read are frames and a rest; the replies, the copy, the count and the end are those of the session.
+    ensures served { Serves KeepsNothing (C.held copy.old).source
+        (talk (device_of R.remaining reader.old) (device_of W.contents writer.old) (C.held copy.old).state tt)
+        (talk (device_of R.remaining reader.new) (device_of W.contents writer.new) (C.held copy.new).state tt) (Ok result) }
+    ensures source { (C.held copy.new).source ≡ (C.held copy.old).source }
+    ensures site { (C.held copy.new).site ≡ (C.held copy.old).site }
 {
-    match serve_keeping(alloc, &Nowhere, &mut (), reader, writer, replica) {
+    match serve_keeping(alloc, &Nowhere, &mut (), reader, writer, copy) {
         Ok(served) => Ok(served),
         Err(KeepingFault::Serve(fault)) => Err(fault),
         Err(KeepingFault::Keep(_)) => unreachable!(),
@@ -202,33 +183,24 @@ pub fn serve<R: Read, W: Write, A: Allocator + Copy>(
 
 /// Serves one session as `serve` does, and keeps each state that the other site's records made another one, before it is told of
 /// it. Where a state can't be kept, the session ends before that reply.
-pub fn serve_keeping<P, K: Keeper<P, A>, R: Read, W: Write, A: Allocator + Copy>(
+pub fn serve_keeping<P, K: Keeper<P, A>, R: Read, W: Write, A: Allocator + Copy, C: SiteCopy<A>>(
     alloc: A,
     keeper: &K,
     place: &mut P,
     reader: &mut Counted<R>,
     writer: &mut Counted<W>,
-    replica: &mut Replica<A>,
+    copy: &mut C,
 ) -> Result<Served, KeepingFault>
     requires reader_counts { failure_count reader.old < 2 ^ 64 - 1 }
     requires writer_counts { failure_count writer.old < 2 ^ 64 - 1 }
 
-    // What `serve` says; and after each frame whose records changed the replica's state, that state was kept.
-    ensures served { IfOk result (IsKept (K.keeps keeper.now replica.old.source) (opening replica.old.source replica.old.state)
-        (R.remaining (counted_device reader.old)) (R.remaining (counted_device reader.new))
-        (W.contents (counted_device writer.old)) (W.contents (counted_device writer.new)) replica.new.state place.old place.new) }
-    ensures end { IfOk result (λ served. IsInputEnd served.end (R.remaining (counted_device reader.new))) }
-
-    // What a fault leaves. Where a state was not kept, nothing of the reply to its frame is written.
-    ensures broken { IfErr result (IsCutShort (K.keeps keeper.now replica.old.source) (K.fails keeper.now replica.old.source) (opening replica.old.source replica.old.state)
-        (R.remaining (counted_device reader.old)) (R.remaining (counted_device reader.new))
-        (W.contents (counted_device writer.old)) (W.contents (counted_device writer.new)) replica.new.state place.old place.new) }
-    ensures source { replica.new.source ≡ replica.old.source }
-    ensures site { replica.new.site ≡ replica.old.site }
-    ensures read { IsErrOf result (Serve Read) → failure_count reader.old < failure_count reader.new }
-    ensures write { IsErrOf result (Serve Write) → failure_count writer.old < failure_count writer.new }
-    ensures reader_kept { result ≢ Err (Serve Read) → KeepsCount reader.old reader.new }
-    ensures writer_kept { result ≢ Err (Serve Write) → KeepsCount writer.old writer.new }
+    // What `serve` says; and after each frame whose records changed the site's state, that state was kept. Where a state was not
+    // kept, nothing of the reply to its frame is written.
+    ensures served { Serves (K.keeps keeper.now (C.held copy.old).source) (C.held copy.old).source
+        (talk (device_of R.remaining reader.old) (device_of W.contents writer.old) (C.held copy.old).state place.old)
+        (talk (device_of R.remaining reader.new) (device_of W.contents writer.new) (C.held copy.new).state place.new) (session_answer result) }
+    ensures source { (C.held copy.new).source ≡ (C.held copy.old).source }
+    ensures site { (C.held copy.new).site ≡ (C.held copy.old).site }
 {
     let mut frames = FrameReader::new(alloc);
     let mut greeted = false;
@@ -236,7 +208,7 @@ pub fn serve_keeping<P, K: Keeper<P, A>, R: Read, W: Write, A: Allocator + Copy>
     'frames: loop {
         match frames.next(reader)? {
             Next::Frame(frame) => {
-                let answered = answer_frame(alloc, &frame, greeted, keeper, place, replica, writer);
+                let answered = answer_frame(alloc, &frame, greeted, keeper, place, copy, writer);
                 drop(frame);
                 let turn = answered?;
                 count += 1;

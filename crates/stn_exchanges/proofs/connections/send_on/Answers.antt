@@ -15,7 +15,7 @@ pub returns-in-Err : goal.returns-in-Err
 returns-in-Err g c = record {
   status = inr refl;
   sent = λ none. absurd (omega (arith, none));
-  stopped = λ _. (c.in-Err.failure, device_of g.W.Write.contents c.send_to_partner.new.out, c.in-Err.ensures.stopped, c.tell_failure.ensures);
+  stopped = λ _. (c.in-Err.failure, device_of g.W.Write.contents c.send_to_partner.new.out, c.in-Err.ensures.sent, c.tell_failure.ensures);
   source = c.in-Err.ensures.source;
   site = c.in-Err.ensures.site;
 }

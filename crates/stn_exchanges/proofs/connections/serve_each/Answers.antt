@@ -1,20 +1,18 @@
-use Rattle.std.proofs.Common.{◌≡◌, ◌<◌, refl, ◌∙◌, arith}
-use Rattle.std.proofs.lemmas.Result.{err_from_is_err_and}
-use Rattle.stn_exchanges.proofs.Served.{serves_none, serves_more, stops_serving}
+use Rattle.std.proofs.{Common.{◌≡◌, ◌<◌, refl, ◌∙◌, arith}, lemmas.Result.err_from_is_err_and}
+use Rattle.stn_exchanges.{specs.Connections.{ServesSite, WithNext}, proofs.Served.{leads_none, leads_more, leads_all, leads_out}}
 use Rattle.stn_exchanges.proofs.connections.serve_each.Goals as goal
 
 pub sites-init : goal.sites-init
-sites-init g c = record { served = serves_none _ _ _ _ _ _; source = refl; site = refl }
+sites-init g c = record { served = leads_none (WithNext (ServesSite g.S.Store.fails c.args.log.now (g.C.SiteCopy.held c.args.copy.now).source)) _; source = refl; site = refl }
 
-pub returns-in_err-serve_next : goal.returns-in_err-serve_next
-returns-in_err-serve_next g c =
+pub returns-in_err-_session : goal.returns-in_err-_session
+returns-in_err-_session g c =
     let p = err_from_is_err_and c.from_residual.result c.from_residual.ensures.1 in
     let i = c.sites.invariant in
-    let is = c.in_err-serve_next.ensures in
+    let is = c.in_err-_session.ensures in
     let few : c.sites.counter < c.args.count = omega (arith, c.sites-test.true) in
     rw (p.1, p.2) (record {
-      served = tt;
-      stopped = stops_serving _ _ _ _ _ _ _ _ _ _ _ _ _ _ _ _ _ _ _ i.served i.source few is.stopped;
+      served = leads_out (WithNext (ServesSite g.S.Store.fails c.args.log.now (g.C.SiteCopy.held c.args.copy.now).source)) _ _ _ _ _ _ i.served few (rw i.source at is.served);
       source = is.source ∙ i.source;
       site = is.site ∙ i.site;
     })
@@ -22,15 +20,19 @@ returns-in_err-serve_next g c =
 pub sites-preserved : goal.sites-preserved
 sites-preserved g c =
     let i = c.sites.invariant in
-    let one = c.in_ok-serve_next.ensures.served in
+    let is = c.in_ok-_session.ensures in
     record {
-      served = serves_more _ _ _ _ _ _ _ _ _ _ _ _ _ _ _ _ one.0 i.served i.source one.1 one.2 one.3;
-      source = c.in_ok-serve_next.ensures.source ∙ i.source;
-      site = c.in_ok-serve_next.ensures.site ∙ i.site;
+      served = leads_more (WithNext (ServesSite g.S.Store.fails c.args.log.now (g.C.SiteCopy.held c.args.copy.now).source)) _ _ _ _ _ i.served (rw i.source at is.served);
+      source = is.source ∙ i.source;
+      site = is.site ∙ i.site;
     }
 
 pub returns : goal.returns
 returns g c =
     let i = c.sites.invariant in
     let all : c.sites.counter ≡ c.args.count = omega (arith, c.sites.auto.counter-end, c.sites-test.false) in
-    record { served = rw all at i.served; stopped = tt; source = i.source; site = i.site }
+    record {
+      served = leads_all (WithNext (ServesSite g.S.Store.fails c.args.log.now (g.C.SiteCopy.held c.args.copy.now).source)) _ _ _ _ i.served all;
+      source = i.source;
+      site = i.site;
+    }

@@ -1,60 +1,37 @@
-use Rattle.std.proofs.Common.{refl, subst, inl, inr, ⊎_elim, ◌∙◌}
-use Rattle.std.proofs.lemmas.Result.{err_from_is_err_and}
-use Rattle.stn_records.specs.Content.{Content}
-use Rattle.stn_site.specs.Calls.{Leaves, took}
-use Rattle.stn_store.specs.Store.{IsThere}
-use Rattle.stn_store.proofs.Lacks.{lack_of_memory}
-use Rattle.stn_store.proofs.SameLog.{saves_same}
-use Rattle.stn_exchanges.proofs.Keepings.{said_kept, refused_by, alone_kept, save_failed}
+use Rattle.std.proofs.{Common.{Some, None, refl, inr, sym, ◌∙◌}, lemmas.Result.err_from_is_err_and}
+use Rattle.stn_effects.specs.Effects.{stopped, went}
+use Rattle.stn_exchanges.proofs.Joined.{joined, not_joined, saves_as}
 use Rattle.stn_exchanges.proofs.joining.keep_join.Goals as goal
 
 pub returns-in_err-lock : goal.returns-in_err-lock
 returns-in_err-lock g c =
     let p = err_from_is_err_and c.from_residual.result c.from_residual.ensures.1 in
-    rw (p.1, p.2) (record { kept = tt; failed = (refl, inl c.in_err-lock.ensures.failed) })
+    rw (p.1, p.2) (stopped _ (refl, inr c.in_err-lock.ensures.failed) refl)
 
-pub returns-in_err-is_there : goal.returns-in_err-is_there
-returns-in_err-is_there g c =
-    let p = err_from_is_err_and c.from_residual-in_err-is_there.result c.from_residual-in_err-is_there.ensures.1 in
-    rw (p.1, p.2) (record { kept = tt; failed = (refl, inl c.in_err-is_there.ensures.failed) })
+pub find_said-requires : goal.find_said-requires
+find_said-requires g c = c.in_ok-lock.ensures.named
 
 pub returns-in_err-said : goal.returns-in_err-said
 returns-in_err-said g c =
     let p = err_from_is_err_and c.from_residual-in_err-said.result c.from_residual-in_err-said.ensures.1 in
-    rw (p.1, p.2) (record {
-      kept = tt;
-      failed = (refl, ⊎_elim (λ unopened. inr (inl unopened)) inl (rw c.in_ok-lock.ensures.named at c.in_err-said.ensures.failed));
-    })
+    rw (p.1, p.2) (stopped _ c.in_err-said.ensures refl)
 
-pub returns-in_err-take_in : goal.returns-in_err-take_in
-returns-in_err-take_in g c =
-    let p = err_from_is_err_and c.from_residual-in_err-take_in.result c.from_residual-in_err-take_in.ensures.1 in
-    let opened = rw c.in_ok-lock.ensures.named at c.in_ok-said.ensures.opened in
-    rw (p.1, p.2) (record {
-      kept = tt;
-      failed = (
-        refl,
-        ⊎_elim (λ memory. inl (lack_of_memory _ _ memory))
-            (λ refusal. inr (inr (c.in_ok-said.said, opened, refused_by c.in_ok-said.said c.plan.result.now _ _ _ c.plan.ensures.source c.plan.ensures.state refusal))) c.in_err-take_in.ensures.refused,
-      );
-    })
+pub returns-in_err-take_in-in-Some : goal.returns-in_err-take_in-in-Some
+returns-in_err-take_in-in-Some g c =
+    let p = err_from_is_err_and c.from_residual-in_err-take_in-in-Some.result c.from_residual-in_err-take_in-in-Some.ensures.1 in
+    let found = rw c.in-Some.is at c.in_ok-said.ensures in
+    rw (p.1, p.2) (went (Some c.in-Some.said) _ found (stopped _ (not_joined g.S.Store.fails c.in-Some.said c.args.plan.now c.in-Some.said _ _ c.in_err-take_in-in-Some.ensures.refused) refl))
 
-pub returns-then-branch : goal.returns-then-branch
-returns-then-branch g c =
-    let opened = rw c.in_ok-lock.ensures.named at c.in_ok-said.ensures.opened in
-    let is = c.in_ok-take_in.ensures in
-    let left = subst (λ (state : Content). Leaves c.in_ok-said.said (took state) c.take_in.new.plan) c.plan.ensures.state is.left in
-    record {
-      kept = said_kept c.save.result c.args.log.now c.args.replica.now c.in_ok-said.said c.take_in.new.plan _ _ opened (is.same ∙ c.plan.ensures.source) left
-          (rw c.in_ok-lock.ensures.named at c.save.ensures.saved);
-      failed = save_failed c.save.result _ c.args.log.now _ _ _ _ c.save.ensures.kept c.save.ensures.failed;
-    }
+pub returns-in-Some : goal.returns-in-Some
+returns-in-Some g c =
+    let found = rw c.in-Some.is at c.in_ok-said.ensures in
+    let is = c.in_ok-take_in-in-Some.ensures in
+    let said = c.in-Some.said in
+    let new = c.take_in.new.copy in
+    went (Some said) _ found (went new.state _ (joined g.S.Store.fails said c.args.plan.now new _ is.same is.left is.accepted)
+    (saves_as g.S.Store.fails _ new _ _ _ _ c.save.result (is.left.source ∙ is.same) refl (rw c.in_ok-lock.ensures.named at c.save.ensures)))
 
 pub returns : goal.returns
 returns g c =
-    let gone = subst (IsThere (g.S.Store.entries c.args.store.now) c.args.log.now.name.now) c.if-branch.false c.in_ok-is_there.ensures.found in
-    record {
-      kept = alone_kept c.save-else-branch.result c.args.log.now c.args.replica.now _ _ gone
-          (saves_same c.save-else-branch.result _ _ _ c.args.replica.now c.plan-else-branch.result.now c.plan-else-branch.ensures.source c.plan-else-branch.ensures.state (rw c.in_ok-lock.ensures.named at c.save-else-branch.ensures.saved));
-      failed = save_failed c.save-else-branch.result _ c.args.log.now _ _ _ _ c.save-else-branch.ensures.kept c.save-else-branch.ensures.failed;
-    }
+    let found = rw c.in-None.is at c.in_ok-said.ensures in
+    went None _ found (went c.args.plan.now.state _ (refl, refl) (rw c.in_ok-lock.ensures.named at c.save-in-None.ensures))

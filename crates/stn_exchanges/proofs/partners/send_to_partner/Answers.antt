@@ -1,43 +1,60 @@
-use Rattle.std.proofs.Common.{refl, inl, inr, ◌∙◌}
-use Rattle.std.proofs.lemmas.Result.{on_ok_weaker, IfErr-weaker, err_from_is_err_and}
-use Rattle.stn_exchanges.proofs.Joined.{saved_exchange, unkept_exchange}
+use Rattle.std.proofs.{Common.{◌<◌, ◌-◌, ◌^◌, refl, sym, ap, subst, ◌∙◌}, lemmas.Result.err_from_is_err_and}
+use Rattle.stn_device.specs.Partner.{partner_state}
+use Rattle.stn_effects.{specs.{Effects.{stopped, went}, Printing.{Device, device_of}}, proofs.Endings.wrote}
+use Rattle.stn_exchanges.specs.{Connections.meeting, Joining.shared}
 use Rattle.stn_exchanges.proofs.partners.send_to_partner.Goals as goal
+
+pub returns-in_err-ask : goal.returns-in_err-ask
+returns-in_err-ask g c =
+    let p = err_from_is_err_and c.from_residual.result c.from_residual.ensures.1 in
+    rw (p.1, p.2) (record {
+      sent = stopped _ (c.in_err-ask.ensures (g.S.Store.entries c.args.store.now) (device_of g.O.Write.contents c.args.out.now)) refl;
+      source = refl;
+      site = refl;
+    })
+
+pub hear-requires : goal.hear-requires
+hear-requires g c =
+    let same = ap (λ (site : Device). site.failures) (c.in_ok-ask.ensures (g.S.Store.entries c.args.store.now) (device_of g.O.Write.contents c.args.out.now)).2 in
+    subst (λ n. n < 2 ^ 64 - 1) (sym same) c.requires.reader_counts
 
 pub returns-in_err-text : goal.returns-in_err-text
 returns-in_err-text g c =
-    let p = err_from_is_err_and c.from_residual.result c.from_residual.ensures.1 in
+    let p = err_from_is_err_and c.from_residual-in_err-text.result c.from_residual-in_err-text.ensures.1 in
     let is = c.in_err-text.ensures in
-    rw (p.1, p.2) (record { sent = tt; stopped = inl (is.refused, refl, refl); source = is.source; site = is.site })
+    rw (p.1, p.2) (record {
+      sent = went tt (meeting (partner_state g.R.Read.remaining g.W.Write.contents g.W.Finish.ended c.ask.new.partner) (shared (g.C.SiteCopy.held c.args.copy.now).state (g.S.Store.entries c.args.store.now)) (device_of g.O.Write.contents c.args.out.now))
+          (c.in_ok-ask.ensures (g.S.Store.entries c.args.store.now) (device_of g.O.Write.contents c.args.out.now)) (stopped _ (is.received (g.S.Store.entries c.args.store.now), refl) refl);
+      source = is.source;
+      site = is.site;
+    })
 
 pub returns-in_err-save_join : goal.returns-in_err-save_join
 returns-in_err-save_join g c =
     let p = err_from_is_err_and c.from_residual-in_err-save_join.result c.from_residual-in_err-save_join.ensures.1 in
-    let asked = c.in_ok-text.ensures in
+    let heard = c.in_ok-text.ensures in
     let is = c.in_err-save_join.ensures in
     rw (p.1, p.2) (record {
-      sent = tt;
-      stopped = inr (inl (
-        c.in_ok-text.text.items,
-        c.ask.new.replica.state,
-        asked.exchanged,
-        unkept_exchange _ _ _ c.args.log.now _ _ _ _ asked.source is.unkept,
-        is.unsaved,
-        refl,
-      ));
-      source = is.source ∙ asked.source;
-      site = is.site ∙ asked.site;
+      sent = went tt (meeting (partner_state g.R.Read.remaining g.W.Write.contents g.W.Finish.ended c.ask.new.partner) (shared (g.C.SiteCopy.held c.args.copy.now).state (g.S.Store.entries c.args.store.now)) (device_of g.O.Write.contents c.args.out.now))
+          (c.in_ok-ask.ensures (g.S.Store.entries c.args.store.now) (device_of g.O.Write.contents c.args.out.now)) (went c.in_ok-text.text.items
+          (meeting (partner_state g.R.Read.remaining g.W.Write.contents g.W.Finish.ended c.hear.new.partner) (shared (g.C.SiteCopy.held c.hear.new.copy).state (g.S.Store.entries c.args.store.now)) (device_of g.O.Write.contents c.args.out.now))
+          (heard.received (g.S.Store.entries c.args.store.now), refl) (stopped _ (rw heard.source at is.saved, refl, refl) refl));
+      source = is.source ∙ heard.source;
+      site = is.site ∙ heard.site;
     })
 
 pub returns : goal.returns
 returns g c =
-    let asked = c.in_ok-text.ensures in
+    let heard = c.in_ok-text.ensures in
     let is = c.in_ok-save_join.ensures in
-    let exchanged = saved_exchange _ _ _ _ c.args.log.now _ _ _ _ _ _ asked.source asked.exchanged is.saved in
     record {
-      sent = on_ok_weaker c.print.result (λ printed. record { text = c.in_ok-text.text.items; exchanged = exchanged; printed = printed })
-          (rw c.deref.ensures.value at c.print.ensures.printed);
-      stopped = IfErr-weaker c.print.result _ _ (λ failure unprinted. inr (inr (c.in_ok-text.text.items, exchanged, unprinted)))
-          (rw c.deref.ensures.value at c.print.ensures.failed);
-      source = is.source ∙ asked.source;
-      site = is.site ∙ asked.site;
+      sent = went tt (meeting (partner_state g.R.Read.remaining g.W.Write.contents g.W.Finish.ended c.ask.new.partner) (shared (g.C.SiteCopy.held c.args.copy.now).state (g.S.Store.entries c.args.store.now)) (device_of g.O.Write.contents c.args.out.now))
+          (c.in_ok-ask.ensures (g.S.Store.entries c.args.store.now) (device_of g.O.Write.contents c.args.out.now)) (went c.in_ok-text.text.items
+          (meeting (partner_state g.R.Read.remaining g.W.Write.contents g.W.Finish.ended c.hear.new.partner) (shared (g.C.SiteCopy.held c.hear.new.copy).state (g.S.Store.entries c.args.store.now)) (device_of g.O.Write.contents c.args.out.now))
+          (heard.received (g.S.Store.entries c.args.store.now), refl) (went tt
+          (meeting (partner_state g.R.Read.remaining g.W.Write.contents g.W.Finish.ended c.hear.new.partner) (shared (g.C.SiteCopy.held c.save_join.new.copy).state (g.S.Store.entries c.save_join.new.store)) (device_of g.O.Write.contents c.args.out.now))
+          (rw heard.source at is.saved, refl, refl)
+          (wrote c.print.result _ _ _ (rw c.deref.ensures.value at c.print.ensures.printed) (rw c.deref.ensures.value at c.print.ensures.failed), refl, refl)));
+      source = is.source ∙ heard.source;
+      site = is.site ∙ heard.site;
     }

@@ -12,9 +12,9 @@ returns-in_err-theirs-clause-leads g c =
     let p = err_from_is_err_and c.from_residual-in_err-theirs.result c.from_residual-in_err-theirs.ensures.1 in
     rw (p.1, p.2) (λ first before came.
     next_refused _ _ _ _ _ c.args.frames.now c.next_reply.new.frames _ _ came c.in_ok-frame.frame c.in_ok-frame.ensures.finds c.in_err-theirs.field-0.0
-    (c.in_err-theirs.ensures.refused c.args.replica.now.source c.args.replica.now.state))
+    (c.in_err-theirs.ensures.refused (g.C.SiteCopy.held c.args.copy.now).source (g.C.SiteCopy.held c.args.copy.now).state))
 
 pub returns-clause-leads : goal.returns-clause-leads
 returns-clause-leads g c = λ first before came.
-    records_answered _ _ _ _ _ c.args.frames.now c.next_reply.new.frames _ came c.in_ok-frame.frame c.in_ok-frame.ensures.finds c.in_ok-theirs.theirs c.take_in-taken.new.replica.state
+    records_answered _ _ _ _ _ c.args.frames.now c.next_reply.new.frames _ came c.in_ok-frame.frame c.in_ok-frame.ensures.finds c.in_ok-theirs.theirs (g.C.SiteCopy.held c.take_in-taken.new.copy).state
     c.in_ok-theirs.ensures.records c.take_in-taken.result c.take_in-taken.ensures.taken c.take_in-taken.ensures.refused c.take_in-taken.ensures.kept

@@ -1,49 +1,40 @@
-use Rattle.std.proofs.Common.{Err, ◌+◌, ◌≤◌, length, refl, sym, ap, subst, ◌∙◌, arith}
-use Rattle.std.proofs.lemmas.Result.{err_from_is_err_and}
+use Rattle.std.proofs.{Common.{Ok, Err, ◌+◌, ◌≤◌, length, refl, sym, ap, subst, ◌∙◌, arith}, lemmas.Result.err_from_is_err_and}
 use Rattle.stn_device.specs.Counted.{counted_device}
 use Rattle.stn_lift.specs.PlanSource.{PlanSource}
-use Rattle.stn_wire.specs.Frame.{content}
-use Rattle.stn_wire.specs.Stream.Held.{Stream}
-use Rattle.stn_wire.specs.Stream.{pending}
-use Rattle.stn_session.specs.Session.{answer}
-use Rattle.stn_session.specs.Keeping.{KeepsChange}
-use Rattle.stn_session.specs.Turns.{WroteKept}
-use Rattle.stn_session.proofs.Sessions.{begun, closes, cuts, stream_fails, refuses, refusal_fails, frame_fails, frame_answered, frame_ends}
-use Rattle.stn_wire.proofs.Streams.{count_fits, measure_falls}
+use Rattle.stn_wire.{specs.{Frame.content, Stream.{pending, Held.Stream}}, proofs.Streams.{count_fits, measure_falls}}
+use Rattle.stn_session.{specs.{Session.answer, Turns.WroteKept}, proofs.Sessions.{begun, closes, cuts, stream_fails, refuses, refusal_fails, frame_fails, frame_answered, frame_ends}}
 use Rattle.stn_session.proofs.session.serve_keeping.Goals as goal
 
 pub frames-init : goal.frames-init
 frames-init g c = record {
   reading = ap (λ (s : Stream). s.broken) c.new-frames.ensures;
-  progress = begun (g.K.Keeper.keeps c.args.keeper.now c.args.replica.now.source) c.args.place.now c.args.replica.now.source c.args.replica.now.state _ _ (pending c.new-frames.result) c.new-frames.result.count (ap pending c.new-frames.ensures) (ap (λ (s : Stream). s.count) c.new-frames.ensures);
+  progress = begun (g.K.Keeper.keeps c.args.keeper.now (g.C.SiteCopy.held c.args.copy.now).source) (g.C.SiteCopy.held c.args.copy.now).source _ (pending c.new-frames.result) c.new-frames.result.count (ap pending c.new-frames.ensures) (ap (λ (s : Stream). s.count) c.new-frames.ensures);
   source = refl;
   site = refl;
   few = subst (λ (s : Stream). 0 + length (pending s) ≤ s.count) (sym c.new-frames.ensures) (omega arith);
-  reader_kept = refl;
-  writer_kept = refl;
 }
 
-pub returns-in_err-frame-clause-broken : goal.returns-in_err-frame-clause-broken
-returns-in_err-frame-clause-broken g c =
+pub returns-in_err-frame-clause-served : goal.returns-in_err-frame-clause-served
+returns-in_err-frame-clause-served g c =
     let p = err_from_is_err_and c.from_residual.result c.from_residual.ensures.1 in
     let gave = c.in_err-frame.ensures.gives in
     let fault = c.in_err-frame.field-0.0 in
     let i = c.frames.invariant in
-    rw (p.1, p.2) (stream_fails i.progress _ gave.bytes gave.consumed g.row.A.Denot c.next.new.self fault gave.next gave.counted)
+    rw (p.1, p.2) (stream_fails i.progress _ gave.bytes gave.consumed g.row.A.Denot c.next.new.self fault gave.next gave.counted c.requires.reader_counts _ refl c.in_err-frame.ensures.read c.in_err-frame.ensures.kept)
 
-pub returns-in_err-turn-in-Frame-clause-broken : goal.returns-in_err-turn-in-Frame-clause-broken
-returns-in_err-turn-in-Frame-clause-broken g c =
+pub returns-in_err-turn-in-Frame-clause-served : goal.returns-in_err-turn-in-Frame-clause-served
+returns-in_err-turn-in-Frame-clause-served g c =
     let p = err_from_is_err_and c.from_residual-in_err-turn-in-Frame.result c.from_residual-in_err-turn-in-Frame.ensures.1 in
     let gave = rw c.in-Frame.is at c.in_ok-frame.ensures.gives in
     let fault = c.in_err-turn-in-Frame.field-0.0 in
     let lost = c.in_err-turn-in-Frame.ensures in
     let i = c.frames.invariant in
-    rw (p.1, p.2) (frame_fails i.progress _ gave.bytes gave.consumed gave.counted.1 (content c.in-Frame.frame) (pending c.next.new.self) gave.next.0 gave.next.1 _
-    c.answer_frame-answered.new.replica.state (g.K.Keeper.fails c.args.keeper.now c.args.replica.now.source) c.answer_frame-answered.new.place fault
-    (subst (λ (s : PlanSource). WroteKept (g.K.Keeper.keeps c.args.keeper.now s) (g.K.Keeper.fails c.args.keeper.now s)
-    (answer c.frames.replica.source c.frames.replica.state c.frames.greeted (content c.in-Frame.frame))
+    rw (p.1, p.2) (frame_fails i.progress _ gave.bytes gave.consumed gave.counted.1 (c.in_ok-frame.ensures.kept (λ e. cc)) (content c.in-Frame.frame) (pending c.next.new.self) gave.next.0 gave.next.1 _
+    (g.C.SiteCopy.held c.answer_frame-answered.new.copy).state c.requires.writer_counts c.answer_frame-answered.new.place _ lost.write lost.kept fault refl
+    (subst (λ (s : PlanSource). WroteKept (g.K.Keeper.keeps c.args.keeper.now s)
+    (answer s (g.C.SiteCopy.held c.frames.copy).state c.frames.greeted (content c.in-Frame.frame))
     (g.W.Write.contents (counted_device c.frames.writer)) (g.W.Write.contents (counted_device c.answer_frame-answered.new.writer))
-    c.frames.replica.state c.answer_frame-answered.new.replica.state c.frames.place c.answer_frame-answered.new.place (Err fault)) i.source lost.wrote))
+    (g.C.SiteCopy.held c.frames.copy).state (g.C.SiteCopy.held c.answer_frame-answered.new.copy).state c.frames.place c.answer_frame-answered.new.place (Err fault)) i.source lost.wrote))
 
 pub frames-smaller : goal.frames-smaller
 frames-smaller g c =
@@ -53,55 +44,60 @@ frames-smaller g c =
 pub frames-preserved : goal.frames-preserved
 frames-preserved g c =
     let gave = rw c.in-Frame.is at c.in_ok-frame.ensures.gives in
-    let wrote = c.in_ok-turn-in-Frame.ensures.wrote in
     let i = c.frames.invariant in
-    let kept = subst (λ (s : PlanSource). KeepsChange (g.K.Keeper.keeps c.args.keeper.now s) c.frames.replica.state c.answer_frame-answered.new.replica.state
-    c.frames.place c.answer_frame-answered.new.place) i.source wrote.1 in
+    let turn = c.in_ok-turn-in-Frame in
+    let wrote = subst (λ (s : PlanSource). WroteKept (g.K.Keeper.keeps c.args.keeper.now s)
+    (answer s (g.C.SiteCopy.held c.frames.copy).state c.frames.greeted (content c.in-Frame.frame))
+    (g.W.Write.contents (counted_device c.frames.writer)) (g.W.Write.contents (counted_device c.answer_frame-answered.new.writer))
+    (g.C.SiteCopy.held c.frames.copy).state (g.C.SiteCopy.held c.answer_frame-answered.new.copy).state c.frames.place c.answer_frame-answered.new.place (Ok turn.turn)) i.source turn.ensures.wrote in
     record {
       reading = gave.next.2;
-      progress = frame_answered i.progress _ gave.bytes gave.consumed gave.counted.1 (content c.in-Frame.frame) (pending c.next.new.self) gave.next.0 gave.next.1 _
-          c.answer_frame-answered.new.replica.state wrote.0.0 wrote.0.1 wrote.0.3 c.answer_frame-answered.new.place kept wrote.0.2 c.in_ok-turn-in-Frame.turn.greeted wrote.0.4 (sym wrote.0.5 ∙ c.in-None.is)
-          c.next.new.self.count gave.counted.0 c.answer_frame-answered.new.replica.source c.in_ok-turn-in-Frame.ensures.source;
-      source = c.in_ok-turn-in-Frame.ensures.source ∙ i.source;
-      site = c.in_ok-turn-in-Frame.ensures.site ∙ i.site;
+      progress = frame_answered i.progress _ gave.bytes gave.consumed gave.counted.1 (c.in_ok-frame.ensures.kept (λ e. cc)) (content c.in-Frame.frame) (pending c.next.new.self) gave.next.0 gave.next.1 _
+          (g.C.SiteCopy.held c.answer_frame-answered.new.copy).state wrote.0.3 wrote.0.0 wrote.0.1 c.answer_frame-answered.new.place wrote.1 wrote.0.2 (turn.ensures.kept (λ e. cc)) turn.turn.greeted wrote.0.4
+          (sym wrote.0.5 ∙ c.in-None.is) c.next.new.self.count gave.counted.0;
+      source = turn.ensures.source ∙ i.source;
+      site = turn.ensures.site ∙ i.site;
       few = count_fits (pending c.frames.frames) gave.bytes (pending c.next.new.self) (content c.in-Frame.frame) gave.next.1 c.frames.frames.count c.next.new.self.count gave.counted.0 c.frames.count i.few;
-      reader_kept = c.in_ok-frame.ensures.kept (λ e. cc) ∙ i.reader_kept;
-      writer_kept = c.in_ok-turn-in-Frame.ensures.kept (λ e. cc) ∙ i.writer_kept;
     }
 
 pub returns-in-Some-clause-served : goal.returns-in-Some-clause-served
 returns-in-Some-clause-served g c =
     let gave = rw c.in-Frame.is at c.in_ok-frame.ensures.gives in
-    let wrote = c.in_ok-turn-in-Frame.ensures.wrote in
     let i = c.frames.invariant in
-    let kept = subst (λ (s : PlanSource). KeepsChange (g.K.Keeper.keeps c.args.keeper.now s) c.frames.replica.state c.answer_frame-answered.new.replica.state
-    c.frames.place c.answer_frame-answered.new.place) i.source wrote.1 in
-    frame_ends i.progress _ gave.bytes gave.consumed gave.counted.1 (content c.in-Frame.frame) (pending c.next.new.self) gave.next.0 gave.next.1 _
-    c.answer_frame-answered.new.replica.state wrote.0.0 wrote.0.1 wrote.0.3 c.answer_frame-answered.new.place kept wrote.0.2 c.in_ok-turn-in-Frame.turn.greeted wrote.0.4 c.in-Some.code (sym wrote.0.5 ∙ c.in-Some.is)
+    let turn = c.in_ok-turn-in-Frame in
+    let wrote = subst (λ (s : PlanSource). WroteKept (g.K.Keeper.keeps c.args.keeper.now s)
+    (answer s (g.C.SiteCopy.held c.frames.copy).state c.frames.greeted (content c.in-Frame.frame))
+    (g.W.Write.contents (counted_device c.frames.writer)) (g.W.Write.contents (counted_device c.answer_frame-answered.new.writer))
+    (g.C.SiteCopy.held c.frames.copy).state (g.C.SiteCopy.held c.answer_frame-answered.new.copy).state c.frames.place c.answer_frame-answered.new.place (Ok turn.turn)) i.source turn.ensures.wrote in
+    frame_ends i.progress _ gave.bytes gave.consumed gave.counted.1 (c.in_ok-frame.ensures.kept (λ e. cc)) (content c.in-Frame.frame) (pending c.next.new.self) gave.next.0 gave.next.1 _
+    (g.C.SiteCopy.held c.answer_frame-answered.new.copy).state wrote.0.3 wrote.0.0 wrote.0.1 c.answer_frame-answered.new.place wrote.1 wrote.0.2 (turn.ensures.kept (λ e. cc)) turn.turn.greeted wrote.0.4
+    c.in-Some.code (sym wrote.0.5 ∙ c.in-Some.is)
 
-pub returns-in_err-refuse-in-Faulty-clause-broken : goal.returns-in_err-refuse-in-Faulty-clause-broken
-returns-in_err-refuse-in-Faulty-clause-broken g c =
+pub returns-in_err-refuse-in-Faulty-clause-served : goal.returns-in_err-refuse-in-Faulty-clause-served
+returns-in_err-refuse-in-Faulty-clause-served g c =
     let p = err_from_is_err_and c.from_residual-in_err-refuse-in-Faulty.result c.from_residual-in_err-refuse-in-Faulty.ensures.1 in
     let gave = rw c.in-Faulty.is at c.in_ok-frame.ensures.gives in
     let fault = c.in_err-refuse-in-Faulty.field-0.0 in
     let lost = c.in_err-refuse-in-Faulty.ensures in
     let i = c.frames.invariant in
-    rw (p.1, p.2) (refusal_fails i.progress _ gave.bytes gave.consumed gave.counted.1 c.in-Faulty.fault gave.next _ (g.K.Keeper.fails c.args.keeper.now c.args.replica.now.source) c.code-code.result c.code-code.ensures fault lost.wrote)
+    rw (p.1, p.2) (refusal_fails i.progress _ gave.bytes gave.consumed gave.counted.1 (c.in_ok-frame.ensures.kept (λ e. cc)) c.in-Faulty.fault gave.next _ c.requires.writer_counts _ lost.write lost.kept fault refl
+    c.code-code.result c.code-code.ensures lost.wrote)
 
 pub returns-in-Faulty-clause-served : goal.returns-in-Faulty-clause-served
 returns-in-Faulty-clause-served g c =
     let gave = rw c.in-Faulty.is at c.in_ok-frame.ensures.gives in
     let i = c.frames.invariant in
-    refuses i.progress _ gave.bytes gave.consumed gave.counted.1 c.in-Faulty.fault gave.next _ c.code-code.result c.code-code.ensures c.in_ok-refuse-in-Faulty.ensures.wrote
+    let told = c.in_ok-refuse-in-Faulty.ensures in
+    refuses i.progress _ gave.bytes gave.consumed gave.counted.1 (c.in_ok-frame.ensures.kept (λ e. cc)) c.in-Faulty.fault gave.next _ c.code-code.result c.code-code.ensures told.wrote (told.kept (λ e. cc))
 
 pub returns-in-Closed-clause-served : goal.returns-in-Closed-clause-served
 returns-in-Closed-clause-served g c =
     let gave = rw c.in-Closed.is at c.in_ok-frame.ensures.gives in
     let i = c.frames.invariant in
-    closes i.progress _ gave.bytes gave.consumed gave.counted.1 gave.next
+    closes i.progress _ gave.bytes gave.consumed gave.counted.1 (c.in_ok-frame.ensures.kept (λ e. cc)) gave.next (c.in_ok-frame.ensures.closed (ap Ok c.in-Closed.is))
 
 pub returns-in-Cut-clause-served : goal.returns-in-Cut-clause-served
 returns-in-Cut-clause-served g c =
     let gave = rw c.in-Cut.is at c.in_ok-frame.ensures.gives in
     let i = c.frames.invariant in
-    cuts i.progress _ gave.bytes gave.consumed gave.counted.1 gave.next.0 gave.next.1
+    cuts i.progress _ gave.bytes gave.consumed gave.counted.1 (c.in_ok-frame.ensures.kept (λ e. cc)) gave.next.0 gave.next.1 (c.in_ok-frame.ensures.cut (ap Ok c.in-Cut.is))

@@ -1,22 +1,19 @@
 use Rattle.std.proofs.Common.{◌≡◌, ◌+◌, ◌-◌, ◌≤◌, length}
-use Rattle.stn_device.specs.Counted.{counted_device, KeepsCount}
-use Rattle.stn_session.specs.Session.{opening}
+use Rattle.stn_effects.specs.Printing.{device_of}
 use Rattle.stn_wire.specs.Stream.{pending, IsReading}
-use Rattle.stn_session.proofs.Sessions.{Progress}
+use Rattle.stn_session.{specs.Serving.talk, proofs.Sessions.Progress}
 use Rattle.stn_session.proofs.session.serve_keeping.Given as goal
 
 abbrev pub invariant-frames : goal.invariant-frames
 invariant-frames g l = record {
   reading : IsReading l.frames;
-  progress : Progress (g.K.Keeper.keeps l.fn.keeper l.fn.replica.source) l.fn.place l.place (opening l.fn.replica.source l.fn.replica.state)
-      (g.R.Read.remaining (counted_device l.fn.reader)) (g.R.Read.remaining (counted_device l.reader))
-      (g.W.Write.contents (counted_device l.fn.writer)) (g.W.Write.contents (counted_device l.writer))
-      (pending l.frames) l.frames.count l.replica.source l.replica.state l.greeted l.count;
-  source : l.replica.source ≡ l.fn.replica.source;
-  site : l.replica.site ≡ l.fn.replica.site;
+  progress : Progress (g.K.Keeper.keeps l.fn.keeper (g.C.SiteCopy.held l.fn.copy).source) (g.C.SiteCopy.held l.fn.copy).source
+      (talk (device_of g.R.Read.remaining l.fn.reader) (device_of g.W.Write.contents l.fn.writer) (g.C.SiteCopy.held l.fn.copy).state l.fn.place)
+      (talk (device_of g.R.Read.remaining l.reader) (device_of g.W.Write.contents l.writer) (g.C.SiteCopy.held l.copy).state l.place)
+      (pending l.frames) l.frames.count l.greeted l.count;
+  source : (g.C.SiteCopy.held l.copy).source ≡ (g.C.SiteCopy.held l.fn.copy).source;
+  site : (g.C.SiteCopy.held l.copy).site ≡ (g.C.SiteCopy.held l.fn.copy).site;
   few : l.count + length (pending l.frames) ≤ l.frames.count;
-  reader_kept : KeepsCount l.fn.reader l.reader;
-  writer_kept : KeepsCount l.fn.writer l.writer;
 }
 
 abbrev pub decreases-frames : goal.decreases-frames

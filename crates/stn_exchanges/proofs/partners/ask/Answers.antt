@@ -1,0 +1,23 @@
+use Rattle.std.proofs.{Common.{Err, refl, ap}, lemmas.Result.err_from_is_err_and}
+use Rattle.stn_device.{proofs.Known.not_err, specs.Partner.partner_state}
+use Rattle.stn_effects.specs.Printing.{device_of}
+use Rattle.stn_exchanges.proofs.Asked.{unasked, lacked}
+use Rattle.stn_exchanges.proofs.partners.ask.Goals as goal
+
+pub returns-in_err-send_requests : goal.returns-in_err-send_requests
+returns-in_err-send_requests g c =
+    let p = err_from_is_err_and c.from_residual.result c.from_residual.ensures.1 in
+    let is = c.in_err-send_requests.ensures in
+    let why = c.in_err-send_requests.field-0.0 in
+    rw (p.1, p.2) (λ entries out. (
+      unasked _ why _ _ _ refl is.part (λ e. ap (device_of g.W.Write.contents) (is.unwritten e)) is.write,
+      (λ e. ap (λ writer. partner_state g.R.Read.remaining g.W.Write.contents g.W.Finish.ended (record { reader = c.args.partner.now.reader; writer = writer })) (is.unwritten (ap Err (lacked why e)))),
+      refl,
+      refl,
+      refl,
+    ))
+
+pub returns : goal.returns
+returns g c =
+    let is = c.in_ok-send_requests.ensures in
+    λ entries out. ((is.sent, is.kept (λ e. cc)), (λ e. absurd (not_err tt _ e)), refl, refl, refl)
