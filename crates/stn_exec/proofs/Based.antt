@@ -1,28 +1,13 @@
 -- Two texts or a number of steps have a base, whose source is sound, or a fault that is printed as a refusal.
-use Rattle.std.proofs.Common.{◌≡◌, ℕ, ℤ, ◌+◌, ◌+ℤ◌, ◌≤ℤ◌, ◌≤◌, Bool, true, false, not, ◌==◌, cond, nat_lt, int_lt, List, [], ◌∷◌, length, find, Option, Some, None, Result, Ok, Err, All, refl, ap, subst, ◌∙◌, arith}
-use Rattle.std.specs.List.{AllByRecursion}
-use Rattle.std.proofs.{lemmas.Bool.Decides.nat_tests, lemmas.Int.ints, lemmas.List.Elements.All-head, lemmas.List.Elements.All-tail}
+use Rattle.std.{proofs.{Common.{◌≡◌, ℕ, ℤ, ◌+◌, ◌+ℤ◌, ◌≤ℤ◌, ◌≤◌, Bool, true, false, not, ◌==◌, cond, nat_lt, int_lt, List, [], ◌∷◌, length, find, Option, Some, None, Result, Ok, Err, All, refl, ap, subst, ◌∙◌, arith}, lemmas.{Bool.Decides.nat_tests, Int.ints, List.Elements.{All-head, All-tail}}}, specs.List.AllByRecursion}
 use Rattle.stn_text.specs.Faults.{◌>>=◌}
 use Rattle.stn_time.specs.Time.{horizon}
-use Rattle.stn_pddl.specs.Tree.Names.{is_same_word}
+use Rattle.stn_pddl.{specs.{Tree.Names.is_same_word, declared.fault.DomainFault.DomainFault, Schemas.ActionSchema, Domains.{domain_of, action_named}, Sound.IsSound, Failures.domain_failure}, proofs.SoundActions.{domain-sound, domain-short, found-sound}}
 use Rattle.stn_net.specs.Event.{most_steps}
-use Rattle.stn_pddl.specs.{declared.fault.DomainFault.DomainFault, Schemas.ActionSchema, Domains.domain_of, Domains.action_named, Sound.IsSound}
-use Rattle.stn_pddl.proofs.SoundActions.{domain-sound, domain-short, found-sound}
-use Rattle.stn_lift.specs.{declared.plan.fault.PlanFault.PlanFault, Plan.Lines.lines_of, declared.fault.LiftFault.LiftFault, Timelines.IsTimed, declared.fault.BaseFault.BaseFault, Failures.base_failure, Failures.lift_failure}
-use Rattle.stn_lift.specs.declared.plan.fault.PlanFault.TheVariants.{TooLong, TooManySteps}
-use Rattle.stn_lift.specs.Plan.Steps.{most_text, PlannedStep, IsTimely, IsPlan, steps_of, limited, plan_of}
-use Rattle.stn_lift.proofs.StepFacts.{is_plan, plan_of-few}
-use Rattle.stn_lift.specs.declared.fault.LiftFault.TheVariants.{Arity, DurationDiffers, PastHorizon}
-use Rattle.stn_lift.specs.Activities.{Activity, differs, activity, with_action, with_found, activity_of, activities}
-use Rattle.stn_lift.specs.declared.fault.BaseFault.TheVariants.{TooManySteps as TooMany}
-use Rattle.stn_lift.specs.PlanSource.{PlanSource, bare, files, of_lift, steps_in, lifted, source_with, base_of, IsSoundSource}
+use Rattle.stn_lift.{specs.{declared.{plan.fault.PlanFault.{PlanFault, TheVariants.{TooLong, TooManySteps}}, fault.{LiftFault.{LiftFault, TheVariants.{Arity, DurationDiffers, PastHorizon}}, BaseFault.{BaseFault, TheVariants.TooManySteps as TooMany}}}, Plan.{Lines.lines_of, Steps.{most_text, PlannedStep, IsTimely, IsPlan, steps_of, limited, plan_of}, Failures.plan_failure}, Timelines.IsTimed, Failures.{base_failure, lift_failure}, Activities.{Activity, differs, activity, with_action, with_found, activity_of, activities}, PlanSource.{PlanSource, bare, files, of_lift, steps_in, lifted, source_with, base_of, IsSoundSource}}, proofs.{StepFacts.{is_plan, plan_of-few}, BareSource.sound_bare_source, LiftedBase.{sound_steps, few_found}, Steps.bind_ok, Texts.{lifted-Ok, texts_lifted}}}
 use Rattle.stn_refusal.specs.declared.code.Code.TheVariants as code
 use Rattle.stn_refusal.specs.Refusals.{refusal, refusal_at}
-use Rattle.stn_exec.proofs.Told.{IsTold, told}
-use Rattle.stn_exec.proofs.Texts.{IsReadBy, bind_told, domain_told, plan_told}
-use Rattle.stn_pddl.specs.Failures.{domain_failure}
-use Rattle.stn_lift.specs.Plan.Failures.{plan_failure}
-use Rattle.stn_lift.proofs.{BareSource.sound_bare_source, LiftedBase.sound_steps, LiftedBase.few_found, Steps.bind_ok, Texts.lifted-Ok, Texts.texts_lifted}
+use Rattle.stn_exec.proofs.{Told.{IsTold, told}, Texts.{IsReadBy, bind_told, domain_told, plan_told}}
 
 -- ---- the steps of a plan text
 plan_read : (text : List ℕ) (steps : List PlannedStep) → plan_of text ≡ Ok steps → IsPlan (record { text = text; steps = steps })

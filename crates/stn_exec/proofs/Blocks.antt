@@ -1,21 +1,13 @@
 -- The first part of a heading: the steps of a bare plan, or the blocks of a domain and of a plan.
-use Rattle.std.proofs.Common.{◌≡◌, ℕ, ◌+◌, ◌<◌, true, false, cond, List, [], ◌∷◌, ◌++◌, length, length-append, take, append-nil, inl, inr, Option, Some, None, Err, refl, sym, ap, ◌∙◌, arith, codes, append_assoc}
-use Rattle.std.specs.Option.{option_map}
-use Rattle.std.proofs.Math.Seq.{take-append_seam}
+use Rattle.std.{proofs.{Common.{◌≡◌, ℕ, ◌+◌, ◌<◌, true, false, cond, List, [], ◌∷◌, ◌++◌, length, length-append, take, append-nil, inl, inr, Option, Some, None, Err, refl, sym, ap, ◌∙◌, arith, codes, append_assoc}, Math.Seq.take-append_seam}, specs.Option.option_map}
 use Rattle.stn_text.specs.Lines.{IsCutBehindLine, lines_of, words_of}
 use Rattle.stn_refusal.specs.{declared.code.Code.TheVariants.Line, Refusals.refused_at}
-use Rattle.stn_exec.specs.Blocks.{Block, is_alone, with_text, line_text, block_from}
-use Rattle.stn_exec.specs.Script.{Found, next_line, bare_part, files_part, first_part, based}
+use Rattle.stn_exec.specs.{Blocks.{Block, is_alone, with_text, line_text, block_from}, Script.{Found, next_line, bare_part, files_part, first_part, based}}
 
 -- ---- blocks
 with_texts : (front more : List ℕ) (block : Option Block) → option_map (with_text front) (option_map (with_text more) block) ≡ option_map (with_text (front ++ more)) block
 with_texts front more None = refl
 with_texts front more (Some block) = ap (λ (t : List ℕ). Some (record { text = t; number = block.number; behind = block.behind })) (sym (append_assoc front more block.text))
-
--- no text in front
-pub with_no_text : (block : Option Block) → block ≡ option_map (with_text []) block
-with_no_text None = refl
-with_no_text (Some block) = refl
 
 -- a block that has not ended where the text has
 pub block_from-none : (number : ℕ) → block_from number [] ≡ None

@@ -1,19 +1,13 @@
 -- What calls of a world answer.
-use Rattle.std.proofs.Common.{◌≡◌, ◌⊎◌, ℕ, true, Bool, cond, List, ◌++◌, Option, Some, None, Result, Ok, Err, OnOk, IfErr, inl, inr, refl, sym, ap, subst, ◌∙◌}
-use Rattle.std.specs.Prelude.{◌+◌, not, length, is_some, unwrap_or, OnErr, MatchOption}
-use Rattle.std.proofs.lemmas.Bool.{false_from_ne_true, false≢true}
-use Rattle.stn_refusal.specs.{declared.code.Code.TheVariants.NoSite, declared.failure.Failure.Failure, Refusals.refused, Refusals.out_of_memory}
+use Rattle.std.{proofs.{Common.{◌≡◌, ◌⊎◌, ℕ, true, Bool, cond, List, ◌++◌, Option, Some, None, Result, Ok, Err, OnOk, IfErr, inl, inr, refl, sym, ap, subst, ◌∙◌}, lemmas.Bool.{false_from_ne_true, false≢true}}, specs.Prelude.{◌+◌, not, length, is_some, unwrap_or, OnErr, MatchOption}}
+use Rattle.stn_refusal.specs.{declared.{code.Code.TheVariants.NoSite, failure.Failure.Failure}, Refusals.{refused, out_of_memory}}
 use Rattle.stn_records.specs.Content.{Content}
 use Rattle.stn_site.specs.Held.{Held, holding_state}
-use Rattle.stn_world.specs.{declared.faults.WorldFault.WorldFault, Failures.world_failure, World.World, World.HasSite, World.has_site, World.content_at, World.next_id_at}
+use Rattle.stn_world.{specs.{declared.faults.WorldFault.WorldFault, Failures.world_failure, World.{World, HasSite, has_site, content_at, next_id_at}, Steps.{Step, sent, step_refusal, send_refusal, after, IsStep, IsSending}}, proofs.Accepted.site_decides}
 use Rattle.stn_world.specs.declared.faults.WorldFault.TheVariants as world_fault
-use Rattle.stn_world.specs.Steps.{Step, sent, step_refusal, send_refusal, after, IsStep, IsSending}
-use Rattle.stn_world.proofs.Accepted.{site_decides}
-use Rattle.stn_command.specs.{declared.changes.Change.Change, declared.changes.Made.Made, Change.made_by, Query.Query, Query.IsSaid, Query.IsQueryRefusal}
-use Rattle.stn_command.proofs.Alike.{said_alike, refused_alike}
-use Rattle.stn_exec.specs.{declared.answer.Answer.Answer, Answer.answer_text, Command.Action, Command.sites_command, Output.IsAnswerText, Output.Declines, Saying.IsEffect, Saying.IsDone, Saying.call_answer, Saying.sent_answer}
+use Rattle.stn_command.{specs.{declared.changes.{Change.Change, Made.Made}, Change.made_by, Query.{Query, IsSaid, IsQueryRefusal}}, proofs.Alike.{said_alike, refused_alike}}
+use Rattle.stn_exec.specs.{declared.answer.Answer.Answer, Answer.answer_text, Command.{Action, sites_command}, Output.{IsAnswerText, Declines}, Saying.{IsEffect, IsDone, call_answer, sent_answer}, Effect.{Effect, said, declined, refusing, answered, called, sending, change_step, changing, telling, action_effect, command_effect}}
 use Rattle.stn_exec.specs.declared.answer.Answer.TheVariants as answer
-use Rattle.stn_exec.specs.Effect.{Effect, said, declined, refusing, answered, called, sending, change_step, changing, telling, action_effect, command_effect}
 
 -- a call that was refused: its fault is what refuses the call, or lack of memory
 refused_answer : (old new next : World) (made : Answer) (refused_for : Option WorldFault) (fault : WorldFault) (failure : Failure) (effect : Effect)

@@ -1,13 +1,11 @@
 -- A heading is read, with the source of a plan that is sound, or refused for a cause that is printed.
 use Rattle.std.proofs.Common.{ℕ, ◌+◌, Bool, true, false, ◌&&◌, cond, nat_le, codes, List, Option, Some, None, Result, Ok, Err}
 use Rattle.stn_refusal.specs.declared.code.Code.TheVariants as code
-use Rattle.stn_refusal.specs.{declared.failure.Failure.Failure, Refusals.refused, Refusals.refused_at, Refusals.refusal, Refusals.refusal_at}
+use Rattle.stn_refusal.specs.{declared.failure.Failure.Failure, Refusals.{refused, refused_at, refusal, refusal_at}}
 use Rattle.stn_records.specs.Id.{most_sites}
-use Rattle.stn_lift.specs.{declared.fault.BaseFault.BaseFault, PlanSource.PlanSource, PlanSource.bare, PlanSource.files, PlanSource.base_of, PlanSource.IsSoundSource}
+use Rattle.stn_lift.specs.{declared.fault.BaseFault.BaseFault, PlanSource.{PlanSource, bare, files, base_of, IsSoundSource}}
 use Rattle.stn_command.specs.Words.{and_then}
-use Rattle.stn_exec.specs.Blocks.{Block, is_alone, block_from}
-use Rattle.stn_exec.specs.Script.{Found, Based, Start, next_line, heading_number, part_with, part_of, sites_of, refusing_fault, with_base, bare_part, ended_block, block_at, named_block, files_part, first_part, based, with_sites, heading_of}
-use Rattle.stn_exec.proofs.{Told.IsTold, Told.told, Based.IsBasedOrTold, Based.based_or_told}
+use Rattle.stn_exec.{specs.{Blocks.{Block, is_alone, block_from}, Script.{Found, Based, Start, next_line, heading_number, part_with, part_of, sites_of, refusing_fault, with_base, bare_part, ended_block, block_at, named_block, files_part, first_part, based, with_sites, heading_of}}, proofs.{Told.{IsTold, told}, Based.{IsBasedOrTold, based_or_told}}}
 
 -- what is read has the property, or the failure is a refusal
 abbrev pub IsFitOrTold : {X : Type 0} → (X → Type 0) → Result X Failure → Type 0

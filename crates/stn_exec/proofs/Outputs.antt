@@ -1,14 +1,9 @@
 -- Replies have one output, and one number of refusals.
-use Rattle.std.proofs.Common.{◌≡◌, inl, inr, ℕ, ◌+◌, ◌≤◌, Bool, true, false, cond, List, [], ◌∷◌, ◌++◌, Option, Some, None, refl, sym, ap, subst, ◌∙◌, arith}
-use Rattle.std.specs.{Bool.Decides, Prelude.unwrap_or}
-use Rattle.std.proofs.{lemmas.Bool.Decides.same_from_decides, lemmas.Option.none-some}
-use Rattle.stn_refusal.specs.declared.failure.Failure.{Failure}
-use Rattle.stn_refusal.specs.declared.failure.Failure.TheVariants.{Refused, Failed}
+use Rattle.std.{proofs.{Common.{◌≡◌, inl, inr, ℕ, ◌+◌, ◌≤◌, Bool, true, false, cond, List, [], ◌∷◌, ◌++◌, Option, Some, None, refl, sym, ap, subst, ◌∙◌, arith}, lemmas.{Bool.Decides.same_from_decides, Option.none-some}}, specs.{Bool.Decides, Prelude.unwrap_or}}
+use Rattle.stn_refusal.specs.declared.failure.Failure.{Failure, TheVariants.{Refused, Failed}}
 use Rattle.stn_site.specs.Held.{Held, holding_state}
-use Rattle.stn_command.specs.Query.{Query, IsSaid}
-use Rattle.stn_command.proofs.OneSaid.{one_refusal as one_cause}
-use Rattle.stn_exec.specs.Effect.{Reply, said, declined, told}
-use Rattle.stn_exec.specs.Output.{IsAnswerText, Declines, IsFailureText, IsReplyText, IsOutput, IsRefusal, CountsRefusals}
+use Rattle.stn_command.{specs.Query.{Query, IsSaid}, proofs.OneSaid.one_refusal as one_cause}
+use Rattle.stn_exec.specs.{Effect.{Reply, said, declined, told}, Output.{IsAnswerText, Declines, IsFailureText, IsReplyText, IsOutput, IsRefusal, CountsRefusals}}
 
 -- what another law says of answers to queries
 abbrev pub OneSaid : Type 0

@@ -1,21 +1,15 @@
 -- The printed line of a bound is read by an addition as the bound.
-use Rattle.std.proofs.Common.{◌≡◌, ℕ, ◌+◌, ◌-◌, ◌*◌, ◌/◌, ◌%◌, ◌<◌, ◌≤◌, ◌^◌, Bool, true, false, ◌==◌, cond, not, List, [], ◌∷◌, ◌++◌, length, ℤ, pos, negsuc, neg_ℤ, Option, Some, None, Ok, Err, codes, decimal, refl, sym, ap, ◌∙◌, arith, append_assoc, bytes_eq}
-use Rattle.std.specs.{Prelude.unsigned_abs, Prelude.filter, Prelude.option_map, Char.is_ascii_digit, Fmt.sign_text, Int.is_negative, List.list_all, List.slice_split, List.onto_first, Ordering.int_eq, Str.all_ascii_digits, Str.Parse.digits_value}
+use Rattle.std.{proofs.{Common.{◌≡◌, ℕ, ◌+◌, ◌-◌, ◌*◌, ◌/◌, ◌%◌, ◌<◌, ◌≤◌, ◌^◌, Bool, true, false, ◌==◌, cond, not, List, [], ◌∷◌, ◌++◌, length, ℤ, pos, negsuc, neg_ℤ, Option, Some, None, Ok, Err, codes, decimal, refl, sym, ap, ◌∙◌, arith, append_assoc, bytes_eq}, lemmas.{Bool.{eqb-true, eqb-false, and_parts, and_from, Decides.{nat_tests, Decides-int_eq}}, Fmt.{digits_decimal, digits_value-decimal, decimal_nonempty}, Int.ints, List.Splits.slice_split-cons_no, Slice.Eq.bytes_eq-Decides}}, specs.{Prelude.{unsigned_abs, filter, option_map}, Char.is_ascii_digit, Fmt.sign_text, Int.is_negative, List.{list_all, slice_split, onto_first}, Ordering.int_eq, Str.{all_ascii_digits, Parse.digits_value}}}
 use Rattle.std.specs.FinMap as map
-use Rattle.std.proofs.lemmas.Bool.{eqb-true, eqb-false, and_parts, and_from}
-use Rattle.std.proofs.{lemmas.Bool.Decides.nat_tests, lemmas.Bool.Decides.Decides-int_eq, lemmas.Fmt.digits_decimal, lemmas.Fmt.digits_value-decimal, lemmas.Fmt.decimal_nonempty, lemmas.Int.ints, lemmas.List.Splits.slice_split-cons_no, lemmas.Slice.Eq.bytes_eq-Decides}
-use Rattle.stn_text.specs.Lines.{is_gap, is_word, words_of}
-use Rattle.stn_text.proofs.Digits.{own}
-use Rattle.stn_time.specs.{Time.horizon, Time.IsWithinHorizon, Text.printed, Text.whole_text, Text.three_digits, TimeOf.time_of, declared.reading.TimeFault.TheVariants.Malformed}
-use Rattle.stn_time.proofs.Prints.{time_of-printed, decimal-whole_text}
+use Rattle.stn_text.{specs.Lines.{is_gap, is_word, words_of}, proofs.Digits.own}
+use Rattle.stn_time.{specs.{Time.{horizon, IsWithinHorizon}, Text.{printed, whole_text, three_digits}, TimeOf.time_of, declared.reading.TimeFault.TheVariants.Malformed}, proofs.Prints.{time_of-printed, decimal-whole_text}}
 use Rattle.stn_net.specs.{Difference.Difference, Event.event_text}
-use Rattle.stn_records.specs.{Id.SiteCounter, Id.IsId, Id.id_text, Record.is_done, declared.record.Record.Record, Content.Content}
-use Rattle.stn_site.specs.{declared.names.BoundName.BoundName, Lines.line, Lines.done_text, Names.name_text}
+use Rattle.stn_records.specs.{Id.{SiteCounter, IsId, id_text}, Record.is_done, declared.record.Record.Record, Content.Content}
+use Rattle.stn_site.specs.{declared.names.BoundName.BoundName, Lines.{line, done_text}, Names.name_text}
 use Rattle.stn_site.specs.declared.names.BoundName.TheVariants as kind
-use Rattle.stn_questions.specs.{Bounds.lower_text, Bounds.upper_text, Bounds.bound_text, Bounds.named_line, Records.held_text, Records.amends_text, Records.word_where, Records.is_amended, Records.record_line}
-use Rattle.stn_command.specs.Words.{event_of, spelled}
-use Rattle.stn_command.proofs.Events.{event_below-some}
-use Rattle.stn_exec.specs.{Command.bound_words, Effect.side_of, Effect.bound_read, ReadBack.IsReadable, ReadBack.IsName, ReadBack.ReadsBack}
+use Rattle.stn_questions.specs.{Bounds.{lower_text, upper_text, bound_text, named_line}, Records.{held_text, amends_text, word_where, is_amended, record_line}}
+use Rattle.stn_command.{specs.Words.{event_of, spelled}, proofs.Events.event_below-some}
+use Rattle.stn_exec.specs.{Command.bound_words, Effect.{side_of, bound_read}, ReadBack.{IsReadable, IsName, ReadsBack}}
 
 -- no byte parts words
 abbrev no_gap : List ℕ → Bool

@@ -1,30 +1,18 @@
 -- The commands of a script are a run of the world's steps.
-use Rattle.std.proofs.Common.{◌≡◌, ◌↔◌, ℕ, ℤ, ◌+◌, Bool, true, false, cond, is_some, List, [], ◌∷◌, ◌++◌, length, Option, Some, None, Result, Ok, Err, inl, inr, option_map, option_to_list, refl, sym, ap, subst, ◌∙◌, arith, append_assoc, append-nil}
-use Rattle.std.specs.{Prelude.option_and_then, Result.result_ok}
-use Rattle.std.proofs.{lemmas.Bool.false≢true, lemmas.Option.none-some, lemmas.List.Sums.fold-append}
+use Rattle.std.{proofs.{Common.{◌≡◌, ◌↔◌, ℕ, ℤ, ◌+◌, Bool, true, false, cond, is_some, List, [], ◌∷◌, ◌++◌, length, Option, Some, None, Result, Ok, Err, inl, inr, option_map, option_to_list, refl, sym, ap, subst, ◌∙◌, arith, append_assoc, append-nil}, lemmas.{Bool.false≢true, Option.none-some, List.Sums.fold-append}}, specs.{Prelude.option_and_then, Result.result_ok}}
 use Rattle.stn_time.specs.declared.reading.TimeFault.{TimeFault}
 use Rattle.stn_lift.specs.PlanSource.{PlanSource, events_of}
 use Rattle.stn_text.specs.Lines.{lines_of, words_of}
-use Rattle.stn_site.specs.{Bounds.all_bounds, Report.IsReport, Report.done_events, Held.holding_state, Refusals.withdraw_refusal}
-use Rattle.stn_world.specs.{declared.faults.WorldFault.WorldFault, declared.faults.WorldFault.TheVariants.NoSite, Faults.of_replica_fault, World.World, World.HasSite, World.has_site, World.opening_world, World.held_at, World.content_at, Parts.holds_all, Whole.IsCoherent}
+use Rattle.stn_site.specs.{Bounds.all_bounds, Report.{IsReport, done_events}, Held.holding_state, Refusals.withdraw_refusal}
+use Rattle.stn_world.{specs.{declared.faults.WorldFault.{WorldFault, TheVariants.NoSite}, Faults.of_replica_fault, World.{World, HasSite, has_site, opening_world, held_at, content_at}, Parts.holds_all, Whole.IsCoherent, Steps.{Step, merged, sent, delivered, step_refusal, send_refusal, after, IsAccepted, stepped, run, TookAt, TookSameAt, TookSameItemsAt}}, proofs.{Accepted.{site_decides, no_site}, Sendings.{part_free, all_free}, Whole.coherent_at_first, Runs.{run_stays, run_keeps, coherent_run}}}
 use Rattle.stn_records.specs.Content.{Content, CountsSame, Item, HasItem, part_of}
-use Rattle.stn_world.specs.Steps.{Step, merged, sent, delivered, step_refusal, send_refusal, after, IsAccepted, stepped, run, TookAt, TookSameAt, TookSameItemsAt}
-use Rattle.stn_world.proofs.{Accepted.site_decides, Accepted.no_site, Sendings.part_free, Sendings.all_free, Whole.coherent_at_first, Runs.run_stays, Runs.run_keeps, Runs.coherent_run}
 use Rattle.stn_refusal.specs.declared.code.Code.TheVariants as code
 use Rattle.stn_refusal.specs.{declared.failure.Failure.Failure, Refusals.refused}
-use Rattle.stn_questions.specs.{declared.asked.Question.Question, Answer.IsAnswer, Ready.IsReadyText, Ready.IsReadyWith}
-use Rattle.stn_command.specs.{declared.changes.Change.Change, Words.and_then, Words.spelled, Query.Query, Query.IsSaid, Query.IsQueryRefusal}
-use Rattle.stn_command.specs.declared.changes.Change.TheVariants.{Add, Amend, Withdraw, Done}
+use Rattle.stn_questions.specs.{declared.asked.Question.Question, Answer.IsAnswer, Ready.{IsReadyText, IsReadyWith}}
+use Rattle.stn_command.{specs.{declared.changes.Change.{Change, TheVariants.{Add, Amend, Withdraw, Done}}, Words.{and_then, spelled}, Query.{Query, IsSaid, IsQueryRefusal}, Dispatch.{every_event, done_or_not_chosen}}, proofs.OneSaid.one_refusal}
 use Rattle.stn_command.specs.Query as asked
-use Rattle.stn_command.specs.Dispatch.{every_event, done_or_not_chosen}
 use Rattle.stn_command.specs.declared.queries.Outlook.TheVariants as outlook
-use Rattle.stn_command.proofs.OneSaid.{one_refusal}
-use Rattle.stn_exec.specs.Command.{QueryWords, report, ready, ask, Action, change, merge, send_all, send, deliver, query, Command, sites_command, command_of}
-use Rattle.stn_exec.specs.Effect.{Effect, Reply, told, refusing, sending, sent_step, change_read, query_read, change_step, changing, telling, action_effect, command_effect, action_step, step_of}
-use Rattle.stn_exec.specs.Script.{Outcome, Start, is_skipped, form_effect, line_outcome, lines_outcome, heading_of, last_line, script_outcome}
-use Rattle.stn_exec.specs.Output.{IsReplyText, IsOutput}
-use Rattle.stn_exec.specs.Reports.{line_steps, steps_of_lines, LineOf, first_world, steps_before, world_at, ReportsSite, AsksSite, AsksReady, PrintsAt}
-use Rattle.stn_exec.proofs.{Effects.there_effect, Scripts.line_outcome-skipped, Scripts.line_outcome-run, Scripts.line_effect-is, Scripts.script_outcome-is}
+use Rattle.stn_exec.{specs.{Command.{QueryWords, report, ready, ask, Action, change, merge, send_all, send, deliver, query, Command, sites_command, command_of}, Effect.{Effect, Reply, told, refusing, sending, sent_step, change_read, query_read, change_step, changing, telling, action_effect, command_effect, action_step, step_of}, Script.{Outcome, Start, is_skipped, form_effect, line_outcome, lines_outcome, heading_of, last_line, script_outcome}, Output.{IsReplyText, IsOutput}, Reports.{line_steps, steps_of_lines, LineOf, first_world, steps_before, world_at, ReportsSite, AsksSite, AsksReady, PrintsAt}}, proofs.{Effects.there_effect, Scripts.{line_outcome-skipped, line_outcome-run, line_effect-is, script_outcome-is}}}
 
 -- ---- what a command leaves is what its step leaves
 changing_run : (world : World) (site : ℕ) (read : Result Change Failure)

@@ -1,9 +1,7 @@
 -- A run of a script that was read whole.
-use Rattle.std.proofs.Common.{◌≡◌, ◌≢◌, ◌≤◌, ◌<◌, ◌+◌, ◌-◌, ◌^◌, ◌++◌, arith, min, ℕ, List, Option, Some, None, Result, Ok, Err, IfOk, IfSome, OnOk, length, refl, sym, ap, ◌∙◌, subst, append-nil}
-use Rattle.std.specs.{Prelude.OnErr, Io.KnownBytes.Consumes, Io.KnownBytes.IsAtEnd}
+use Rattle.std.{proofs.Common.{◌≡◌, ◌≢◌, ◌≤◌, ◌<◌, ◌+◌, ◌-◌, ◌^◌, ◌++◌, arith, min, ℕ, List, Option, Some, None, Result, Ok, Err, IfOk, IfSome, OnOk, length, refl, sym, ap, ◌∙◌, subst, append-nil}, specs.{Prelude.OnErr, Io.KnownBytes.{Consumes, IsAtEnd}}}
 use Rattle.stn_device.specs.Bytes.{most_bytes}
-use Rattle.stn_exec.specs.{declared.script.Ran.Ran, declared.script.RunFault.RunFault, Output.CountsRefusals, Output.WritesOutput, Output.WritesOutputPart, Running.IsRun, Script.script_outcome}
-use Rattle.stn_exec.specs.declared.script.RunFault.TheVariants.{Read, Write, Bound, Memory}
+use Rattle.stn_exec.specs.{declared.script.{Ran.Ran, RunFault.{RunFault, TheVariants.{Read, Write, Bound, Memory}}}, Output.{CountsRefusals, WritesOutput, WritesOutputPart}, Running.IsRun, Script.script_outcome}
 
 -- the script is the whole input
 whole : (input rest : Option (List ℕ)) (script : List ℕ) → Consumes input rest script → IsAtEnd rest → IfSome input (λ bytes. bytes ≡ script)

@@ -1,17 +1,14 @@
 -- The heading and the lines of a script, one after the other.
-use Rattle.std.proofs.Common.{◌≡◌, ℕ, ⊎_elim, ◌+◌, ◌<◌, ◌≤◌, true, false, cond, List, [], ◌∷◌, ◌++◌, length, Option, Some, None, Result, Ok, Err, Bool, IfSome, inl, inr, refl, sym, ap, ◌∙◌, arith, codes, append_assoc, subst}
-use Rattle.std.proofs.{KnownBytes.Appends-nil, KnownBytes.Appends-trans, lemmas.Bool.cases_lt, lemmas.Bool.false≢true, lemmas.Bool.Decides.nat_tests}
+use Rattle.std.proofs.{Common.{◌≡◌, ℕ, ⊎_elim, ◌+◌, ◌<◌, ◌≤◌, true, false, cond, List, [], ◌∷◌, ◌++◌, length, Option, Some, None, Result, Ok, Err, Bool, IfSome, inl, inr, refl, sym, ap, ◌∙◌, arith, codes, append_assoc, subst}, KnownBytes.{Appends-nil, Appends-trans}, lemmas.Bool.{cases_lt, false≢true, Decides.nat_tests}}
 use Rattle.stn_device.specs.Bytes.{AppendsPart}
 use Rattle.stn_text.specs.Lines.{lines_of, words_of}
-use Rattle.stn_refusal.specs.{declared.code.Code.TheVariants.NoSite, declared.refusal.Refusal.Refusal, declared.failure.Failure.Failure, declared.failure.Failure.TheVariants.Refused, Printed.refusal_text, Refusals.refused}
-use Rattle.stn_exec.specs.{Heading.IsHeadingFailure, Effect.Reply, Effect.Effect, Command.Command, Command.command_of, Output.IsReplyText, Output.IsOutput, Output.CountsRefusals, Output.WritesOutput, Output.WritesOutputPart, Running.IsReplied, Saying.IsDone}
+use Rattle.stn_refusal.specs.{declared.{code.Code.TheVariants.NoSite, refusal.Refusal.Refusal, failure.Failure.{Failure, TheVariants.Refused}}, Printed.refusal_text, Refusals.refused}
+use Rattle.stn_exec.{specs.{Heading.IsHeadingFailure, Effect.{Reply, Effect}, Command.{Command, command_of}, Output.{IsReplyText, IsOutput, CountsRefusals, WritesOutput, WritesOutputPart}, Running.IsReplied, Saying.IsDone, Script.{Outcome, nothing_run, followed_by, form_effect, is_skipped, line_effect, effect_outcome, line_outcome, lines_outcome, next_line, Part, part_of, sites_of, Based, Start, based, with_sites, heading_of, started, last_line, script_outcome}}, proofs.Outputs.{not_both, counts_join, one_refusal}}
 use Rattle.stn_command.specs.Words.{and_then}
 use Rattle.stn_lift.specs.PlanSource.{events_of}
 use Rattle.stn_records.specs.Id.{IsSite}
-use Rattle.stn_world.specs.{declared.faults.WorldFault.WorldFault, Failures.world_failure, Faults.IsOpeningFault, World.World, World.opening_world}
+use Rattle.stn_world.specs.{declared.faults.WorldFault.WorldFault, Failures.world_failure, Faults.IsOpeningFault, World.{World, opening_world}}
 use Rattle.stn_world.specs.declared.faults.WorldFault.TheVariants as world_fault
-use Rattle.stn_exec.proofs.Outputs.{not_both, counts_join, one_refusal}
-use Rattle.stn_exec.specs.Script.{Outcome, nothing_run, followed_by, form_effect, is_skipped, line_effect, effect_outcome, line_outcome, lines_outcome, next_line, Part, part_of, sites_of, Based, Start, based, with_sites, heading_of, started, last_line, script_outcome}
 
 -- an empty text has no lines
 pub lines_of-none : (text : List ℕ) → length text ≡ 0 → lines_of text ≡ []

@@ -1,27 +1,15 @@
 -- The lines of a script have an output, and so many of their replies are refusals.
-use Rattle.std.proofs.Common.{◌≡◌, ◌⊎◌, inl, inr, ℕ, ◌+◌, Bool, true, false, cond, List, [], ◌∷◌, ◌++◌, Option, Some, None, Result, Ok, Err, refl, sym, ap, subst, ◌∙◌}
-use Rattle.std.specs.{Prelude.length}
-use Rattle.std.proofs.lemmas.Bool.{false≢true}
+use Rattle.std.{proofs.{Common.{◌≡◌, ◌⊎◌, inl, inr, ℕ, ◌+◌, Bool, true, false, cond, List, [], ◌∷◌, ◌++◌, Option, Some, None, Result, Ok, Err, refl, sym, ap, subst, ◌∙◌}, lemmas.Bool.false≢true}, specs.Prelude.length}
 use Rattle.stn_refusal.specs.declared.code.Code.TheVariants as code
-use Rattle.stn_refusal.specs.{declared.refusal.Refusal.Refusal, declared.failure.Failure.Failure, declared.failure.Failure.TheVariants.Refused, Refusals.refusal, Refusals.refusal_at, Printed.refusal_text}
+use Rattle.stn_refusal.specs.{declared.{refusal.Refusal.Refusal, failure.Failure.{Failure, TheVariants.Refused}}, Refusals.{refusal, refusal_at}, Printed.refusal_text}
 use Rattle.stn_text.specs.Lines.{lines_of, words_of}
 use Rattle.stn_lift.specs.PlanSource.{events_of, IsSoundSource}
 use Rattle.stn_records.specs.Content.{Content, part_of}
 use Rattle.stn_site.specs.Held.{Held, holding_state}
-use Rattle.stn_world.specs.{declared.faults.WorldFault.WorldFault, Failures.world_failure, Parts.holds_all, World.World, World.has_site, World.opening_world, World.content_at, World.next_id_at, Whole.IsCoherent}
-use Rattle.stn_world.specs.Steps.{Step, merged, sent, delivered, step_refusal, send_refusal, after}
-use Rattle.stn_world.proofs.{Runs.run_keeps, Runs.coherent_run, Whole.coherent_at_first, Whole.site_bounds, Whole.site_proper}
-use Rattle.stn_command.specs.{declared.changes.Change.Change, Change.made_by, Query.Query, Query.IsSoundSite, Query.IsSaid, Query.IsQueryRefusal}
-use Rattle.stn_exec.specs.{declared.answer.Answer.Answer, Answer.answer_text, Command.Action, Command.Command, Command.command_of}
+use Rattle.stn_world.{specs.{declared.faults.WorldFault.WorldFault, Failures.world_failure, Parts.holds_all, World.{World, has_site, opening_world, content_at, next_id_at}, Whole.IsCoherent, Steps.{Step, merged, sent, delivered, step_refusal, send_refusal, after}}, proofs.{Runs.{run_keeps, coherent_run}, Whole.{coherent_at_first, site_bounds, site_proper}}}
+use Rattle.stn_command.specs.{declared.changes.Change.Change, Change.made_by, Query.{Query, IsSoundSite, IsSaid, IsQueryRefusal}}
+use Rattle.stn_exec.{specs.{declared.answer.Answer.Answer, Answer.answer_text, Command.{Action, Command, command_of, change, merge, send_all, send, deliver, query}, Effect.{Reply, Effect, declined, refusing, answered, change_read, query_read, change_step, changing, telling, action_effect}, Output.{IsAnswerText, Declines, CountsRefusals, IsOutput}, Script.{Outcome, Start, is_skipped, form_effect, line_effect, line_outcome, lines_outcome, heading_of, started, last_line, script_outcome}, Reports.line_steps}, proofs.{Outputs.{not_both, counts_join, count_one}, Scripts.{outputs_join, output_one, line_outcome-skipped, line_outcome-run, line_effect-is}, Reports.line_run, Headings.{IsFitOrTold, IsSoundStart, heading_fit}, Told.{IsTold, IsToldCause, IsReadOrTold, step_told, send_told, change_told, query_told}}}
 use Rattle.stn_exec.specs.declared.answer.Answer.TheVariants as answer
-use Rattle.stn_exec.specs.Command.{change, merge, send_all, send, deliver, query}
-use Rattle.stn_exec.specs.Effect.{Reply, Effect, declined, refusing, answered, change_read, query_read, change_step, changing, telling, action_effect}
-use Rattle.stn_exec.specs.Output.{IsAnswerText, Declines, CountsRefusals, IsOutput}
-use Rattle.stn_exec.specs.Script.{Outcome, Start, is_skipped, form_effect, line_effect, line_outcome, lines_outcome, heading_of, started, last_line, script_outcome}
-use Rattle.stn_exec.specs.Reports.{line_steps}
-use Rattle.stn_exec.proofs.{Outputs.not_both, Outputs.counts_join, Outputs.count_one, Scripts.outputs_join, Scripts.output_one, Scripts.line_outcome-skipped, Scripts.line_outcome-run, Scripts.line_effect-is, Reports.line_run}
-use Rattle.stn_exec.proofs.Headings.{IsFitOrTold, IsSoundStart, heading_fit}
-use Rattle.stn_exec.proofs.Told.{IsTold, IsToldCause, IsReadOrTold, step_told, send_told, change_told, query_told}
 
 -- another law: a site has an answer to each query that nothing refuses, and what refuses one is printed
 pub record HasAnswers : Type 0 where

@@ -1,18 +1,14 @@
 -- The text of a domain or of a plan is read, or has a fault that is printed as a refusal.
-use Rattle.std.proofs.Common.{ℕ, ℤ, Bool, true, false, ◌||◌, ◌&&◌, cond, nat_lt, length, codes, List, [], ◌∷◌, Option, Some, None, Result, Ok, Err}
-use Rattle.std.specs.{Int.is_negative, Option.option_map_or}
+use Rattle.std.{proofs.Common.{ℕ, ℤ, Bool, true, false, ◌||◌, ◌&&◌, cond, nat_lt, length, codes, List, [], ◌∷◌, Option, Some, None, Result, Ok, Err}, specs.{Int.is_negative, Option.option_map_or}}
 use Rattle.stn_refusal.specs.declared.code.Code.TheVariants as code
-use Rattle.stn_refusal.specs.{declared.failure.Failure.Failure, Refusals.refusal, Refusals.refusal_at}
+use Rattle.stn_refusal.specs.{declared.failure.Failure.Failure, Refusals.{refusal, refusal_at}}
 use Rattle.stn_text.specs.Faults.{◌>>=◌}
 use Rattle.stn_time.specs.{declared.reading.TimeFault.TimeFault, TimeOf.time_of}
-use Rattle.stn_pddl.specs.{declared.tree.scan.TreeFault.TreeFault, Tree.Names.is_same_word, Tree.Trees.Trees, Tree.Trees.End, Tree.Trees.Word as word, Tree.Trees.Group, Tree.Scan.tree_of, declared.fault.DomainFault.DomainFault, Failures.domain_failure, Schemas.ActionSchema, Domains.is_title, Domains.parts, Domains.root, Domains.domain_of_tree, Domains.domain_of_bytes, Domains.domain_of}
+use Rattle.stn_pddl.{specs.{declared.{tree.scan.TreeFault.TreeFault, fault.DomainFault.DomainFault}, Tree.{Names.is_same_word, Trees.{Trees, End, Word as word, Group}, Scan.tree_of}, Failures.domain_failure, Schemas.ActionSchema, Domains.{is_title, parts, root, domain_of_tree, domain_of_bytes, domain_of}}, proofs.FaultFacts.{IsFormFault, OfForms, parts-forms}}
 use Rattle.stn_pddl.specs.declared.tree.scan.TreeFault.TheVariants as tree
 use Rattle.stn_pddl.specs.declared.fault.DomainFault.TheVariants as domain
-use Rattle.stn_pddl.proofs.FaultFacts.{IsFormFault, OfForms, parts-forms}
-use Rattle.stn_lift.specs.declared.plan.bytes.Mark.TheVariants.{Colon, Open, Close, OpenSquare, CloseSquare}
-use Rattle.stn_lift.specs.{Plan.Failures.plan_failure, Plan.Tokens.Lexeme, Plan.Tokens.Word, Plan.Tokens.Sign, Plan.Tokens.tokens_of, Plan.Lines.lines_of}
+use Rattle.stn_lift.specs.{declared.plan.bytes.Mark.TheVariants.{Colon, Open, Close, OpenSquare, CloseSquare}, Plan.{Failures.plan_failure, Tokens.{Lexeme, Word, Sign, tokens_of}, Lines.lines_of, Steps.{most_text, most_steps, PlannedStep, Form, args_of, duration_form, form_of, or_number, time_at, duration_of, step_at, timed_step, step_of, steps_of, limited, plan_of}}}
 use Rattle.stn_lift.specs.declared.plan.fault.PlanFault.TheVariants as plan
-use Rattle.stn_lift.specs.Plan.Steps.{most_text, most_steps, PlannedStep, Form, args_of, duration_form, form_of, or_number, time_at, duration_of, step_at, timed_step, step_of, steps_of, limited, plan_of}
 use Rattle.stn_exec.proofs.Told.{IsTold, told}
 
 -- a value is read, or the failure of the fault is a refusal

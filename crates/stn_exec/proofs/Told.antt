@@ -1,24 +1,17 @@
 -- What refuses a call of a world or the words of a command is a refusal, and never a fault of a device or of memory.
-use Rattle.std.proofs.Common.{◌≡◌, ℕ, ℤ, Bool, true, false, cond, List, [], ◌∷◌, Option, Some, None, Result, Ok, Err, refl, option_map}
-use Rattle.std.specs.{Bool.then_some, Option.option_or, Str.bytes_eq, Prelude.codes, Prelude.neg_ℤ, Prelude.not, Prelude.◌&&◌, Prelude.◌==◌, Prelude.nat_lt, Prelude.nat_le, Prelude.length}
+use Rattle.std.{proofs.Common.{◌≡◌, ℕ, ℤ, Bool, true, false, cond, List, [], ◌∷◌, Option, Some, None, Result, Ok, Err, refl, option_map}, specs.{Bool.then_some, Option.option_or, Str.bytes_eq, Prelude.{codes, neg_ℤ, not, ◌&&◌, ◌==◌, nat_lt, nat_le, length}}}
 use Rattle.stn_refusal.specs.declared.code.Code.TheVariants as code
-use Rattle.stn_refusal.specs.{declared.refusal.Refusal.Refusal, declared.failure.Failure.Failure, declared.failure.Failure.TheVariants.Refused, Refusals.refusal, Refusals.refusal_for}
-use Rattle.stn_time.specs.{Time.horizon, TimeOf.time_of, declared.reading.TimeFault.TimeFault}
-use Rattle.stn_time.specs.declared.reading.TimeFault.TheVariants.{Malformed, TooFine, OutOfRange}
-use Rattle.stn_net.specs.{Difference.Difference, declared.bound.BoundFault.BoundFault}
-use Rattle.stn_net.specs.declared.bound.BoundFault.TheVariants.{NoEvent, SameEvent, Crossed}
+use Rattle.stn_refusal.specs.{declared.{refusal.Refusal.Refusal, failure.Failure.{Failure, TheVariants.Refused}}, Refusals.{refusal, refusal_for}}
+use Rattle.stn_time.specs.{Time.horizon, TimeOf.time_of, declared.reading.TimeFault.{TimeFault, TheVariants.{Malformed, TooFine, OutOfRange}}}
+use Rattle.stn_net.specs.{Difference.Difference, declared.bound.BoundFault.{BoundFault, TheVariants.{NoEvent, SameEvent, Crossed}}}
 use Rattle.stn_lift.specs.PlanSource.{events_of}
-use Rattle.stn_records.specs.{Id.SiteCounter, Id.most_counter}
-use Rattle.stn_records.specs.Content.{most_known, Content, is_known, known_count, known_in_either, next_counter, dispute_contents}
-use Rattle.stn_site.specs.{declared.faults.ReplicaFault.ReplicaFault, Failures.replica_failure, Held.Held}
+use Rattle.stn_records.specs.{Id.{SiteCounter, most_counter}, Content.{most_known, Content, is_known, known_count, known_in_either, next_counter, dispute_contents}}
+use Rattle.stn_site.specs.{declared.faults.ReplicaFault.ReplicaFault, Failures.replica_failure, Held.Held, Refusals.{bound_refusal, next_refusal, add_refusal, amend_refusal, done_refusal, withdraw_refusal, records_name, take_refusal}}
 use Rattle.stn_site.specs.declared.faults.ReplicaFault.TheVariants as replica
-use Rattle.stn_site.specs.Refusals.{bound_refusal, next_refusal, add_refusal, amend_refusal, done_refusal, withdraw_refusal, records_name, take_refusal}
-use Rattle.stn_world.specs.{declared.faults.WorldFault.WorldFault, Faults.of_replica_fault, Failures.world_failure, Parts.is_part, World.World, World.most_packets, World.has_site, World.has_packet, World.held_at, World.content_at, World.packet_at}
+use Rattle.stn_world.specs.{declared.faults.WorldFault.WorldFault, Faults.of_replica_fault, Failures.world_failure, Parts.is_part, World.{World, most_packets, has_site, has_packet, held_at, content_at, packet_at}, Steps.{Step, added, finished, amended, withdrew, merged, sent, delivered, missing, step_refusal, send_refusal}}
 use Rattle.stn_world.specs.declared.faults.WorldFault.TheVariants as world_fault
-use Rattle.stn_world.specs.Steps.{Step, added, finished, amended, withdrew, merged, sent, delivered, missing, step_refusal, send_refusal}
 use Rattle.stn_command.specs.Words.{and_then, spelled, time_read, times_read}
-use Rattle.stn_exec.specs.Command.{BoundWords, ChangeWords, add, amend, withdraw, done, QueryWords, report, check, next, rehearse, ready, ask, repairs}
-use Rattle.stn_exec.specs.Effect.{side_of, bound_read, change_read, query_read}
+use Rattle.stn_exec.specs.{Command.{BoundWords, ChangeWords, add, amend, withdraw, done, QueryWords, report, check, next, rehearse, ready, ask, repairs}, Effect.{side_of, bound_read, change_read, query_read}}
 
 -- the failure is a refusal
 pub record IsTold (failure : Failure) : Type 0 where

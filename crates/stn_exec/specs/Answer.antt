@@ -2,8 +2,7 @@
 use Rattle.std.specs.Prelude.{ℕ, List, ◌++◌, codes, decimal}
 use Rattle.stn_site.specs.Lines.{line}
 use Rattle.stn_command.specs.Change.{made_text}
-use Rattle.stn_exec.specs.declared.answer.Answer.{Answer}
-use Rattle.stn_exec.specs.declared.answer.Answer.TheVariants.{Changed, Merged, Sent, Delivered}
+use Rattle.stn_exec.specs.declared.answer.Answer.{Answer, TheVariants.{Changed, Merged, Sent, Delivered}}
 
 -- the line that an answer is
 abbrev pub answer_text : Answer → List ℕ

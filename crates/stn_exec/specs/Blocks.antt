@@ -1,6 +1,5 @@
 -- The blocks of a heading.
-use Rattle.std.specs.Prelude.{ℕ, ◌+◌, Bool, false, if◌then◌else◌, List, [], ◌∷◌, ◌++◌, codes, Option, Some, None}
-use Rattle.std.specs.{Option.option_map, Str.bytes_eq}
+use Rattle.std.specs.{Prelude.{ℕ, ◌+◌, Bool, false, if◌then◌else◌, List, [], ◌∷◌, ◌++◌, codes, Option, Some, None}, Option.option_map, Str.bytes_eq}
 use Rattle.stn_text.specs.Lines.{words_of}
 
 -- the words are this one alone

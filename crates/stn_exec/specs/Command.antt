@@ -1,9 +1,7 @@
 -- The commands that lines are.
-use Rattle.std.specs.Prelude.{ℕ, ◌==◌, Bool, ◌||◌, if◌then◌else◌, List, [], ◌∷◌, length, codes, Option, Some, None, is_some, option_and_then}
-use Rattle.std.specs.{List.list_all, List.filter_map, Option.option_map, Str.bytes_eq}
+use Rattle.std.specs.{Prelude.{ℕ, ◌==◌, Bool, ◌||◌, if◌then◌else◌, List, [], ◌∷◌, length, codes, Option, Some, None, is_some, option_and_then}, List.{list_all, filter_map}, Option.option_map, Str.bytes_eq}
 use Rattle.stn_records.specs.Id.{SiteCounter}
-use Rattle.stn_questions.specs.declared.asked.Question.{Question}
-use Rattle.stn_questions.specs.declared.asked.Question.TheVariants.{Records, Steps, Bounds, Why, WhyApart}
+use Rattle.stn_questions.specs.declared.asked.Question.{Question, TheVariants.{Records, Steps, Bounds, Why, WhyApart}}
 use Rattle.stn_text.specs.Numbers.{number_of}
 use Rattle.stn_command.specs.Words.{event_of, id_of}
 

@@ -1,20 +1,15 @@
 -- What commands do at the sites of a world.
-use Rattle.std.specs.Prelude.{ℕ, ◌+◌, Bool, true, if◌then◌else◌, List, length, codes, ℤ, neg_ℤ, Option, Some, None, is_some, option_map, Result, Ok, Err}
-use Rattle.std.specs.{Option.option_map_or, Result.result_ok, Str.bytes_eq}
-use Rattle.stn_refusal.specs.{declared.code.Code.TheVariants.NoSite, declared.failure.Failure.Failure, Refusals.refused}
+use Rattle.std.specs.{Prelude.{ℕ, ◌+◌, Bool, true, if◌then◌else◌, List, length, codes, ℤ, neg_ℤ, Option, Some, None, is_some, option_map, Result, Ok, Err}, Option.option_map_or, Result.result_ok, Str.bytes_eq}
+use Rattle.stn_refusal.specs.{declared.{code.Code.TheVariants.NoSite, failure.Failure.Failure}, Refusals.refused}
 use Rattle.stn_time.specs.Time.{horizon}
 use Rattle.stn_lift.specs.PlanSource.{PlanSource}
 use Rattle.stn_records.specs.Content.{Content, part_of}
-use Rattle.stn_world.specs.{declared.faults.WorldFault.WorldFault, Failures.world_failure, Parts.holds_all, World.World, World.has_site, World.content_at, World.next_id_at}
-use Rattle.stn_world.specs.Steps.{Step, added, finished, amended, withdrew, merged, sent, delivered, step_refusal, send_refusal, after}
-use Rattle.stn_command.specs.{declared.changes.AskedBound.AskedBound, declared.changes.Change.Change, Words.and_then, Words.time_read, Words.times_read, Change.bound_of, Change.made_by, Query.Query}
-use Rattle.stn_command.specs.declared.changes.Change.TheVariants.{Add, Amend, Withdraw, Done}
+use Rattle.stn_world.specs.{declared.faults.WorldFault.WorldFault, Failures.world_failure, Parts.holds_all, World.{World, has_site, content_at, next_id_at}, Steps.{Step, added, finished, amended, withdrew, merged, sent, delivered, step_refusal, send_refusal, after}}
+use Rattle.stn_command.specs.{declared.changes.{AskedBound.AskedBound, Change.{Change, TheVariants.{Add, Amend, Withdraw, Done}}}, Words.{and_then, time_read, times_read}, Change.{bound_of, made_by}, Query.Query, Dispatch.every_event}
 use Rattle.stn_command.specs.Query as asked
-use Rattle.stn_command.specs.Dispatch.{every_event}
 use Rattle.stn_command.specs.declared.queries.Outlook.TheVariants as outlook
-use Rattle.stn_exec.specs.declared.answer.Answer.{Answer}
+use Rattle.stn_exec.specs.{declared.answer.Answer.Answer, Command.{BoundWords, ChangeWords, add, amend, withdraw, done, QueryWords, report, check, next, rehearse, ready, ask, repairs, Action, change, merge, send_all, send, deliver, query, Command}}
 use Rattle.stn_exec.specs.declared.answer.Answer.TheVariants as answer
-use Rattle.stn_exec.specs.Command.{BoundWords, ChangeWords, add, amend, withdraw, done, QueryWords, report, check, next, rehearse, ready, ask, repairs, Action, change, merge, send_all, send, deliver, query, Command}
 
 -- what a line prints: an answer; why there is none; or what is said to a query about a plan and what a site holds
 pub data Reply : Type 0 where

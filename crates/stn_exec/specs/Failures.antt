@@ -1,8 +1,7 @@
 -- What is printed where a run ends before its script.
-use Rattle.stn_refusal.specs.{declared.failure.Failure.Failure, declared.failure.Failure.TheVariants.Failed}
+use Rattle.stn_refusal.specs.declared.failure.Failure.{Failure, TheVariants.Failed}
 use Rattle.stn_refusal.specs.declared.failure.Fault.TheVariants as fault
-use Rattle.stn_exec.specs.declared.script.RunFault.{RunFault}
-use Rattle.stn_exec.specs.declared.script.RunFault.TheVariants.{Read, Write, Bound, Memory}
+use Rattle.stn_exec.specs.declared.script.RunFault.{RunFault, TheVariants.{Read, Write, Bound, Memory}}
 
 abbrev pub run_failure : RunFault → Failure
 run_failure Read = Failed fault.Read

@@ -5,7 +5,7 @@ use Rattle.stn_refusal.specs.{declared.failure.Failure.Failure, Refusals.out_of_
 use Rattle.stn_lift.specs.PlanSource.{PlanSource}
 use Rattle.stn_text.specs.Lines.{lines_of, words_of}
 use Rattle.stn_world.specs.World.{World, opening_world}
-use Rattle.stn_exec.specs.{declared.heading.FoundLine.FoundLine, declared.heading.HeadingPart.HeadingPart, declared.heading.Rest.Rest, declared.heading.HeadingBlock.HeadingBlock, Blocks.Block, Script.Found, Script.Part, Script.Based, Script.Start}
+use Rattle.stn_exec.specs.{declared.heading.{FoundLine.FoundLine, HeadingPart.HeadingPart, Rest.Rest, HeadingBlock.HeadingBlock}, Blocks.Block, Script.{Found, Part, Based, Start}}
 
 -- the value that was read, or the same fault
 abbrev pub result_seen : {A B E : Type 0} → (A → B) → Result A E → Result B E

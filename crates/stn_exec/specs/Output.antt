@@ -1,11 +1,9 @@
 -- The output that replies are, and how many of them are refusals.
-use Rattle.std.specs.Prelude.{◌≡◌, ◌⊎◌, ℕ, ◌+◌, Bool, if◌then◌else◌, List, [], ◌∷◌, ◌++◌, Option, Some, None}
-use Rattle.std.specs.{Bool.Decides, Io.KnownBytes.Appends}
-use Rattle.stn_refusal.specs.{declared.failure.Failure.Failure, Printed.refusal_text}
-use Rattle.stn_refusal.specs.declared.failure.Failure.TheVariants.{Refused, Failed}
+use Rattle.std.specs.{Prelude.{◌≡◌, ◌⊎◌, ℕ, ◌+◌, Bool, if◌then◌else◌, List, [], ◌∷◌, ◌++◌, Option, Some, None}, Bool.Decides, Io.KnownBytes.Appends}
+use Rattle.stn_refusal.specs.{declared.failure.Failure.{Failure, TheVariants.{Refused, Failed}}, Printed.refusal_text}
 use Rattle.stn_site.specs.Held.{holding_state}
 use Rattle.stn_command.specs.Query.{IsSaid, IsQueryRefusal}
-use Rattle.stn_exec.specs.{Answer.answer_text, Effect.Reply, Effect.said, Effect.declined, Effect.told}
+use Rattle.stn_exec.specs.{Answer.answer_text, Effect.{Reply, said, declined, told}}
 
 -- the text is that of an answer, or is said to a query that nothing refuses
 abbrev pub IsAnswerText : Reply → List ℕ → Type 0

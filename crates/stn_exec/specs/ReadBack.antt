@@ -2,10 +2,9 @@
 use Rattle.std.specs.Prelude.{◌≡◌, ℕ, ◌<◌, ◌^◌, List, [], ◌∷◌, Some, Ok, option_map}
 use Rattle.stn_text.specs.Lines.{words_of}
 use Rattle.stn_time.specs.Time.{IsWithinHorizon}
-use Rattle.stn_net.specs.{Difference.Difference, Difference.NamesEvents, Event.most_events}
+use Rattle.stn_net.specs.{Difference.{Difference, NamesEvents}, Event.most_events}
 use Rattle.stn_records.specs.Id.{IsId}
-use Rattle.stn_site.specs.declared.names.BoundName.{BoundName}
-use Rattle.stn_site.specs.declared.names.BoundName.TheVariants.{Plan, Record}
+use Rattle.stn_site.specs.declared.names.BoundName.{BoundName, TheVariants.{Plan, Record}}
 use Rattle.stn_exec.specs.{Command.bound_words, Effect.bound_read}
 
 -- the events and the times of the bound are some that can be printed and read

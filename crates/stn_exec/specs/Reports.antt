@@ -3,11 +3,9 @@ use Rattle.std.specs.Prelude.{◌≡◌, ℕ, ℤ, ◌+◌, false, List, ◌∷�
 use Rattle.stn_lift.specs.PlanSource.{events_of}
 use Rattle.stn_text.specs.Lines.{lines_of, words_of}
 use Rattle.stn_time.specs.TimeOf.{time_of}
-use Rattle.stn_world.specs.{World.World, World.HasSite, World.opening_world, Steps.Step, Steps.run}
-use Rattle.stn_questions.specs.{declared.asked.Question.Question, Answer.AsksOfNoEvent, Answer.AsksOfSameEvent}
-use Rattle.stn_exec.specs.Command.{query, report, ready, ask, sites_command, command_of}
-use Rattle.stn_exec.specs.{Effect.step_of, Output.IsOutput}
-use Rattle.stn_exec.specs.Script.{Start, is_skipped, heading_of, last_line, line_outcome, lines_outcome}
+use Rattle.stn_world.specs.{World.{World, HasSite, opening_world}, Steps.{Step, run}}
+use Rattle.stn_questions.specs.{declared.asked.Question.Question, Answer.{AsksOfNoEvent, AsksOfSameEvent}}
+use Rattle.stn_exec.specs.{Command.{query, report, ready, ask, sites_command, command_of}, Effect.step_of, Output.IsOutput, Script.{Start, is_skipped, heading_of, last_line, line_outcome, lines_outcome}}
 
 -- the step that a line's words are in a world, if they are one
 abbrev pub line_steps : World → List (List ℕ) → List Step

@@ -1,15 +1,12 @@
 -- For proofs alone: no public clause cites these words.
 -- What the code has read of a line, and what running it leaves.
-use Rattle.std.specs.Prelude.{◌≡◌, ℕ, ◌+◌, ◌-◌, ◌^◌, min, Bool, List, ◌++◌, Option, Result, Ok, Err}
-use Rattle.std.specs.Bool.{Decides}
+use Rattle.std.specs.{Prelude.{◌≡◌, ℕ, ◌+◌, ◌-◌, ◌^◌, min, Bool, List, ◌++◌, Option, Result, Ok, Err}, Bool.Decides}
 use Rattle.stn_text.specs.Lines.{words_of}
 use Rattle.stn_world.specs.World.{World}
-use Rattle.stn_exec.specs.{declared.command.Command.Command as CommandOfLine, declared.command.Action.Action as ActionOfLine, declared.command.BoundWords.BoundWords as BoundOfLine, declared.command.ChangeWords.ChangeWords as ChangeOfLine, declared.command.QueryWords.QueryWords as QueryOfLine, declared.script.Ran.Ran, declared.script.RunFault.RunFault, Effect.Effect, Script.Outcome, Output.IsReplyText, Output.IsRefusal, Output.CountsRefusals, Output.WritesOutput, Output.WritesOutputPart}
+use Rattle.stn_exec.specs.{declared.{command.{Command.Command as CommandOfLine, Action.Action as ActionOfLine, BoundWords.BoundWords as BoundOfLine, ChangeWords.ChangeWords as ChangeOfLine, QueryWords.QueryWords as QueryOfLine}, script.{Ran.Ran, RunFault.{RunFault, TheVariants.{Write, Memory}}}}, Effect.Effect, Script.Outcome, Output.{IsReplyText, IsRefusal, CountsRefusals, WritesOutput, WritesOutputPart}, Command.{BoundWords, ChangeWords, add, amend, withdraw, done, QueryWords, report, check, next, rehearse, ready, ask, repairs, Action, change, merge, send_all, send_items, deliver, query, Command, sites_command}}
 use Rattle.stn_exec.specs.declared.command.Action.TheVariants as line
 use Rattle.stn_exec.specs.declared.command.ChangeWords.TheVariants as changing
 use Rattle.stn_exec.specs.declared.command.QueryWords.TheVariants as asking
-use Rattle.stn_exec.specs.declared.script.RunFault.TheVariants.{Write, Memory}
-use Rattle.stn_exec.specs.Command.{BoundWords, ChangeWords, add, amend, withdraw, done, QueryWords, report, check, next, rehearse, ready, ask, repairs, Action, change, merge, send_all, send_items, deliver, query, Command, sites_command}
 
 -- the bound that the code has read from a line
 abbrev pub seen_bound : BoundOfLine → BoundWords

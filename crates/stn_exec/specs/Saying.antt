@@ -3,8 +3,7 @@
 use Rattle.std.specs.Prelude.{◌≡◌, ◌⊎◌, ℕ, List, ◌++◌, Result, Ok, Err}
 use Rattle.stn_refusal.specs.{declared.failure.Failure.Failure, Refusals.out_of_memory}
 use Rattle.stn_world.specs.{declared.faults.WorldFault.WorldFault, Failures.world_failure, World.World}
-use Rattle.stn_exec.specs.declared.answer.Answer.TheVariants.{Sent}
-use Rattle.stn_exec.specs.{declared.answer.Answer.Answer, Effect.Effect, Effect.said, Effect.declined, Output.IsAnswerText, Output.Declines}
+use Rattle.stn_exec.specs.{declared.answer.Answer.{Answer, TheVariants.Sent}, Effect.{Effect, said, declined}, Output.{IsAnswerText, Declines}}
 
 -- a call left the world, and its answer, or why there is none, is the effect's reply; or memory ran out
 abbrev pub IsEffect : Result Answer Failure → World → Effect → Type 0

@@ -1,14 +1,12 @@
 -- A script: its heading, and the fold of its commands.
-use Rattle.std.specs.Prelude.{ℕ, ◌+◌, Bool, true, ◌==◌, ◌&&◌, nat_le, if◌then◌else◌, List, [], ◌∷◌, ◌++◌, codes, slice_index, count_by, Option, Some, None, Result, Ok, Err}
-use Rattle.std.specs.Str.{bytes_eq}
-use Rattle.stn_refusal.specs.{declared.code.Code.TheVariants.Line, declared.code.Code.TheVariants.NoSite, declared.failure.Failure.Failure, Refusals.refused, Refusals.refused_at}
-use Rattle.stn_lift.specs.{declared.fault.BaseFault.BaseFault, Failures.base_failure}
-use Rattle.stn_lift.specs.PlanSource.{PlanSource, bare, files, events_of, base_of}
+use Rattle.std.specs.{Prelude.{ℕ, ◌+◌, Bool, true, ◌==◌, ◌&&◌, nat_le, if◌then◌else◌, List, [], ◌∷◌, ◌++◌, codes, slice_index, count_by, Option, Some, None, Result, Ok, Err}, Str.bytes_eq}
+use Rattle.stn_refusal.specs.{declared.{code.Code.TheVariants.{Line, NoSite}, failure.Failure.Failure}, Refusals.{refused, refused_at}}
+use Rattle.stn_lift.specs.{declared.fault.BaseFault.BaseFault, Failures.base_failure, PlanSource.{PlanSource, bare, files, events_of, base_of}}
 use Rattle.stn_records.specs.Id.{most_sites}
-use Rattle.stn_text.specs.{Lines.is_line_end, Lines.lines_of, Lines.words_of, Numbers.number_of}
+use Rattle.stn_text.specs.{Lines.{is_line_end, lines_of, words_of}, Numbers.number_of}
 use Rattle.stn_world.specs.World.{World, opening_world}
 use Rattle.stn_command.specs.Words.{and_then}
-use Rattle.stn_exec.specs.{Effect.Reply, Effect.declined, Effect.Effect, Effect.refusing, Effect.command_effect, Command.Command, Command.command_of, Blocks.Block, Blocks.is_alone, Blocks.block_from}
+use Rattle.stn_exec.specs.{Effect.{Reply, declined, Effect, refusing, command_effect}, Command.{Command, command_of}, Blocks.{Block, is_alone, block_from}}
 
 -- what running lines leaves, replies, and how many commands it counts
 pub record Outcome : Type 0 where

@@ -1,15 +1,8 @@
 ghost use Rattle.std.specs.Prelude.{◌≡◌, Ok, IfOk};
 ghost use Rattle.stn_text.specs.Lines.{words_of};
-ghost use Rattle.stn_world.specs.World.{HasSite, content_at, next_id_at};
-ghost use Rattle.stn_world.specs.Steps.{IsStep};
-ghost use Rattle.stn_command.specs.Change.{made_by};
-ghost use Rattle.stn_command.specs.Dispatch.{every_event};
-ghost use Rattle.stn_command.specs.Query.{foresee, seen_query as asked_of};
-ghost use Rattle.stn_command.specs.Words.{and_then, time_read};
-ghost use Rattle.stn_exec.specs.Command.{change, send_items, query};
-ghost use Rattle.stn_exec.specs.Effect.{change_step, telling, action_effect};
-ghost use Rattle.stn_exec.specs.Running.{seen_change, seen_query};
-ghost use Rattle.stn_exec.specs.Saying.{IsEffect, IsDone, call_answer, sent_answer};
+ghost use Rattle.stn_world.specs.{World.{HasSite, content_at, next_id_at}, Steps.IsStep};
+ghost use Rattle.stn_command.specs.{Change.made_by, Dispatch.every_event, Query.{foresee, seen_query as asked_of}, Words.{and_then, time_read}};
+ghost use Rattle.stn_exec.specs.{Command.{change, send_items, query}, Effect.{change_step, telling, action_effect}, Running.{seen_change, seen_query}, Saying.{IsEffect, IsDone, call_answer, sent_answer}};
 
 use crate::answer::Answer;
 use crate::command::{ChangeWords, QueryWords, read_records, read_tombstones};
@@ -23,7 +16,7 @@ use stn_world::{World, WorldFault};
 
 /// Changes what a site holds, as words of a line ask for.
 pub fn change<A: Allocator + Copy>(
-    world: &mut World<A>,
+    world: &mut World<A, SitePlan<A>>,
     site: u32,
     words: &ChangeWords<'_>,
 ) -> Result<Answer, Failure>
@@ -35,7 +28,7 @@ pub fn change<A: Allocator + Copy>(
 }
 
 fn change_at<A: Allocator + Copy>(
-    world: &mut World<A>,
+    world: &mut World<A, SitePlan<A>>,
     site: u32,
     asked: &Change,
 ) -> Result<Made, WorldFault>
@@ -66,7 +59,7 @@ fn change_at<A: Allocator + Copy>(
 /// withdrawn ids that they name.
 pub fn send<A: Allocator + Copy>(
     alloc: A,
-    world: &mut World<A>,
+    world: &mut World<A, SitePlan<A>>,
     site: u32,
     items: &[u8],
 ) -> Result<Answer, Failure>
@@ -100,7 +93,7 @@ pub fn answered(call: Result<(), WorldFault>, answer: Answer) -> Result<Answer, 
 /// Appends what a site that is there says to a query, whose times are words of a line.
 pub fn tell<A: Allocator + Copy>(
     alloc: A,
-    world: &World<A>,
+    world: &World<A, SitePlan<A>>,
     site: u32,
     words: &QueryWords<'_>,
     out: &mut Vec<u8, A>,
@@ -124,7 +117,7 @@ pub fn tell<A: Allocator + Copy>(
 
 // Appends what a site that is there says of all events that are left, from a time on, which is a word.
 fn tell_foreseen<A: Allocator + Copy>(
-    world: &World<A>,
+    world: &World<A, SitePlan<A>>,
     site: u32,
     outlook: Outlook,
     now: &[u8],
@@ -144,7 +137,7 @@ fn tell_foreseen<A: Allocator + Copy>(
 
 // Appends what a site that is there says to a query.
 fn tell_asked<A: Allocator + Copy>(
-    world: &World<A>,
+    world: &World<A, SitePlan<A>>,
     site: u32,
     asked: &Query<'_>,
     out: &mut Vec<u8, A>,
@@ -156,10 +149,10 @@ fn tell_asked<A: Allocator + Copy>(
 }
 
 // The copy of the plan of a site that is there.
-fn plan_at<A: Allocator + Copy>(world: &World<A>, site: u32) -> &SitePlan<A>
+fn plan_at<A: Allocator + Copy>(world: &World<A, SitePlan<A>>, site: u32) -> &SitePlan<A>
     requires { HasSite world.now site }
     ensures source { result.now.source ≡ world.now.source }
     ensures state { result.now.state ≡ content_at world.now site }
 {
-    world.replica(site).unwrap().plan()
+    world.replica(site).unwrap()
 }

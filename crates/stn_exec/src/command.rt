@@ -1,11 +1,7 @@
-ghost use Rattle.std.specs.Prelude.{◌≡◌, ◌∷◌, length, IfOk};
-ghost use Rattle.std.specs.List.{list_all, filter_map};
-ghost use Rattle.std.specs.Option.{option_map};
-ghost use Rattle.std.specs.Str.{bytes_eq};
+ghost use Rattle.std.specs.{Prelude.{◌≡◌, ◌∷◌, length, IfOk}, List.{list_all, filter_map}, Option.option_map, Str.bytes_eq};
 ghost use Rattle.stn_text.specs.Lines.{words_of};
 ghost use Rattle.stn_command.specs.Words.{id_of};
-ghost use Rattle.stn_exec.specs.Command.{lone_word, bound_words, command_of, action_of, add_of, done_of, amend_of, withdraw_of, merge_of, send_of, deliver_of, report_of, check_of, next_of, rehearse_of, alone_of, ready_of, why_of, repairs_of, query_of, tombstone_of, is_item};
-ghost use Rattle.stn_exec.specs.Running.{seen_bound, seen_command, seen_action};
+ghost use Rattle.stn_exec.specs.{Command.{lone_word, bound_words, command_of, action_of, add_of, done_of, amend_of, withdraw_of, merge_of, send_of, deliver_of, report_of, check_of, next_of, rehearse_of, alone_of, ready_of, why_of, repairs_of, query_of, tombstone_of, is_item}, Running.{seen_bound, seen_command, seen_action}};
 
 use std::alloc::Allocator;
 use stn_command::{read_event, read_id};

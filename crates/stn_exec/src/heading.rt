@@ -1,15 +1,13 @@
-ghost use Rattle.std.specs.Prelude.{◌≡◌, ◌+◌, ◌^◌, ◌<◌, ◌≤◌, ◌∷◌, true, false, length, min, Ok, IfSome, IfNone, IfOk, IfErr, codes};
-ghost use Rattle.std.specs.Option.{option_map};
+ghost use Rattle.std.specs.{Prelude.{◌≡◌, ◌+◌, ◌^◌, ◌<◌, ◌≤◌, ◌∷◌, true, false, length, min, Ok, IfSome, IfNone, IfOk, IfErr, codes}, Option.option_map};
 ghost use Rattle.stn_text.specs.Lines.{lines_of, words_of};
 ghost use Rattle.stn_lift.specs.PlanSource.{bare, files, plan_source, base_of};
-ghost use Rattle.stn_exec.specs.Blocks.{is_alone, block_from};
-ghost use Rattle.stn_exec.specs.Heading.{seen_found, seen_part, seen_block, result_seen, IsOpened, IsHeadingFailure, IsMade, IsRead};
-ghost use Rattle.stn_exec.specs.Script.{is_skipped, next_line, heading_number, part_of, refusing_fault, block_at, named_block, bare_part, files_part, based, heading_of};
+ghost use Rattle.stn_exec.specs.{Blocks.{is_alone, block_from}, Heading.{seen_found, seen_part, seen_block, result_seen, IsOpened, IsHeadingFailure, IsMade, IsRead}, Script.{is_skipped, next_line, heading_number, part_of, refusing_fault, block_at, named_block, bare_part, files_part, based, heading_of}};
 
 use std::alloc::Allocator;
 use std::rc::Rc;
 use stn_lift::{Base, Source};
 use stn_refusal::{Code, Failure};
+use stn_site::SitePlan;
 use stn_text::{first_line, first_word, read_number};
 use stn_world::World;
 
@@ -50,7 +48,7 @@ pub fn open<A: Allocator + Copy>(
     alloc: A,
     last: u32,
     script: &[u8],
-) -> Result<(World<A>, Rest<'_>), Failure>
+) -> Result<(World<A, SitePlan<A>>, Rest<'_>), Failure>
     requires { length script.now < 2 ^ 31 }
     ensures opened { IfOk result (λ opened. IsOpened (heading_of last (lines_of script.now)) opened.0 opened.1) }
     ensures within { IfOk result (λ opened. opened.1.number + length opened.1.text.now ≤ length script.now + 1) }
@@ -62,7 +60,7 @@ pub fn open<A: Allocator + Copy>(
         number: sites.found.number + 1,
         text: sites.found.behind,
     };
-    match World::new(alloc, Rc::new(alloc, base)?, saturated(sites.value)) {
+    match World::of_plans(alloc, Rc::new(alloc, base)?, saturated(sites.value)) {
         Ok(world) => Ok((world, rest)),
         Err(fault) => Err(Failure::from(fault)),
     }

@@ -2,23 +2,11 @@ ghost use Rattle.std.specs.Prelude.{◌≡◌, ◌↔◌, ℕ, ℤ, List, Some, 
 ghost use Rattle.std.specs.FinMap as map;
 ghost use Rattle.stn_text.specs.Lines.{lines_of};
 ghost use Rattle.stn_net.specs.Difference.{Difference};
-ghost use Rattle.stn_records.specs.Content.{Content, Item, HasItem};
-ghost use Rattle.stn_records.specs.Id.{SiteCounter, IsId};
-ghost use Rattle.stn_records.specs.declared.record.Record.{Record};
-ghost use Rattle.stn_site.specs.Lines.{line};
-ghost use Rattle.stn_site.specs.declared.names.BoundName.{BoundName};
-ghost use Rattle.stn_site.specs.Report.{IsReport};
-ghost use Rattle.stn_questions.specs.declared.asked.Question.{Question};
-ghost use Rattle.stn_questions.specs.Answer.{AsksOfPlan, IsAnswer};
-ghost use Rattle.stn_questions.specs.Bounds.{named_line};
-ghost use Rattle.stn_questions.specs.Ready.{IsReadyText};
-ghost use Rattle.stn_questions.specs.Records.{record_line};
-ghost use Rattle.stn_world.specs.World.{opening_world, content_at};
-ghost use Rattle.stn_world.specs.Steps.{run, TookAt, TookSameAt, TookSameItemsAt};
-ghost use Rattle.stn_exec.specs.ReadBack.{IsName, IsReadable, ReadsBack};
-ghost use Rattle.stn_exec.specs.Output.{IsOutput, CountsRefusals};
-ghost use Rattle.stn_exec.specs.Script.{Start, heading_of, last_line, script_outcome};
-ghost use Rattle.stn_exec.specs.Reports.{steps_of_lines, LineOf, first_world, steps_before, world_at, ReportsSite, AsksSite, AsksReady, PrintsAt, PrintSame};
+ghost use Rattle.stn_records.specs.{Content.{Content, Item, HasItem}, Id.{SiteCounter, IsId}, declared.record.Record.Record};
+ghost use Rattle.stn_site.specs.{Lines.line, declared.names.BoundName.BoundName, Report.IsReport};
+ghost use Rattle.stn_questions.specs.{declared.asked.Question.Question, Answer.{AsksOfPlan, IsAnswer}, Bounds.named_line, Ready.IsReadyText, Records.record_line};
+ghost use Rattle.stn_world.specs.{World.{opening_world, content_at}, Steps.{run, TookAt, TookSameAt, TookSameItemsAt}};
+ghost use Rattle.stn_exec.specs.{ReadBack.{IsName, IsReadable, ReadsBack}, Output.{IsOutput, CountsRefusals}, Script.{Start, heading_of, last_line, script_outcome}, Reports.{steps_of_lines, LineOf, first_world, steps_before, world_at, ReportsSite, AsksSite, AsksReady, PrintsAt, PrintSame}};
 
 use stn_command::{chosen_all, every_query_has_an_answer, one_said};
 use stn_questions::{one_answer, one_ready_text};

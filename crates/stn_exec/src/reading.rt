@@ -2,8 +2,7 @@ ghost use Rattle.std.specs.Prelude.{◌≡◌, ◌⊎◌, Ok, Err, IfOk, IfErr};
 ghost use Rattle.stn_refusal.specs.Refusals.{out_of_memory};
 ghost use Rattle.stn_text.specs.Lines.{words_of};
 ghost use Rattle.stn_command.specs.Words.{times_read};
-ghost use Rattle.stn_exec.specs.Effect.{side_of, bound_read, change_read};
-ghost use Rattle.stn_exec.specs.Running.{seen_bound, seen_change};
+ghost use Rattle.stn_exec.specs.{Effect.{side_of, bound_read, change_read}, Running.{seen_bound, seen_change}};
 
 use crate::command::{BoundWords, ChangeWords};
 use std::alloc::Allocator;

@@ -1,17 +1,9 @@
-ghost use Rattle.std.specs.Prelude.{◌≡◌, ◌≢◌, ◌+◌, ◌-◌, ◌^◌, ◌<◌, ◌≤◌, ◌++◌, ◌∷◌, List, ℕ, length, Ok, Err, OnOk, OnErr, IfOk, IfSome, IsErrOf};
-ghost use Rattle.std.specs.Io.KnownBytes.{Consumes, IsAtEnd, Keeps};
-ghost use Rattle.stn_device.specs.Counted.{counted_device, failure_count, KeepsCount};
-ghost use Rattle.stn_device.specs.Bytes.{most_bytes, ConsumesAtMost};
+ghost use Rattle.std.specs.{Prelude.{◌≡◌, ◌≢◌, ◌+◌, ◌-◌, ◌^◌, ◌<◌, ◌≤◌, ◌++◌, ◌∷◌, List, ℕ, length, Ok, Err, OnOk, OnErr, IfOk, IfSome, IsErrOf}, Io.KnownBytes.{Consumes, IsAtEnd, Keeps}};
+ghost use Rattle.stn_device.specs.{Counted.{counted_device, failure_count, KeepsCount}, Bytes.{most_bytes, ConsumesAtMost}};
 ghost use Rattle.stn_text.specs.Lines.{lines_of, words_of};
 ghost use Rattle.stn_refusal.specs.declared.failure.Failure.TheVariants.{Refused};
 ghost use Rattle.stn_world.specs.World.{HasSite};
-ghost use Rattle.stn_exec.specs.Effect.{action_effect, command_effect};
-ghost use Rattle.stn_exec.specs.Output.{CountsRefusals, WritesOutput, WritesOutputPart};
-ghost use Rattle.stn_exec.specs.Running.{seen_action, seen_command, IsReplied, IsRun};
-ghost use Rattle.stn_exec.specs.Saying.{IsDone, Does};
-ghost use Rattle.stn_exec.specs.Script.{line_effect, line_outcome, lines_outcome, started, script_outcome, last_line};
-ghost use Rattle.stn_exec.specs.declared.script.RunFault.TheVariants.{Read, Write, Bound, Memory};
-ghost use Rattle.stn_exec.specs.Failures.{run_failure};
+ghost use Rattle.stn_exec.specs.{Effect.{action_effect, command_effect}, Output.{CountsRefusals, WritesOutput, WritesOutputPart}, Running.{seen_action, seen_command, IsReplied, IsRun}, Saying.{IsDone, Does}, Script.{line_effect, line_outcome, lines_outcome, started, script_outcome, last_line}, declared.script.RunFault.TheVariants.{Read, Write, Bound, Memory}, Failures.run_failure};
 
 use crate::actions::{answered, change, send, sent, tell};
 use crate::answer::Answer;
@@ -21,6 +13,7 @@ use std::alloc::{AllocError, Allocator};
 use std::io::{Read, Write};
 use stn_device::{Counted, MOST_BYTES, ReadFault, WriteFault, read_whole, write_whole};
 use stn_refusal::{Code, Failure, Fault, Refusal};
+use stn_site::SitePlan;
 use stn_text::first_line;
 use stn_time::Memory;
 use stn_world::World;
@@ -83,7 +76,7 @@ impl From<RunFault> for Failure {
 // Runs the lines of a text, of which the first has this number.
 fn run_lines<W: Write, A: Allocator + Copy>(
     alloc: A,
-    world: &mut World<A>,
+    world: &mut World<A, SitePlan<A>>,
     number: u32,
     text: &[u8],
     writer: &mut Counted<W>,
@@ -112,7 +105,7 @@ fn run_lines<W: Write, A: Allocator + Copy>(
 // Runs one line.
 fn run_line<W: Write, A: Allocator + Copy>(
     alloc: A,
-    world: &mut World<A>,
+    world: &mut World<A, SitePlan<A>>,
     number: u32,
     line: &[u8],
     writer: &mut Counted<W>,
@@ -142,7 +135,7 @@ fn run_line<W: Write, A: Allocator + Copy>(
 // Whether it is refused.
 fn reply_line<A: Allocator + Copy>(
     alloc: A,
-    world: &mut World<A>,
+    world: &mut World<A, SitePlan<A>>,
     number: u32,
     word: &[u8],
     rest: &[u8],
@@ -163,7 +156,7 @@ fn reply_line<A: Allocator + Copy>(
 // Does what a line that is not skipped asks for, and appends what is answered.
 fn do_line<A: Allocator + Copy>(
     alloc: A,
-    world: &mut World<A>,
+    world: &mut World<A, SitePlan<A>>,
     number: u32,
     word: &[u8],
     rest: &[u8],
@@ -179,7 +172,7 @@ fn do_line<A: Allocator + Copy>(
 
 fn do_command<A: Allocator + Copy>(
     alloc: A,
-    world: &mut World<A>,
+    world: &mut World<A, SitePlan<A>>,
     command: &Command<'_>,
     out: &mut Vec<u8, A>,
 ) -> Result<(), Failure>
@@ -194,7 +187,7 @@ fn do_command<A: Allocator + Copy>(
 // Does an action of a site that is there.
 fn do_action<A: Allocator + Copy>(
     alloc: A,
-    world: &mut World<A>,
+    world: &mut World<A, SitePlan<A>>,
     site: u32,
     action: &Action<'_>,
     out: &mut Vec<u8, A>,

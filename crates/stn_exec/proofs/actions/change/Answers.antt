@@ -1,7 +1,6 @@
 use Rattle.std.proofs.lemmas.Result.{err_from_is_err_and}
 use Rattle.stn_command.specs.declared.changes.Made.{Made}
-use Rattle.stn_exec.specs.{Effect.change_read, Running.seen_change}
-use Rattle.stn_exec.proofs.Effects.{unread, refused_change, made_change}
+use Rattle.stn_exec.{specs.{Effect.change_read, Running.seen_change}, proofs.Effects.{unread, refused_change, made_change}}
 use Rattle.stn_exec.proofs.actions.change.Goals as goal
 
 pub returns-in_err-asked : goal.returns-in_err-asked

@@ -1,10 +1,8 @@
-use Rattle.std.proofs.Common.{List, subst, ◌∙◌}
-use Rattle.std.specs.List.{filter_map}
+use Rattle.std.{proofs.Common.{List, subst, ◌∙◌}, specs.List.filter_map}
 use Rattle.stn_text.specs.Lines.{words_of}
 use Rattle.stn_records.specs.{Content.part_of, Id.SiteCounter}
 use Rattle.stn_world.specs.{Parts.holds_all, World.content_at}
-use Rattle.stn_exec.specs.{Command.send, Command.tombstone_of, Effect.action_effect, Saying.IsEffect}
-use Rattle.stn_exec.proofs.Effects.{sending_effect}
+use Rattle.stn_exec.{specs.{Command.{send, tombstone_of}, Effect.action_effect, Saying.IsEffect}, proofs.Effects.sending_effect}
 use Rattle.stn_exec.proofs.actions.send.Goals as goal
 
 pub returns : goal.returns

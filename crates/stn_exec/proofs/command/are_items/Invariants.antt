@@ -1,5 +1,4 @@
-use Rattle.std.proofs.Common.{◌≡◌, length}
-use Rattle.std.specs.List.{list_all}
+use Rattle.std.{proofs.Common.{◌≡◌, length}, specs.List.list_all}
 use Rattle.stn_text.specs.Lines.{words_of}
 use Rattle.stn_exec.specs.Command.{is_item}
 use Rattle.stn_exec.proofs.command.are_items.Given as goal

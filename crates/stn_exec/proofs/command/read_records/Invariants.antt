@@ -1,5 +1,4 @@
-use Rattle.std.proofs.Common.{◌≡◌, ◌++◌, length}
-use Rattle.std.specs.List.{filter_map}
+use Rattle.std.{proofs.Common.{◌≡◌, ◌++◌, length}, specs.List.filter_map}
 use Rattle.stn_text.specs.Lines.{words_of}
 use Rattle.stn_command.specs.Words.{id_of}
 use Rattle.stn_exec.proofs.command.read_records.Given as goal

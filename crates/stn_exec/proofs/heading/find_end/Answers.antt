@@ -1,6 +1,5 @@
-use Rattle.std.proofs.Common.{◌≡◌, ◌+◌, ◌-◌, ◌<◌, length, sym, ◌∙◌, arith}
-use Rattle.std.proofs.lemmas.Grind.{common_steps}
-use Rattle.stn_exec.proofs.{Blocks.sought_on, Blocks.sought_end, Blocks.sought_none, Scripts.lines_of-none}
+use Rattle.std.proofs.{Common.{◌≡◌, ◌+◌, ◌-◌, ◌<◌, length, sym, ◌∙◌, arith}, lemmas.Grind.common_steps}
+use Rattle.stn_exec.proofs.{Blocks.{sought_on, sought_end, sought_none}, Scripts.lines_of-none}
 use Rattle.stn_exec.proofs.heading.find_end.Goals as goal
 
 pub returns-then-is_end-clause-block : goal.returns-then-is_end-clause-block

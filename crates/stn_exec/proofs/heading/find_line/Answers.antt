@@ -1,8 +1,6 @@
-use Rattle.std.proofs.Common.{ℕ, List, Some, sym, ap, ◌∙◌, arith}
-use Rattle.std.proofs.lemmas.Grind.{common_steps}
+use Rattle.std.proofs.{Common.{ℕ, List, Some, sym, ap, ◌∙◌, arith}, lemmas.Grind.common_steps}
 use Rattle.stn_text.specs.Lines.{lines_of}
-use Rattle.stn_exec.specs.Script.{next_line}
-use Rattle.stn_exec.proofs.Scripts.{lines_of-none, next_line-here, next_line-skip, next_line-none}
+use Rattle.stn_exec.{specs.Script.next_line, proofs.Scripts.{lines_of-none, next_line-here, next_line-skip, next_line-none}}
 use Rattle.stn_exec.proofs.heading.find_line.Goals as goal
 
 pub returns-in-Some-clause-found : goal.returns-in-Some-clause-found

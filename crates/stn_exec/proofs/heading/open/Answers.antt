@@ -1,10 +1,8 @@
-use Rattle.std.proofs.Common.{◌≡◌, ◌≤◌, ◌+◌, inr, refl, sym, ap, ◌∙◌, arith}
-use Rattle.std.proofs.lemmas.Result.{err_from_is_err_and}
+use Rattle.std.proofs.{Common.{◌≡◌, ◌≤◌, ◌+◌, inr, refl, sym, ap, ◌∙◌, arith}, lemmas.Result.err_from_is_err_and}
 use Rattle.stn_lift.specs.PlanSource.{PlanSource}
 use Rattle.stn_text.specs.Lines.{lines_of}
 use Rattle.stn_world.specs.World.{opening_world}
-use Rattle.stn_exec.specs.{Heading.seen_part, Heading.seen_base, Script.based, Script.with_sites}
-use Rattle.stn_exec.proofs.Scripts.{fails_first, heading-fault, heading-unopened, heading-made, sites_of-some}
+use Rattle.stn_exec.{specs.{Heading.{seen_part, seen_base}, Script.{based, with_sites}}, proofs.Scripts.{fails_first, heading-fault, heading-unopened, heading-made, sites_of-some}}
 use Rattle.stn_exec.proofs.heading.open.Goals as goal
 
 pub returns-in_err-base-clause-refused : goal.returns-in_err-base-clause-refused

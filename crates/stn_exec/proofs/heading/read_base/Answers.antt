@@ -1,8 +1,7 @@
 use Rattle.std.proofs.Common.{Err, Result, inr, subst, sym, ap, ◌∙◌}
 use Rattle.stn_text.specs.Lines.{lines_of}
 use Rattle.stn_refusal.specs.declared.failure.Failure.{Failure}
-use Rattle.stn_exec.specs.{Heading.seen_found, Heading.IsRead, Script.Based}
-use Rattle.stn_exec.proofs.Blocks.{based-none, based-files, based-bare}
+use Rattle.stn_exec.{specs.{Heading.{seen_found, IsRead}, Script.Based}, proofs.Blocks.{based-none, based-files, based-bare}}
 use Rattle.stn_exec.proofs.heading.read_base.Goals as goal
 
 pub returns-then-stands_alone-clause-read : goal.returns-then-stands_alone-clause-read

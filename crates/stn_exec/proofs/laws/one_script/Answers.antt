@@ -1,5 +1,4 @@
-use Rattle.stn_exec.specs.Script.{script_outcome}
-use Rattle.stn_exec.proofs.Outputs.{one_output, one_count}
+use Rattle.stn_exec.{specs.Script.script_outcome, proofs.Outputs.{one_output, one_count}}
 use Rattle.stn_exec.proofs.laws.one_script.Goals as goal
 
 pub returns-clause-output : goal.returns-clause-output

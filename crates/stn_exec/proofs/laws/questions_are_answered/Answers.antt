@@ -1,10 +1,8 @@
 use Rattle.std.proofs.Common.{subst}
 use Rattle.stn_lift.specs.PlanSource.{PlanSource}
 use Rattle.stn_world.specs.World.{content_at}
-use Rattle.stn_questions.specs.Answer.{IsAnswer}
-use Rattle.stn_questions.proofs.{Counted.counted_answer, OneAnswer.same_answer}
-use Rattle.stn_exec.specs.Reports.{world_at}
-use Rattle.stn_exec.proofs.Reports.{answers, same_states, same_counts}
+use Rattle.stn_questions.{specs.Answer.IsAnswer, proofs.{Counted.counted_answer, OneAnswer.same_answer}}
+use Rattle.stn_exec.{specs.Reports.world_at, proofs.Reports.{answers, same_states, same_counts}}
 use Rattle.stn_exec.proofs.laws.questions_are_answered.Goals as goal
 
 pub returns-clause-answer : goal.returns-clause-answer

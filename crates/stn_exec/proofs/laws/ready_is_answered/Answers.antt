@@ -1,10 +1,8 @@
 use Rattle.std.proofs.Common.{subst}
 use Rattle.stn_lift.specs.PlanSource.{PlanSource}
 use Rattle.stn_world.specs.World.{content_at}
-use Rattle.stn_questions.specs.Ready.{IsReadyText}
-use Rattle.stn_questions.proofs.Counted.{same_ready}
-use Rattle.stn_exec.specs.Reports.{world_at}
-use Rattle.stn_exec.proofs.Reports.{ready_said, same_counts}
+use Rattle.stn_questions.{specs.Ready.IsReadyText, proofs.Counted.same_ready}
+use Rattle.stn_exec.{specs.Reports.world_at, proofs.Reports.{ready_said, same_counts}}
 use Rattle.stn_exec.proofs.laws.ready_is_answered.Goals as goal
 
 pub returns-clause-text : goal.returns-clause-text

@@ -1,5 +1,5 @@
 use Rattle.std.proofs.Common.{refl, true}
-use Rattle.stn_world.specs.{Steps.merged, Steps.delivered, World.content_at}
+use Rattle.stn_world.specs.{Steps.{merged, delivered}, World.content_at}
 use Rattle.stn_exec.specs.declared.answer.Answer.TheVariants as answer
 use Rattle.stn_exec.proofs.Effects.{call_effect, sending_effect}
 use Rattle.stn_exec.proofs.script.do_action.Goals as goal

@@ -1,8 +1,7 @@
 use Rattle.std.proofs.Common.{ap, ◌∙◌}
 use Rattle.stn_refusal.specs.declared.failure.Failure.{Failure}
 use Rattle.stn_world.specs.World.{HasSite}
-use Rattle.stn_exec.specs.{Effect.declined, Running.seen_action}
-use Rattle.stn_exec.proofs.Effects.{missing_effect, not_there, refused_done}
+use Rattle.stn_exec.{specs.{Effect.declined, Running.seen_action}, proofs.Effects.{missing_effect, not_there, refused_done}}
 use Rattle.stn_exec.proofs.script.do_command.Goals as goal
 
 pub returns-then-is_none : goal.returns-then-is_none

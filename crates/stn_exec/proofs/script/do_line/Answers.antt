@@ -2,8 +2,7 @@ use Rattle.std.proofs.Common.{◌∷◌, Some, None, subst, ap, ◌∙◌}
 use Rattle.stn_refusal.specs.declared.failure.Failure.{Failure}
 use Rattle.stn_text.specs.Lines.{words_of}
 use Rattle.stn_lift.specs.PlanSource.{events_of}
-use Rattle.stn_exec.specs.{Command.command_of, Running.seen_command, Saying.IsDone, Effect.Effect, Effect.declined}
-use Rattle.stn_exec.proofs.{Effects.refused_done, Scripts.line_effect-is}
+use Rattle.stn_exec.{specs.{Command.command_of, Running.seen_command, Saying.IsDone, Effect.{Effect, declined}}, proofs.{Effects.refused_done, Scripts.line_effect-is}}
 use Rattle.stn_exec.proofs.script.do_line.Goals as goal
 
 pub returns-in-Some : goal.returns-in-Some

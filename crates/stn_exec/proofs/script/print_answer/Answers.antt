@@ -1,5 +1,4 @@
-use Rattle.std.proofs.Common.{inl}
-use Rattle.std.proofs.lemmas.Result.{err_from_is_err_and}
+use Rattle.std.proofs.{Common.inl, lemmas.Result.err_from_is_err_and}
 use Rattle.stn_exec.proofs.Effects.{undone, answer_done}
 use Rattle.stn_exec.proofs.script.print_answer.Goals as goal
 

@@ -1,9 +1,7 @@
-use Rattle.std.proofs.Common.{◌≡◌, inr, refl, subst, arith}
-use Rattle.std.proofs.{lemmas.Grind.common_steps, lemmas.Result.err_from_is_err_and}
+use Rattle.std.proofs.{Common.{◌≡◌, inr, refl, subst, arith}, lemmas.{Grind.common_steps, Result.err_from_is_err_and}}
 use Rattle.stn_device.specs.{Bytes.AppendsPart, Counted.counted_device}
 use Rattle.stn_refusal.specs.{declared.failure.Failure.TheVariants.Refused, Printed.refusal_text}
-use Rattle.stn_exec.specs.Effect.{declined}
-use Rattle.stn_exec.proofs.Scripts.{part-one}
+use Rattle.stn_exec.{specs.Effect.declined, proofs.Scripts.part-one}
 use Rattle.stn_exec.proofs.script.refuse.Goals as goal
 
 pub returns-in_err-write_whole : goal.returns-in_err-write_whole

@@ -1,8 +1,7 @@
 use Rattle.std.proofs.Common.{◌∷◌, Err, subst}
 use Rattle.stn_refusal.specs.declared.failure.Failure.{Failure}
 use Rattle.stn_text.specs.Lines.{words_of}
-use Rattle.stn_exec.specs.{Saying.IsDone, Script.line_effect}
-use Rattle.stn_exec.proofs.Scripts.{done_replied, refused_replied}
+use Rattle.stn_exec.{specs.{Saying.IsDone, Script.line_effect}, proofs.Scripts.{done_replied, refused_replied}}
 use Rattle.stn_exec.proofs.script.reply_line.Goals as goal
 
 pub returns-in-Ok : goal.returns-in-Ok

@@ -1,10 +1,7 @@
-use Rattle.std.proofs.Common.{[], Err, ap, refl, subst}
-use Rattle.std.proofs.KnownBytes.{Keeps-refl}
+use Rattle.std.proofs.{Common.{[], Err, ap, refl, subst}, KnownBytes.Keeps-refl}
 use Rattle.stn_device.specs.Counted.{counted_device, failure_count}
-use Rattle.stn_exec.specs.{Running.IsRun, Script.script_outcome}
-use Rattle.stn_exec.proofs.Scripts.{part-nil, IfSome-all}
+use Rattle.stn_exec.{specs.{Running.IsRun, Script.script_outcome}, proofs.{Scripts.{part-nil, IfSome-all}, Runs.{counts_more, on_ok, ran_whole, part_written, some_part_written, count_kept}}}
 use Rattle.stn_site.proofs.Values.{ok_not_err}
-use Rattle.stn_exec.proofs.Runs.{counts_more, on_ok, ran_whole, part_written, some_part_written, count_kept}
 use Rattle.stn_exec.proofs.script.run.Goals as goal
 
 pub returns-in-Ok : goal.returns-in-Ok

@@ -1,10 +1,7 @@
-use Rattle.std.proofs.Common.{◌≡◌, ◌∷◌, ℕ, List, [], cond, refl, sym, ap, ◌∙◌, subst, arith}
-use Rattle.std.proofs.{KnownBytes.Appends-nil, lemmas.Grind.common_steps, lemmas.Result.err_from_is_err_and}
-use Rattle.std.specs.Io.KnownBytes.{Appends}
+use Rattle.std.{proofs.{Common.{◌≡◌, ◌∷◌, ℕ, List, [], cond, refl, sym, ap, ◌∙◌, subst, arith}, KnownBytes.Appends-nil, lemmas.{Grind.common_steps, Result.err_from_is_err_and}}, specs.Io.KnownBytes.Appends}
 use Rattle.stn_device.specs.{Bytes.AppendsPart, Counted.counted_device}
 use Rattle.stn_text.specs.Lines.{words_of}
-use Rattle.stn_exec.specs.{Output.CountsRefusals, Output.WritesOutput, Output.WritesOutputPart, Script.Outcome, Script.effect_outcome, Script.line_effect, Script.line_outcome}
-use Rattle.stn_exec.proofs.{Outputs.count_none, Outputs.count_one, Scripts.line_outcome-skipped, Scripts.line_outcome-run, Scripts.output_one, Scripts.part-one}
+use Rattle.stn_exec.{specs.{Output.{CountsRefusals, WritesOutput, WritesOutputPart}, Script.{Outcome, effect_outcome, line_effect, line_outcome}}, proofs.{Outputs.{count_none, count_one}, Scripts.{line_outcome-skipped, line_outcome-run, output_one, part-one}}}
 use Rattle.stn_exec.proofs.script.run_line.Goals as goal
 
 pub returns-in_err-write_whole-in-Some-clause-run : goal.returns-in_err-write_whole-in-Some-clause-run

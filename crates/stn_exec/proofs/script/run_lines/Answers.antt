@@ -1,9 +1,7 @@
-use Rattle.std.proofs.Common.{◌≡◌, ◌++◌, ℕ, refl, ap, subst, append-nil, ◌∙◌, arith}
-use Rattle.std.proofs.{lemmas.Grind.common_steps, lemmas.Result.err_from_is_err_and}
+use Rattle.std.proofs.{Common.{◌≡◌, ◌++◌, ℕ, refl, ap, subst, append-nil, ◌∙◌, arith}, lemmas.{Grind.common_steps, Result.err_from_is_err_and}}
 use Rattle.stn_device.specs.Counted.{failure_count}
 use Rattle.stn_text.specs.Lines.{lines_of, words_of}
-use Rattle.stn_exec.specs.{Running.LeavesCount, Script.Outcome, Script.line_outcome, Script.lines_outcome}
-use Rattle.stn_exec.proofs.Scripts.{lines_outcome-none, lines_outcome-more, line_outcome-counts, texts-more, texts-part}
+use Rattle.stn_exec.{specs.{Running.LeavesCount, Script.{Outcome, line_outcome, lines_outcome}}, proofs.Scripts.{lines_outcome-none, lines_outcome-more, line_outcome-counts, texts-more, texts-part}}
 use Rattle.stn_exec.proofs.script.run_lines.Goals as goal
 
 pub overflow_add-ran : goal.overflow_add-ran

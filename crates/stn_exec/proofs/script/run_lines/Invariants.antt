@@ -1,5 +1,5 @@
 use Rattle.std.proofs.Common.{◌≡◌, ◌+◌, ◌≤◌, ◌++◌, List, length}
-use Rattle.stn_exec.specs.{Effect.Reply, Output.CountsRefusals, Output.WritesOutput, Script.lines_outcome}
+use Rattle.stn_exec.specs.{Effect.Reply, Output.{CountsRefusals, WritesOutput}, Script.lines_outcome}
 use Rattle.stn_device.specs.Counted.{counted_device, failure_count}
 use Rattle.stn_text.specs.Lines.{lines_of}
 use Rattle.stn_exec.proofs.script.run_lines.Given as goal

@@ -2,8 +2,7 @@ use Rattle.std.proofs.Common.{Err, refl, sym, ap, ◌∙◌, subst}
 use Rattle.stn_device.specs.Counted.{counted_device, failure_count}
 use Rattle.stn_text.specs.Lines.{lines_of}
 use Rattle.stn_refusal.specs.declared.failure.Failure.TheVariants.{Refused}
-use Rattle.stn_exec.specs.{Heading.IsHeadingFailure, Running.IsRun, Script.Outcome, Script.heading_of}
-use Rattle.stn_exec.proofs.Scripts.{heading-refused, opened_outcome, script_outcome-is, part-nil}
+use Rattle.stn_exec.{specs.{Heading.IsHeadingFailure, Running.IsRun, Script.{Outcome, heading_of}}, proofs.Scripts.{heading-refused, opened_outcome, script_outcome-is, part-nil}}
 use Rattle.stn_exec.proofs.script.run_script.Goals as goal
 
 pub returns-in-Ok : goal.returns-in-Ok
