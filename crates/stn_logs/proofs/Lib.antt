@@ -1,5 +1,4 @@
 mod Made
 mod Unsaved
 mod OneEnding
-mod Guarded
 mod Spelled

@@ -2,12 +2,9 @@
 use Rattle.std.proofs.Common.{◌≡◌, ◌⊎◌, ℕ, false, List, Option, Result, Ok, Err, OnOk, OnErr, IfErr, subst}
 use Rattle.stn_lift.specs.PlanSource.{PlanSource}
 use Rattle.stn_records.specs.Content.{Content}
-use Rattle.stn_store.specs.Log.{Log}
-use Rattle.stn_store.specs.Store.{Entry, IsThere, IsTaken, IsLack, saved_too}
-use Rattle.stn_store.specs.Steps.{SavesNew}
+use Rattle.stn_store.specs.{Log.Log, Store.{Entry, IsThere, IsTaken, IsLack, saved_too}, Steps.SavesNew}
 use Rattle.stn_logs.specs.Commands.{SavesMade}
-use Rattle.stn_refusal.specs.declared.failure.Failure.{Failure}
-use Rattle.stn_refusal.specs.declared.failure.Fault.{Fault}
+use Rattle.stn_refusal.specs.declared.failure.{Failure.Failure, Fault.Fault}
 
 -- the same log was saved
 pub saved_as : (Fails : Fault → Type 0) (name : List ℕ) (source same : PlanSource) (state held : Content) (old new : Option (List Entry)) (ended : Result (List ℕ) Failure)

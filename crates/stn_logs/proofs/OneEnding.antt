@@ -1,54 +1,19 @@
 -- A command has one ending, but for lacks.
-use Rattle.std.proofs.Common.{◌≡◌, inl, inr, ℕ, ◌+◌, Bool, true, false, List, length, take, Option, Some, None, is_some, option_map, Result, Ok, Err, refl, sym, ap, subst, ◌∙◌, arith, length-append}
-use Rattle.std.proofs.lemmas.Bool.{false≢true}
-use Rattle.std.proofs.lemmas.Option.{same_Some}
-use Rattle.std.specs.Borrow.{Bor}
+use Rattle.std.{proofs.{Common.{◌≡◌, inl, inr, ℕ, ◌+◌, Bool, true, false, List, length, take, Option, Some, None, is_some, option_map, Result, Ok, Err, refl, sym, ap, subst, ◌∙◌, arith, length-append}, lemmas.{Bool.false≢true, Option.same_Some}}, specs.{Borrow.Bor, Prelude.{⊤, codes, [], ◌∷◌, ◌++◌}}}
 use Rattle.stn_device.proofs.Known.{not_err}
-use Rattle.stn_net.specs.Difference.{Difference}
-use Rattle.stn_lift.specs.PlanSource.{PlanSource, bare, files}
-use Rattle.stn_lift.specs.Failures.{base_failure}
-use Rattle.stn_lift.specs.declared.fault.BaseFault.{BaseFault}
-use Rattle.stn_site.specs.Held.{Held}
-use Rattle.stn_site.specs.Failures.{replica_failure}
-use Rattle.stn_store.specs.Log.{Log, log_held, IsLog}
-use Rattle.stn_store.specs.Log.Failures.{load_failure}
-use Rattle.stn_store.specs.declared.log.fault.LoadFault.{LoadFault}
-use Rattle.stn_command.specs.Change.{change_refusal}
-use Rattle.stn_command.specs.Named.{names_refusal}
-use Rattle.stn_command.specs.declared.changes.Change.{Change}
-use Rattle.stn_command.specs.declared.changes.Change.TheVariants.{Add, Amend, Withdraw, Done}
-use Rattle.stn_command.specs.Query.{Query, report, check, foresee, ask, repairs, draw, IsSaid, IsQueryRefusal}
+use Rattle.stn_net.specs.{Difference.Difference, Schedule.HasSchedule}
+use Rattle.stn_lift.specs.{PlanSource.{PlanSource, bare, files, events_of, base_of, steps_of}, Failures.base_failure, declared.fault.BaseFault.BaseFault}
+use Rattle.stn_site.specs.{Held.Held, Failures.replica_failure, Bounds.all_bounds, declared.faults.ReplicaFault.ReplicaFault}
+use Rattle.stn_store.specs.{Log.{Log, log_held, IsLog, Failures.load_failure}, declared.log.fault.LoadFault.LoadFault, Store.{Entry, Holds, IsThere, IsTaken, IsMissing, Spells, Means, Opens, IsUnopened}, Steps.{Entries, FindsFree, FindsText, LoadsLog, SavesNew}, Merging.IsMergeRefusal}
+use Rattle.stn_command.specs.{Change.change_refusal, Named.{names_refusal, Shown, IsNamed, listed, pictured}, declared.changes.Change.{Change, TheVariants.{Add, Amend, Withdraw, Done}}, Query.{Query, report, check, foresee, ask, repairs, draw, IsSaid, IsQueryRefusal}}
 use Rattle.stn_command.specs.declared.queries.Outlook.TheVariants as outlook
-use Rattle.stn_net.specs.Schedule.{HasSchedule}
-use Rattle.stn_lift.specs.PlanSource.{events_of}
-use Rattle.stn_site.specs.Bounds.{all_bounds}
-use Rattle.stn_site.specs.declared.faults.ReplicaFault.{ReplicaFault}
-use Rattle.stn_guard.specs.Adding.{IsGuardRefusal, no_step, conflict, guarded, records_refusal, owner_by}
-use Rattle.stn_guard.specs.Making.{IsGuardOf}
-use Rattle.stn_guard.specs.declared.owners.OwnedSteps.{OwnedSteps}
-use Rattle.stn_loosen.specs.Slack.{Slack}
-use Rattle.stn_loosen.specs.Loosened.{AreFewLoosened, AreTooMany}
-use Rattle.stn_loosen.specs.Robust.{AreRobust, AreFewRobust, AreTooManyRobust}
-use Rattle.stn_refusal.specs.declared.failure.Failure.{Failure}
-use Rattle.stn_refusal.specs.declared.failure.Fault.{Fault}
-use Rattle.std.specs.Prelude.{⊤, codes, [], ◌∷◌, ◌++◌}
-use Rattle.stn_effects.specs.Effects.{Effect, Then, Makes, Reads, Gives, EndAlike}
-use Rattle.stn_effects.proofs.Endings.{EndSo, makes_same, reads_same, then_alike, then_done_alike, gives_alike, gives_lacks, lacks_alike, finds_alike, makes_alike, reads_alike, as_alike}
-use Rattle.stn_lift.specs.PlanSource.{base_of, steps_of}
+use Rattle.stn_guard.specs.{Adding.{IsGuardRefusal, no_step, conflict, guarded, records_refusal, owner_by}, Making.IsGuardOf, declared.owners.OwnedSteps.OwnedSteps}
+use Rattle.stn_loosen.specs.{Slack.Slack, Loosened.{AreFewLoosened, AreTooMany}, Robust.{AreRobust, AreFewRobust, AreTooManyRobust}}
+use Rattle.stn_refusal.specs.declared.failure.{Failure.Failure, Fault.Fault}
+use Rattle.stn_effects.{specs.Effects.{Effect, Then, Makes, Reads, Gives, EndAlike}, proofs.Endings.{EndSo, makes_same, reads_same, then_alike, then_done_alike, gives_alike, gives_lacks, lacks_alike, finds_alike, makes_alike, reads_alike, as_alike}}
 use Rattle.stn_records.specs.Content.{Content, no_content}
-use Rattle.stn_command.specs.Guarding.{IsGuarded}
-use Rattle.stn_command.specs.Named.{IsNamed}
-use Rattle.stn_command.specs.declared.names.Shown.{Shown}
-use Rattle.stn_line.specs.Explanations.Explained.{IsExplained}
-use Rattle.stn_line.specs.declared.words.Line.{Line}
-use Rattle.stn_line.specs.declared.words.SiteLog.{SiteLog}
-use Rattle.stn_store.specs.Store.{Entry, Holds, IsThere, IsTaken, IsMissing, Spells, Means, Opens, IsUnopened}
-use Rattle.stn_store.specs.Steps.{Entries, FindsFree, FindsText, LoadsLog, SavesNew}
-use Rattle.stn_logs.specs.Words.{Asked, Update, change, merge, guard, make_bare, make, make_loose, explain, update, named_by, query, asked_of}
-use Rattle.stn_logs.specs.Loosening.{HoldsLoosened, IsLoosenedRefusal, IsRobustRefusal, WithBase, IsLooseningRefusal}
-use Rattle.stn_logs.specs.Commands.{Updated, based, SavesMade, MakesLog, FindsSource, IsChanged, IsMerged, IsUnguarded, Updates, nameless, ShowsNamed, IsExplainRefusal, DoesAsked, DoesLine}
-use Rattle.stn_logs.proofs.Unsaved.{free_same, text_same, load_same, source_same, update_same, SavesUpdated, saved_lacks}
-use Rattle.stn_store.specs.Merging.{IsMergeRefusal}
+use Rattle.stn_line.specs.{Explanations.Explained.IsExplained, declared.words.{Line.Line, SiteLog.SiteLog}}
+use Rattle.stn_logs.{specs.{Words.{Asked, Update, change, merge, guard, make_bare, make, make_loose, explain, update, named_by, query, asked_of}, Loosening.{HoldsLoosened, IsLoosenedRefusal, IsRobustRefusal, WithBase, IsLooseningRefusal}, Commands.{Updated, SavesUpdated, IsGuarded, based, SavesMade, MakesLog, FindsSource, IsChanged, IsMerged, IsUnguarded, Updates, nameless, ShowsNamed, IsExplainRefusal, DoesAsked, DoesLine}}, proofs.Unsaved.{free_same, text_same, load_same, source_same, update_same, saved_lacks}}
 
 -- at most one cause is named
 abbrev IsOne : (Option Failure → Type 0) → Type 0
@@ -131,7 +96,11 @@ query_at_rest (foresee outlook.Ready now choice) held cause p = p
 query_at_rest (foresee outlook.Rehearse now choice) held cause p = p
 query_at_rest (ask question) held cause p = p
 query_at_rest repairs held cause p = p
-query_at_rest draw held cause p = p
+query_at_rest (draw look) held cause p = p
+
+names_at_rest : (what : Shown) (held : Held) (names : List ℕ) → names_refusal what held names ≡ names_refusal what (idle held) names
+names_at_rest listed held names = refl
+names_at_rest (pictured look) held names = refl
 
 -- at most one refusal of a guard
 module _ (guards : (owner : ℕ → ℕ) (events : ℕ) (bounds one other : List Difference) → HasSchedule bounds → IsGuardOf owner events bounds one → IsGuardOf owner events bounds other → one ≡ other)
@@ -273,23 +242,25 @@ module _ (logs : (bytes : List ℕ) (one other : Result Log LoadFault) → IsLog
           (λ theirs copy alike. makes_alike Fails (IsMerged theirs held) (IsMerged copy other) (IsMergeRefusal held theirs) (IsMergeRefusal other copy) known
           (λ cause reason p q. one_merge (idle other) (idle copy) cause reason
           (subst (λ (one : Held). IsMergeRefusal one (idle copy) cause) same (subst (λ (one : Held). IsMergeRefusal (idle held) one cause) alike p)) q))
-      update_alike (guard owned) = makes_alike Fails (λ made. IsGuarded owned held made.held made.text) (λ made. IsGuarded owned other made.held made.text)
+      update_alike (guard owned) = makes_alike Fails (IsGuarded owned held) (IsGuarded owned other)
           (IsUnguarded owned held) (IsUnguarded owned other) known (at_rest_alike (IsUnguarded owned) (guard_at_rest owned) (one_unguarded guards owned))
 
-      names_alike : (names others : List ℕ) → names ≡ others → names_refusal held names ≡ names_refusal other others
-      names_alike names others alike = ap (λ (one : Held). names_refusal one names) same ∙ ap (names_refusal (idle other)) alike
+      names_alike : (what : Shown) (names others : List ℕ) → names ≡ others → names_refusal what held names ≡ names_refusal what other others
+      names_alike what names others alike =
+          names_at_rest what held names ∙ ap (λ (one : Held). names_refusal what one names) same
+          ∙ ap (names_refusal what (idle other)) alike ∙ sym (names_at_rest what other others)
 
       shown_alike : (what : Shown) (plan : List ℕ) → EndSo Fails (λ _ _. ⊤) known (ShowsNamed Fails what plan held) (ShowsNamed Fails what plan other)
-      shown_alike what plan = then_alike Fails (Reads Fails (nameless held.source)) (λ _. Then (FindsText Fails plan) (λ names. Makes Fails (IsNamed what names held) (λ cause. cause ≡ names_refusal held names)))
-          (Reads Fails (nameless other.source)) (λ _. Then (FindsText Fails plan) (λ names. Makes Fails (IsNamed what names other) (λ cause. cause ≡ names_refusal other names)))
+      shown_alike what plan = then_alike Fails (Reads Fails (nameless held.source)) (λ _. Then (FindsText Fails plan) (λ names. Makes Fails (IsNamed what names held) (λ cause. cause ≡ names_refusal what held names)))
+          (Reads Fails (nameless other.source)) (λ _. Then (FindsText Fails plan) (λ names. Makes Fails (IsNamed what names other) (λ cause. cause ≡ names_refusal what other names)))
           (λ one last. one ≡ last) (λ _ _. ⊤) known (reads_same Fails (nameless held.source)) (reads_same Fails (nameless other.source))
           (subst (λ (one : Held). EndSo Fails (λ one last. one ≡ last) known (Reads Fails (nameless held.source)) (Reads Fails (nameless one.source))) same
           (reads_alike Fails (nameless held.source) known))
-          (λ _ _ _. then_alike Fails (FindsText Fails plan) (λ names. Makes Fails (IsNamed what names held) (λ cause. cause ≡ names_refusal held names))
-          (FindsText Fails plan) (λ names. Makes Fails (IsNamed what names other) (λ cause. cause ≡ names_refusal other names))
+          (λ _ _ _. then_alike Fails (FindsText Fails plan) (λ names. Makes Fails (IsNamed what names held) (λ cause. cause ≡ names_refusal what held names))
+          (FindsText Fails plan) (λ names. Makes Fails (IsNamed what names other) (λ cause. cause ≡ names_refusal what other names))
           (λ one last. one ≡ last) (λ _ _. ⊤) known (text_same Fails plan) (text_same Fails plan) (text_alike plan)
-          (λ names others alike. makes_alike Fails (IsNamed what names held) (IsNamed what others other) (λ cause. cause ≡ names_refusal held names) (λ cause. cause ≡ names_refusal other others) known
-          (λ cause reason p q. p ∙ (names_alike names others alike ∙ sym q))))
+          (λ names others alike. makes_alike Fails (IsNamed what names held) (IsNamed what others other) (λ cause. cause ≡ names_refusal what held names) (λ cause. cause ≡ names_refusal what other others) known
+          (λ cause reason p q. p ∙ (names_alike what names others alike ∙ sym q))))
 
     -- ---- a command
     abbrev Looser : SiteLog → Slack → Bool → PlanSource → Effect Entries (List ℕ)

@@ -1,9 +1,7 @@
 -- The bytes that say what is known of a log.
-use Rattle.std.proofs.Common.{◌≡◌, ℕ, List, Bool, true, Option, Some, Ok, Vec, sym, subst}
-use Rattle.std.specs.Prelude.{IfSome}
+use Rattle.std.{proofs.Common.{◌≡◌, ℕ, List, Bool, true, Option, Some, Ok, Vec, sym, subst}, specs.Prelude.IfSome}
 use Rattle.stn_site.specs.Held.{Held}
-use Rattle.stn_store.specs.Log.{log_held, IsLog}
-use Rattle.stn_store.specs.Store.{Entry, Has, Opens}
+use Rattle.stn_store.specs.{Log.{log_held, IsLog}, Store.{Entry, Has, Opens}}
 
 -- these are they
 pub this_text : {A : Type 0} (text : Option (Vec ℕ A)) (bytes : Vec ℕ A) (held : Held) → text ≡ Some bytes

@@ -1,28 +1,14 @@
 -- What a step of a command leaves; a command that gives no answer saves nothing.
-use Rattle.std.proofs.Common.{◌≡◌, ℕ, List, Option, Result, Ok, Err}
-use Rattle.stn_effects.specs.Effects.{Effect, Then, Makes, Reads, Gives}
-use Rattle.stn_effects.proofs.Endings.{ChangesNothing, KeepsIfStopped, StopsForLack, makes_same, reads_same, gives_same, gives_lacks, gives_never_stops, then_same, then_keeps, then_done, then_lacks}
+use Rattle.std.{proofs.Common.{◌≡◌, ℕ, List, Option, Result, Ok, Err}, specs.Prelude.{option_map, codes, [], ◌∷◌, ◌++◌}}
+use Rattle.stn_effects.{specs.Effects.{Effect, Then, Makes, Reads, Gives}, proofs.Endings.{ChangesNothing, KeepsIfStopped, StopsForLack, makes_same, reads_same, gives_same, gives_lacks, gives_never_stops, then_same, then_keeps, then_done, then_lacks}}
 use Rattle.stn_lift.specs.PlanSource.{PlanSource, bare, files, base_of, steps_of}
 use Rattle.stn_records.specs.Content.{Content, no_content}
-use Rattle.stn_command.specs.Change.{change_refusal}
-use Rattle.stn_command.specs.Query.{IsSaid, IsQueryRefusal}
-use Rattle.stn_command.specs.Guarding.{IsGuarded}
-use Rattle.stn_command.specs.Named.{IsNamed, names_refusal}
-use Rattle.stn_command.specs.declared.names.Shown.{Shown}
-use Rattle.stn_line.specs.Explanations.Explained.{IsExplained}
-use Rattle.stn_line.specs.declared.words.Line.{Line}
-use Rattle.stn_site.specs.Held.{Held}
-use Rattle.stn_site.specs.Failures.{replica_failure}
-use Rattle.stn_store.specs.Log.{Log, log_held}
-use Rattle.stn_store.specs.Merging.{IsMergeRefusal}
-use Rattle.stn_store.specs.Store.{IsLack}
-use Rattle.stn_store.specs.Steps.{Entries, FindsFree, FindsText, LoadsLog, Saves, SavesNew}
-use Rattle.stn_logs.specs.Loosening.{HoldsLoosened, IsLooseningRefusal}
-use Rattle.stn_logs.specs.Words.{Asked, Update, change, guard, merge, make_bare, make, make_loose, explain, update, named_by, query, asked_of}
-use Rattle.stn_logs.specs.Commands.{Updated, based, SavesMade, MakesLog, FindsSource, IsChanged, IsMerged, IsUnguarded, Updates, nameless, ShowsNamed, IsExplainRefusal, DoesAsked, DoesLine}
-use Rattle.stn_refusal.specs.declared.failure.Failure.{Failure}
-use Rattle.stn_refusal.specs.declared.failure.Fault.{Fault}
-use Rattle.std.specs.Prelude.{option_map, codes, [], ◌∷◌, ◌++◌}
+use Rattle.stn_command.specs.{Change.change_refusal, Query.{IsSaid, IsQueryRefusal}, Named.{Shown, IsNamed, names_refusal}}
+use Rattle.stn_line.specs.{Explanations.Explained.IsExplained, declared.words.Line.Line}
+use Rattle.stn_site.specs.{Held.Held, Failures.replica_failure}
+use Rattle.stn_store.specs.{Log.{Log, log_held}, Merging.IsMergeRefusal, Store.IsLack, Steps.{Entries, FindsFree, FindsText, LoadsLog, Saves, SavesNew}}
+use Rattle.stn_logs.specs.{Loosening.{HoldsLoosened, IsLooseningRefusal}, Words.{Asked, Update, change, guard, merge, make_bare, make, make_loose, explain, update, named_by, query, asked_of}, Commands.{Updated, updated, unchanged, SavesUpdated, IsGuarded, based, SavesMade, MakesLog, FindsSource, IsChanged, IsMerged, IsUnguarded, Updates, nameless, ShowsNamed, IsExplainRefusal, DoesAsked, DoesLine}}
+use Rattle.stn_refusal.specs.declared.failure.{Failure.Failure, Fault.Fault}
 
 module _ (Fails : Fault → Type 0) where
   pub free_same : (name : List ℕ) → ChangesNothing (FindsFree Fails name)
@@ -58,31 +44,30 @@ module _ (Fails : Fault → Type 0) where
   update_same (change asked) held = makes_same Fails (IsChanged asked held) (λ cause. cause ≡ option_map replica_failure (change_refusal held asked))
   update_same (merge other) held = then_same (LoadsLog Fails other held.site) (λ theirs. Makes Fails (IsMerged theirs held) (IsMergeRefusal held theirs))
       (load_same other held.site) (λ theirs. makes_same Fails (IsMerged theirs held) (IsMergeRefusal held theirs))
-  update_same (guard owned) held = makes_same Fails (λ made. IsGuarded owned held made.held made.text) (IsUnguarded owned held)
+  update_same (guard owned) held = makes_same Fails (IsGuarded owned held) (IsUnguarded owned held)
 
   -- the saving of a log, and then its answer
-  module _ (name : List ℕ) (made : Updated) where
-    abbrev pub SavesUpdated : Effect Entries (List ℕ)
-    SavesUpdated = Then (Saves Fails name (log_held made.held)) (λ _. Gives made.text)
+  module _ (name : List ℕ) where
+    save_keeps : (held : Held) → KeepsIfStopped (Saves Fails name (log_held held))
+    save_keeps held old new failure is = is.0
 
-    save_keeps : KeepsIfStopped (Saves Fails name (log_held made.held))
-    save_keeps old new failure is = is.0
+    pub saved_keeps : (made : Updated) → KeepsIfStopped (SavesUpdated Fails name made)
+    saved_keeps (updated held text) = then_done (Saves Fails name (log_held held)) (λ _. Gives text) (save_keeps held) (λ _. gives_never_stops text)
+    saved_keeps (unchanged text) = λ old new failure is. gives_same text old new (Err failure) is
 
-    pub saved_keeps : KeepsIfStopped SavesUpdated
-    saved_keeps = then_done (Saves Fails name (log_held made.held)) (λ _. Gives made.text) save_keeps (λ _. gives_never_stops made.text)
+    save_lacks : (held : Held) → StopsForLack Fails (Saves Fails name (log_held held))
+    save_lacks held old new failure is = is.1
 
-    save_lacks : StopsForLack Fails (Saves Fails name (log_held made.held))
-    save_lacks old new failure is = is.1
-
-    pub saved_lacks : StopsForLack Fails SavesUpdated
-    saved_lacks = then_lacks (Saves Fails name (log_held made.held)) (λ _. Gives made.text) Fails save_lacks (λ _. gives_lacks Fails made.text)
+    pub saved_lacks : (made : Updated) → StopsForLack Fails (SavesUpdated Fails name made)
+    saved_lacks (updated held text) = then_lacks (Saves Fails name (log_held held)) (λ _. Gives text) Fails (save_lacks held) (λ _. gives_lacks Fails text)
+    saved_lacks (unchanged text) = gives_lacks Fails text
 
   shows_same : (what : Shown) (plan : List ℕ) (held : Held) → ChangesNothing (ShowsNamed Fails what plan held)
   shows_same what plan held = then_same (Reads Fails (nameless held.source))
-      (λ _. Then (FindsText Fails plan) (λ names. Makes Fails (IsNamed what names held) (λ cause. cause ≡ names_refusal held names)))
+      (λ _. Then (FindsText Fails plan) (λ names. Makes Fails (IsNamed what names held) (λ cause. cause ≡ names_refusal what held names)))
       (reads_same Fails (nameless held.source)) (λ _. then_same (FindsText Fails plan)
-      (λ names. Makes Fails (IsNamed what names held) (λ cause. cause ≡ names_refusal held names)) (text_same plan)
-      (λ names. makes_same Fails (IsNamed what names held) (λ cause. cause ≡ names_refusal held names)))
+      (λ names. Makes Fails (IsNamed what names held) (λ cause. cause ≡ names_refusal what held names)) (text_same plan)
+      (λ names. makes_same Fails (IsNamed what names held) (λ cause. cause ≡ names_refusal what held names)))
 
   asked_keeps : (asked : Asked) → KeepsIfStopped (DoesAsked Fails asked)
   asked_keeps (make_bare log steps) = then_keeps (FindsFree Fails log.name.now) (λ _. MakesLog Fails log.name.now (bare steps))
@@ -100,8 +85,8 @@ module _ (Fails : Fault → Type 0) where
       (makes_same Fails (HoldsLoosened robust source slack log.site) (IsLooseningRefusal robust source slack))
       (λ state. made_keeps log.name.now (bare (steps_of source)) state)))
   asked_keeps (explain word) = λ old new failure is. makes_same Fails (IsExplained word) (IsExplainRefusal word) old new (Err failure) is
-  asked_keeps (update log asked) = then_keeps (LoadsLog Fails log.name.now log.site) (λ held. Then (Updates Fails asked held) (λ made. SavesUpdated log.name.now made))
-      (load_same log.name.now log.site) (λ held. then_keeps (Updates Fails asked held) (λ made. SavesUpdated log.name.now made)
+  asked_keeps (update log asked) = then_keeps (LoadsLog Fails log.name.now log.site) (λ held. Then (Updates Fails asked held) (λ made. SavesUpdated Fails log.name.now made))
+      (load_same log.name.now log.site) (λ held. then_keeps (Updates Fails asked held) (λ made. SavesUpdated Fails log.name.now made)
       (update_same asked held) (λ made. saved_keeps log.name.now made))
   asked_keeps (named_by log what plan) = then_keeps (LoadsLog Fails log.name.now log.site) (λ held. ShowsNamed Fails what plan held)
       (load_same log.name.now log.site) (λ held old new failure. shows_same what plan held old new (Err failure))

@@ -1,33 +1,17 @@
 -- What each command on a log does, step by step, and the text that it answers. Its refusals come in the order of its steps.
 use Rattle.std.specs.Prelude.{◌≡◌, ◌⊎◌, ℕ, List, [], ◌∷◌, ◌++◌, codes, Option, Some, None, option_map, Result, Ok, Err}
 use Rattle.stn_effects.specs.Effects.{Effect, Then, Makes, Reads, Gives}
-use Rattle.stn_lift.specs.PlanSource.{PlanSource, bare, files, base_of, steps_of}
-use Rattle.stn_lift.specs.Failures.{base_failure}
-use Rattle.stn_lift.specs.declared.fault.BaseFault.{BaseFault}
-use Rattle.stn_records.specs.Content.{Content, no_content}
-use Rattle.stn_records.specs.Id.{SiteCounter}
-use Rattle.stn_site.specs.Calls.{Leaves, took}
-use Rattle.stn_site.specs.Failures.{replica_failure}
-use Rattle.stn_site.specs.Held.{Held}
-use Rattle.stn_site.specs.declared.faults.ReplicaFault.{ReplicaFault}
-use Rattle.stn_command.specs.Change.{change_call, change_refusal, made_by, made_text}
-use Rattle.stn_command.specs.Query.{Query, IsSaid, IsQueryRefusal}
-use Rattle.stn_command.specs.Guarding.{IsGuarded}
-use Rattle.stn_command.specs.Named.{IsNamed, names_refusal}
-use Rattle.stn_command.specs.Words.{no_such_word}
-use Rattle.stn_command.specs.declared.names.Shown.{Shown}
-use Rattle.stn_command.specs.declared.changes.Change.{Change}
-use Rattle.stn_guard.specs.Adding.{IsGuardRefusal}
-use Rattle.stn_guard.specs.declared.owners.OwnedSteps.{OwnedSteps}
-use Rattle.stn_store.specs.Log.{log_held}
-use Rattle.stn_store.specs.Merging.{IsMergeRefusal}
-use Rattle.stn_store.specs.Steps.{Entries, FindsFree, FindsText, LoadsLog, Saves, SavesNew}
-use Rattle.stn_logs.specs.Words.{Asked, Update, change, guard, merge, make_bare, make, make_loose, explain, update, named_by, query, asked_of}
-use Rattle.stn_logs.specs.Loosening.{HoldsLoosened, IsLooseningRefusal}
-use Rattle.stn_line.specs.Explanations.Explained.{IsExplained, NamesNothing}
-use Rattle.stn_line.specs.declared.words.Line.{Line}
-use Rattle.stn_refusal.specs.declared.failure.Failure.{Failure}
-use Rattle.stn_refusal.specs.declared.failure.Fault.{Fault}
+use Rattle.stn_net.specs.Schedule.{HasSchedule}
+use Rattle.stn_lift.specs.{PlanSource.{PlanSource, bare, files, base_of, steps_of}, Failures.base_failure, declared.fault.BaseFault.BaseFault}
+use Rattle.stn_records.specs.{Content.{Content, no_content}, Id.SiteCounter}
+use Rattle.stn_site.specs.{Bounds.all_bounds, Calls.{Leaves, took}, Failures.replica_failure, Held.Held, declared.faults.ReplicaFault.ReplicaFault}
+use Rattle.stn_command.specs.{Change.{change_call, change_refusal, made_by, made_text}, Query.{Query, IsSaid, IsQueryRefusal}, Guarding.guard_text, Named.{Shown, IsNamed, names_refusal}, Words.no_such_word, declared.changes.Change.Change}
+use Rattle.stn_guard.specs.{Adding.{AddsGuard, IsGuardRefusal}, declared.owners.OwnedSteps.OwnedSteps}
+use Rattle.stn_store.specs.{Log.log_held, Merging.IsMergeRefusal, Steps.{Entries, FindsFree, FindsText, LoadsLog, Saves, SavesNew}}
+use Rattle.stn_logs.specs.{Words.{Asked, Update, change, guard, merge, make_bare, make, make_loose, explain, update, named_by, query, asked_of}, declared.changes.Outcome.Outcome, Loosening.{HoldsLoosened, IsLooseningRefusal}}
+use Rattle.stn_logs.specs.declared.changes.Outcome.TheVariants as came
+use Rattle.stn_line.specs.{Explanations.Explained.{IsExplained, NamesNothing}, declared.words.Line.Line}
+use Rattle.stn_refusal.specs.declared.failure.{Failure.Failure, Fault.Fault}
 
 -- ---- a new log
 -- a source that has a base, or why it has none
@@ -55,25 +39,34 @@ FindsSource Fails domain plan =
     Gives (files actions steps)))
 
 -- ---- a log that is there
--- what an update makes: what the site holds then, and the text that says so
-pub record Updated : Type 0 where
-  pub held : Held
-  pub text : List ℕ
+-- what an update makes: what the site holds then, which is to be saved, and the text that says so; or a text alone, where nothing is
+pub data Updated : Type 0 where
+  updated : (held : Held) (text : List ℕ) → Updated
+  unchanged : (text : List ℕ) → Updated
 
-abbrev pub updated : Held → List ℕ → Updated
-updated held text = record { held = held; text = text }
+-- the same, as the code has it beside the site's copy
+abbrev pub seen_outcome : {A : Type 0} → Held → Outcome A → Updated
+seen_outcome held (came.Updated text) = updated held text.items
+seen_outcome held (came.Unchanged text) = unchanged text.items
 
 -- a change was made, and the line that says so
 pub record IsChanged (asked : Change) (before : Held) (made : Updated) : Type 0 where
   pub id : SiteCounter
-  pub left : Leaves before (change_call asked id) made.held
-  pub line : made.text ≡ made_text (made_by asked id)
+  pub after : Held
+  pub left : Leaves before (change_call asked id) after
+  pub whole : made ≡ updated after (made_text (made_by asked id))
 
 -- all that another copy of the plan holds was taken in, and the line that says so
 pub record IsMerged (theirs before : Held) (made : Updated) : Type 0 where
   pub same : before.source ≡ theirs.source
-  pub left : Leaves before (took theirs.state) made.held
-  pub line : made.text ≡ codes "merged" ++ 10 ∷ []
+  pub after : Held
+  pub left : Leaves before (took theirs.state) after
+  pub whole : made ≡ updated after (codes "merged" ++ 10 ∷ [])
+
+-- the guard of what the site held was added, and the lines that name its records; where all bounds have no schedule, a line alone
+pub data IsGuarded (owned : List OwnedSteps) (before : Held) (made : Updated) : Type 0 where
+  guarded : (ids : List SiteCounter) (after : Held) → AddsGuard owned before ids after → made ≡ updated after (guard_text (Some ids)) → IsGuarded owned before made
+  conflict : ¬ HasSchedule (all_bounds before.source before.state) → made ≡ unchanged (guard_text None) → IsGuarded owned before made
 
 -- why a guard is not added
 abbrev pub IsUnguarded : List OwnedSteps → Held → Option Failure → Type 0
@@ -85,7 +78,14 @@ Updates Fails (change asked) held = Makes Fails (IsChanged asked held) (λ cause
 Updates Fails (merge other) held =
     Then (LoadsLog Fails other held.site) (λ theirs.
     Makes Fails (IsMerged theirs held) (IsMergeRefusal held theirs))
-Updates Fails (guard owned) held = Makes Fails (λ made. IsGuarded owned held made.held made.text) (IsUnguarded owned held)
+Updates Fails (guard owned) held = Makes Fails (IsGuarded owned held) (IsUnguarded owned held)
+
+-- what is to be saved is saved, and the text given; where nothing is, the log stays as it is
+abbrev pub SavesUpdated : (Fault → Type 0) → List ℕ → Updated → Effect Entries (List ℕ)
+SavesUpdated Fails name (updated held text) =
+    Then (Saves Fails name (log_held held)) (λ _.
+    Gives text)
+SavesUpdated Fails name (unchanged text) = Gives text
 
 -- steps that have names already get none from a plan's file
 abbrev pub nameless : PlanSource → Result (Unit {0}) Failure
@@ -97,7 +97,7 @@ abbrev pub ShowsNamed : (Fault → Type 0) → Shown → List ℕ → Held → E
 ShowsNamed Fails what plan held =
     Then (Reads Fails (nameless held.source)) (λ _.
     Then (FindsText Fails plan) (λ names.
-    Makes Fails (IsNamed what names held) (λ cause. cause ≡ names_refusal held names)))
+    Makes Fails (IsNamed what names held) (λ cause. cause ≡ names_refusal what held names)))
 
 -- ---- a command
 -- why nothing is explained: the word is no refusal's and no fault's
@@ -121,8 +121,7 @@ DoesAsked Fails (explain word) = Makes Fails (IsExplained word) (IsExplainRefusa
 DoesAsked Fails (update log asked) =
     Then (LoadsLog Fails log.name.now log.site) (λ held.
     Then (Updates Fails asked held) (λ made.
-    Then (Saves Fails log.name.now (log_held made.held)) (λ _.
-    Gives made.text)))
+    SavesUpdated Fails log.name.now made))
 DoesAsked Fails (named_by log what plan) =
     Then (LoadsLog Fails log.name.now log.site) (λ held.
     ShowsNamed Fails what plan held)

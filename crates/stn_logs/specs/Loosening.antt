@@ -1,20 +1,10 @@
 -- The loosened plan of a source, or its robust plan, at a site; and why there is none.
 use Rattle.std.specs.Prelude.{◌≡◌, ◌⊎◌, ℕ, ℤ, Bool, true, false, List, Option, Some, None, Ok, Err}
-use Rattle.stn_net.specs.Difference.{Difference}
-use Rattle.stn_net.specs.Schedule.{IsSchedule}
-use Rattle.stn_lift.specs.BaseBounds.{KeepsOrder}
-use Rattle.stn_lift.specs.PlanSource.{PlanSource, bare, base_of, base_bounds, steps_of, events_of, interfere_in_plan, planned_of}
-use Rattle.stn_lift.specs.Failures.{base_failure}
-use Rattle.stn_lift.specs.declared.fault.BaseFault.{BaseFault}
+use Rattle.stn_net.specs.{Difference.Difference, Schedule.IsSchedule}
+use Rattle.stn_lift.specs.{BaseBounds.KeepsOrder, PlanSource.{PlanSource, bare, base_of, base_bounds, steps_of, events_of, interfere_in_plan, planned_of}, Failures.base_failure, declared.fault.BaseFault.BaseFault}
 use Rattle.stn_records.specs.Content.{Content}
 use Rattle.stn_site.specs.Bounds.{all_bounds}
-use Rattle.stn_loosen.specs.Slack.{Slack}
-use Rattle.stn_loosen.specs.Loosened.{loose_durations, AreFewLoosened, AreTooMany}
-use Rattle.stn_loosen.specs.Promise.{Promises}
-use Rattle.stn_loosen.specs.Robust.{loose_bounds, HasPromise, AreFewRobust, AreTooManyRobust}
-use Rattle.stn_loosen.specs.Numbered.{HoldsSome}
-use Rattle.stn_loosen.specs.Failures.{loosen_failure}
-use Rattle.stn_loosen.specs.declared.fault.LoosenFault.TheVariants.{Full, NotRobust}
+use Rattle.stn_loosen.specs.{Slack.Slack, Loosened.{loose_durations, AreFewLoosened, AreTooMany}, Promise.Promises, Robust.{loose_bounds, HasPromise, AreFewRobust, AreTooManyRobust}, Numbered.HoldsSome, Failures.loosen_failure, declared.fault.LoosenFault.TheVariants.{Full, NotRobust}}
 use Rattle.stn_refusal.specs.declared.failure.Failure.{Failure}
 
 -- a site holds, over the bare plan of as many steps, the loosened plan of a source that has a base: its records. Each schedule of the

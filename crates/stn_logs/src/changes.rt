@@ -2,13 +2,11 @@
 
 ghost use Rattle.std.specs.Prelude.{◌≡◌, ◌⊎◌, Some, None, option_map, Ok, Err, OnOk, IfOk, IfErr, MatchResult};
 ghost use Rattle.stn_effects.specs.Effects.{seen};
-ghost use Rattle.stn_command.specs.Change.{change_refusal};
-ghost use Rattle.stn_command.specs.Guarding.{guard_text, IsGuarded};
+ghost use Rattle.stn_command.specs.{Change.change_refusal, Guarding.guard_text};
 ghost use Rattle.stn_lift.specs.PlanSource.{plan_source, base_of};
 ghost use Rattle.stn_records.specs.Content.{no_content};
 ghost use Rattle.stn_site.specs.Failures.{replica_failure};
-ghost use Rattle.stn_logs.specs.Commands.{based, updated, IsChanged, IsUnguarded, Updates};
-ghost use Rattle.stn_logs.specs.Words.{merge, seen_update};
+ghost use Rattle.stn_logs.specs.{Commands.{based, seen_outcome, IsChanged, IsGuarded, IsUnguarded, Updates}, Words.{merge, seen_update}};
 ghost use Rattle.stn_refusal.specs.declared.failure.Failure.TheVariants.{Failed};
 ghost use Rattle.stn_refusal.specs.declared.failure.Fault.TheVariants as lack;
 
@@ -23,6 +21,15 @@ use stn_refusal::Failure;
 use stn_site::SitePlan;
 use stn_store::{Store, take_in};
 use stn_time::Memory;
+
+/// What came of an update, and the text that says so.
+#[derive(Drop)]
+pub enum Outcome<A: Allocator> {
+    /// What the site holds now is to be saved.
+    Updated(Vec<u8, A>),
+    /// The site holds what it held, and nothing is to be saved.
+    Unchanged(Vec<u8, A>),
+}
 
 /// A site's copy of the plan of a source. It holds nothing yet.
 pub fn opened<A: Allocator + Copy>(
@@ -40,14 +47,14 @@ pub fn opened<A: Allocator + Copy>(
     Ok(SitePlan::new(alloc, site, base))
 }
 
-/// Makes an update of a site's copy of a plan: the text that says so. Where memory runs out, the copy may be updated by then.
+/// Makes an update of a site's copy of a plan. Where memory runs out, the copy may be updated by then.
 pub fn make_update<S: Store<A>, A: Allocator + Copy>(
     alloc: A,
     store: &S,
     plan: &mut SitePlan<A>,
     asked: &Update<'_, A>,
-) -> Result<Vec<u8, A>, Failure>
-    ensures { Updates S.fails (seen_update asked.now) plan.old (S.entries store.now) (S.entries store.now) (seen (λ text. updated plan.new text.items) result) }
+) -> Result<Outcome<A>, Failure>
+    ensures { Updates S.fails (seen_update asked.now) plan.old (S.entries store.now) (S.entries store.now) (seen (seen_outcome plan.new) result) }
 {
     match asked {
         Update::Change(asked) => change_plan(alloc, plan, asked),
@@ -56,19 +63,19 @@ pub fn make_update<S: Store<A>, A: Allocator + Copy>(
     }
 }
 
-// Makes a change: the line that says what was made.
+// Makes a change.
 fn change_plan<A: Allocator + Copy>(
     alloc: A,
     plan: &mut SitePlan<A>,
     asked: &Change,
-) -> Result<Vec<u8, A>, Failure>
-    ensures { MatchResult result (λ text. IsChanged asked.now plan.old (updated plan.new text.items) × (change_refusal plan.old asked.now ≡ None))
+) -> Result<Outcome<A>, Failure>
+    ensures { MatchResult result (λ outcome. IsChanged asked.now plan.old (seen_outcome plan.new outcome) × (change_refusal plan.old asked.now ≡ None))
         (λ failure. (failure ≡ Failed lack.Memory) ⊎ (Some failure ≡ option_map replica_failure (change_refusal plan.old asked.now))) }
 {
     let made = make_change(plan, asked)?;
     let mut text = Vec::new(alloc);
     made.print(&mut text)?;
-    Ok(text)
+    Ok(Outcome::Updated(text))
 }
 
 // Takes in all that another log of the same plan says.
@@ -77,39 +84,36 @@ fn merge_log<S: Store<A>, A: Allocator + Copy>(
     store: &S,
     plan: &mut SitePlan<A>,
     other: &str,
-) -> Result<Vec<u8, A>, Failure>
-    ensures { Updates S.fails (merge other.now) plan.old (S.entries store.now) (S.entries store.now) (seen (λ text. updated plan.new text.items) result) }
+) -> Result<Outcome<A>, Failure>
+    ensures { Updates S.fails (merge other.now) plan.old (S.entries store.now) (S.entries store.now) (seen (seen_outcome plan.new) result) }
 {
     let theirs = store.load(other, plan.site())?;
     take_in(plan, &theirs)?;
     drop(theirs);
-    Ok(copied(alloc, b"merged\n")?)
+    Ok(Outcome::Updated(copied(alloc, b"merged\n")?))
 }
 
-// Adds the guard of what a site holds: the lines that say which records it has.
+// Adds the guard of what a site holds.
 fn guard_plan<A: Allocator + Copy>(
     alloc: A,
     plan: &mut SitePlan<A>,
     owned: &[OwnedSteps],
-) -> Result<Vec<u8, A>, Failure>
-    ensures { MatchResult result (λ text. IsGuarded owned.now plan.old plan.new text.items × IsUnguarded owned.now plan.old None)
+) -> Result<Outcome<A>, Failure>
+    ensures { MatchResult result (λ outcome. IsGuarded owned.now plan.old (seen_outcome plan.new outcome) × IsUnguarded owned.now plan.old None)
         (λ failure. (failure ≡ Failed lack.Memory) ⊎ IsUnguarded owned.now plan.old (Some failure)) }
 {
-    let ids = add_guard(plan, owned)?;
-    let text = lines_of(alloc, &ids);
-    drop(ids);
-    Ok(text?)
+    match add_guard(plan, owned)? {
+        Some(ids) => Ok(Outcome::Updated(guard_lines(alloc, Some(&ids))?)),
+        None => Ok(Outcome::Unchanged(guard_lines(alloc, None)?)),
+    }
 }
 
 // The lines that say which records a guard has.
-fn lines_of<A: Allocator>(alloc: A, ids: &Option<Vec<Id, A>>) -> Result<Vec<u8, A>, Memory>
-    ensures { IfOk result (λ text. text.items ≡ guard_text (option_map (λ all. all.items) ids.now)) }
+fn guard_lines<A: Allocator>(alloc: A, ids: Option<&[Id]>) -> Result<Vec<u8, A>, Memory>
+    ensures { IfOk result (λ text. text.items ≡ guard_text (option_map (λ all. all.now) ids.entry)) }
 {
     let mut text = Vec::new(alloc);
-    match ids {
-        Some(ids) => print_guard(Some(ids), &mut text)?,
-        None => print_guard(None, &mut text)?,
-    }
+    print_guard(ids, &mut text)?;
     Ok(text)
 }
 

@@ -3,24 +3,22 @@
 ghost use Rattle.std.specs.Prelude.{◌≡◌, ◌⊎◌, IfOk, IfErr, option_map};
 ghost use Rattle.stn_effects.specs.Effects.{seen};
 ghost use Rattle.stn_lift.specs.PlanSource.{plan_source};
-ghost use Rattle.stn_command.specs.Query.{seen_query, seen_choice};
-ghost use Rattle.stn_logs.specs.Words.{seen_asked, seen_update, update, named_by, query};
+ghost use Rattle.stn_command.specs.{Query.{seen_query, seen_choice}, Named.seen_shown};
+ghost use Rattle.stn_logs.specs.{Words.{seen_asked, seen_drawing, seen_update, update, drawn_of, named_by, query}, Commands.{FindsSource, MakesLog, SavesMade, ShowsNamed, DoesAsked, DoesLine}};
 ghost use Rattle.stn_logs.specs.Words as ask;
-ghost use Rattle.stn_logs.specs.Commands.{FindsSource, MakesLog, SavesMade, ShowsNamed, DoesAsked, DoesLine};
-ghost use Rattle.stn_store.specs.Log.{log_held};
-ghost use Rattle.stn_store.specs.Store.{IsMissing, IsLack};
-ghost use Rattle.stn_store.specs.Steps.{FindsFree, LoadsLog, SavesNew};
+ghost use Rattle.stn_store.specs.{Log.log_held, Store.{IsMissing, IsLack}, Steps.{FindsFree, LoadsLog, SavesNew}};
 
-use crate::changes::{copied, make_update, opened};
+use crate::changes::{Outcome, copied, make_update, opened};
 use crate::explaining::explain;
 use crate::keeping::Kept;
 use crate::loosening::loosen;
-use crate::words::{Asked, Update, read_asked};
+use crate::words::{Asked, Drawing, Update, read_asked};
 use std::alloc::Allocator;
 use stn_command::{Choice, Query, Shown, no_such_word, say_named};
 use stn_lift::Source;
 use stn_line::{Line, SiteLog};
 use stn_loosen::Tolerance;
+use stn_picture::Look;
 use stn_refusal::{Code, Failure, Fault};
 use stn_replica::StepRange;
 use stn_site::SitePlan;
@@ -83,7 +81,8 @@ fn do_asked<S: Store<A>, A: Allocator + Copy>(
             let choice = choice_of(&steps, starts);
             say_of(store, kept, log, &Query::Foresee(outlook, now, choice))
         }
-        Asked::Named(log, shown, plan) => show_named(store, kept, log, shown, plan),
+        Asked::Named(log, plan) => show_named(store, kept, log, &Shown::Steps, plan),
+        Asked::Draw(log, plan, drawing) => draw_log(store, kept, log, plan, &drawing),
         Asked::Query(log, asked) => say_of(store, kept, log, &asked),
     }
 }
@@ -224,7 +223,7 @@ fn open_log<S: Store<A>, A: Allocator + Copy>(
     Ok(OpenLog { held, plan })
 }
 
-// Updates a log that is there.
+// Updates a log that is there, and saves it, if the update says so.
 fn update_log<S: Store<A>, A: Allocator + Copy>(
     alloc: A,
     store: &mut S,
@@ -235,10 +234,14 @@ fn update_log<S: Store<A>, A: Allocator + Copy>(
     ensures { DoesAsked S.fails (update log.now (seen_update asked.now)) (S.entries store.old) (S.entries store.new) (seen (λ text. text.items) result) }
 {
     let mut ours = open_log(store, kept, log)?;
-    let text = make_update(alloc, store, &mut ours.plan, asked)?;
-    let saved = store.save(&ours.held, &ours.plan)?;
-    kept.learn(ours.plan, saved);
-    Ok(text)
+    match make_update(alloc, store, &mut ours.plan, asked)? {
+        Outcome::Updated(text) => {
+            let saved = store.save(&ours.held, &ours.plan)?;
+            kept.learn(ours.plan, saved);
+            Ok(text)
+        }
+        Outcome::Unchanged(text) => Ok(text),
+    }
 }
 
 // The choice of events that was asked for.
@@ -270,15 +273,37 @@ fn say_of<S: Store<A>, A: Allocator + Copy>(
     kept.say(known, asked)
 }
 
+// The picture of a log, with its name as the title.
+fn draw_log<S: Store<A>, A: Allocator + Copy>(
+    store: &mut S,
+    kept: &mut Kept<A>,
+    log: &SiteLog<'_>,
+    plan: Option<&str>,
+    drawing: &Drawing<A>,
+) -> Result<Vec<u8, A>, Failure>
+    ensures { DoesAsked S.fails (drawn_of log.now plan.entry (seen_drawing drawing.now)) (S.entries store.old) (S.entries store.new) (seen (λ text. text.items) result) }
+{
+    let look = Look {
+        title: log.name.as_bytes(),
+        present: drawing.present,
+        arrows: drawing.arrows,
+        owned: &drawing.owned,
+    };
+    match plan {
+        Some(plan) => show_named(store, kept, log, &Shown::Picture(look), plan),
+        None => say_of(store, kept, log, &Query::Draw(look)),
+    }
+}
+
 // What is shown of a log whose plan is bare, by the names of a plan's file.
-fn show_named<S: Store<A>, A: Allocator + Copy>(
+fn show_named<'x, S: Store<A>, A: Allocator + Copy>(
     store: &S,
     kept: &mut Kept<A>,
     log: &SiteLog<'_>,
-    shown: Shown,
+    shown: &'x Shown<'x>,
     plan: &str,
 ) -> Result<Vec<u8, A>, Failure>
-    ensures { DoesAsked S.fails (named_by log.now shown plan.now) (S.entries store.now) (S.entries store.now) (seen (λ text. text.items) result) }
+    ensures { DoesAsked S.fails (named_by log.now (seen_shown shown.now) plan.now) (S.entries store.now) (S.entries store.now) (seen (λ text. text.items) result) }
 {
     let known = kept.caught_up(store, log)?;
     let text = show_by_names(store, known.plan(), shown, plan);
@@ -287,13 +312,13 @@ fn show_named<S: Store<A>, A: Allocator + Copy>(
 }
 
 // What is shown of a site's copy of a plan, which is bare, by the names of a plan's file.
-fn show_by_names<S: Store<A>, A: Allocator + Copy>(
+fn show_by_names<'x, S: Store<A>, A: Allocator + Copy>(
     store: &S,
     ours: &SitePlan<A>,
-    shown: Shown,
+    shown: &'x Shown<'x>,
     plan: &str,
 ) -> Result<Vec<u8, A>, Failure>
-    ensures { ShowsNamed S.fails shown plan.now ours.now (S.entries store.now) (S.entries store.now) (seen (λ text. text.items) result) }
+    ensures { ShowsNamed S.fails (seen_shown shown.now) plan.now ours.now (S.entries store.now) (S.entries store.now) (seen (λ text. text.items) result) }
 {
     match ours.base().source() {
         Source::Files(_, _) => Err(no_such_word()),

@@ -4,8 +4,7 @@ ghost use Rattle.std.specs.Prelude.{◌≡◌, ◌⊎◌, true, None, Some, Ok, 
 ghost use Rattle.stn_command.specs.Query.{seen_query, IsSaid, IsQueryRefusal};
 ghost use Rattle.stn_refusal.specs.Refusals.{out_of_memory};
 ghost use Rattle.stn_site.specs.Held.{Held};
-ghost use Rattle.stn_store.specs.Log.{log_held, IsLog};
-ghost use Rattle.stn_store.specs.Store.{Opens, IsMissing, IsUnopened, IsLack};
+ghost use Rattle.stn_store.specs.{Log.{log_held, IsLog}, Store.{Opens, IsMissing, IsUnopened, IsLack}};
 
 use std::alloc::Allocator;
 use std::marker::Model;

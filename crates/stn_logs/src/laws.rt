@@ -3,8 +3,7 @@ ghost use Rattle.stn_effects.specs.Effects.{EndAlike};
 ghost use Rattle.stn_line.specs.declared.words.Line.{Line};
 ghost use Rattle.stn_logs.specs.Commands.{DoesLine};
 ghost use Rattle.stn_refusal.specs.declared.failure.Failure.{Failure};
-ghost use Rattle.stn_store.specs.Steps.{Entries};
-ghost use Rattle.stn_store.specs.Store.{Entry};
+ghost use Rattle.stn_store.specs.{Steps.Entries, Store.Entry};
 
 use std::alloc::Allocator;
 use stn_command::one_said;

@@ -4,11 +4,11 @@ ghost use Rattle.std.specs.Prelude.{◌≡◌, ◌⊎◌, map, option_map, pos, 
 ghost use Rattle.stn_time.specs.Time.{horizon};
 ghost use Rattle.stn_refusal.specs.Refusals.{out_of_memory};
 ghost use Rattle.stn_command.specs.Words.{times_read};
-ghost use Rattle.stn_logs.specs.Words.{asked_of, among_read, chosen_read, seen_asked, bound_read, event_read, id_read, side_read, slack_of, slack_read, why_read};
+ghost use Rattle.stn_logs.specs.Words.{asked_of, among_read, arrows_read, chosen_read, drawing_read, present_read, seen_drawing, seen_asked, bound_read, event_read, id_read, side_read, slack_of, slack_read, why_read};
 
 use std::alloc::Allocator;
 use stn_command::{
-    AskedBound, Change, Outlook, Query, Shown, no_such_word, read_owned, read_steps, read_time,
+    AskedBound, Change, Outlook, Query, no_such_word, read_owned, read_steps, read_time,
 };
 use stn_guard::OwnedSteps;
 use stn_line::{EventChoice, Line, SiteLog};
@@ -31,6 +31,14 @@ pub enum Update<'a, A: Allocator> {
     Guard(Vec<OwnedSteps, A>),
 }
 
+/// How a plan is drawn: from a time on, where one is given; whether with arrows; with these steps of sites.
+#[derive(Drop)]
+pub struct Drawing<A: Allocator> {
+    pub present: Option<Ms>,
+    pub arrows: bool,
+    pub owned: Vec<OwnedSteps, A>,
+}
+
 /// What a command asks for, all its words read.
 #[derive(Drop)]
 pub enum Asked<'l, 'a, A: Allocator> {
@@ -49,7 +57,9 @@ pub enum Asked<'l, 'a, A: Allocator> {
     /// Asks of chosen events, from a time on: those of these steps, or of all where none are given; or their starts alone.
     Among(&'l SiteLog<'a>, Outlook, Ms, Option<Vec<StepRange, A>>, bool),
     /// Shows the steps by the names of a plan's file.
-    Named(&'l SiteLog<'a>, Shown, &'a str),
+    Named(&'l SiteLog<'a>, &'a str),
+    /// Draws the plan, by the names of a plan's file where one is given.
+    Draw(&'l SiteLog<'a>, Option<&'a str>, Drawing<A>),
     /// Answers another query.
     Query(&'l SiteLog<'a>, Query<'a>),
 }
@@ -122,7 +132,7 @@ pub fn read_asked<'l, 'a, A: Allocator + Copy>(
         Line::Repairs { log } => Ok(Asked::Query(log, Query::Repairs)),
         Line::Records { log } => Ok(Asked::Query(log, Query::Ask(Question::Records))),
         Line::Steps { log, plan } => match plan {
-            Some(plan) => Ok(Asked::Named(log, Shown::Steps, *plan)),
+            Some(plan) => Ok(Asked::Named(log, *plan)),
             None => Ok(Asked::Query(log, Query::Ask(Question::Steps))),
         },
         Line::Bounds { log } => Ok(Asked::Query(log, Query::Ask(Question::Bounds))),
@@ -133,10 +143,16 @@ pub fn read_asked<'l, 'a, A: Allocator + Copy>(
         Line::Rehearse { log, now, choice } => {
             read_among(alloc, log, Outlook::Rehearse, *now, choice)
         }
-        Line::Draw { log, plan } => match plan {
-            Some(plan) => Ok(Asked::Named(log, Shown::Picture, *plan)),
-            None => Ok(Asked::Query(log, Query::Draw)),
-        },
+        Line::Draw {
+            log,
+            plan,
+            now,
+            arrows,
+            owned,
+        } => {
+            let drawing = read_drawing(alloc, owned, *arrows, *now)?;
+            Ok(Asked::Draw(log, *plan, drawing))
+        }
         Line::Explain { code } => Ok(Asked::Explain(*code)),
         Line::Run | Line::Shell { .. } | Line::Serve { .. } | Line::Send { .. } => {
             Err(no_such_word())
@@ -158,6 +174,50 @@ fn read_among<'l, 'a, A: Allocator + Copy>(
     let steps = read_chosen(alloc, choice.steps)?;
     let now = read_time(now.as_bytes())?;
     Ok(Asked::Among(log, outlook, now, steps, choice.starts))
+}
+
+// How the words say that a plan is drawn.
+fn read_drawing<A: Allocator + Copy>(
+    alloc: A,
+    owned: &[&str],
+    arrows: Option<&str>,
+    now: Option<&str>,
+) -> Result<Drawing<A>, Failure>
+    ensures { MatchResult result (λ drawing. drawing_read (map (λ word. word.now) owned.now) arrows.entry now.entry ≡ Ok (seen_drawing drawing))
+        (λ failure. (failure ≡ out_of_memory) ⊎ (drawing_read (map (λ word. word.now) owned.now) arrows.entry now.entry ≡ Err failure)) }
+{
+    let owned = read_owned(alloc, owned)?;
+    let arrows = read_arrows(arrows)?;
+    let present = read_present(now)?;
+    Ok(Drawing {
+        present,
+        arrows,
+        owned,
+    })
+}
+
+// Whether there are arrows: a word says yes or no, and no word yes.
+fn read_arrows(word: Option<&str>) -> Result<bool, Failure>
+    ensures { result ≡ arrows_read word.entry }
+{
+    match word {
+        Some("yes") | None => Ok(true),
+        Some("no") => Ok(false),
+        Some(_) => Err(no_such_word()),
+    }
+}
+
+// The time that a word spells, where there is one.
+fn read_present(word: Option<&str>) -> Result<Option<Ms>, Failure>
+    ensures { result ≡ present_read word.entry }
+{
+    match word {
+        Some(word) => {
+            let time = read_time(word.as_bytes())?;
+            Ok(Some(time))
+        }
+        None => Ok(None),
+    }
 }
 
 // The steps that a word names, where there is one.

@@ -1,8 +1,5 @@
 -- What is read of a line, byte after byte.
-use Rattle.std.proofs.Common.{zero, suc, ◌≡◌, ◌≢◌, ◌∙◌, ap, sym, subst, inr, refl, ℕ, ◌+◌, ◌<◌, List, [], ◌∷◌, ◌++◌, length, take, Option, None, Some, Ok, Vec, arith, length-append}
-use Rattle.std.specs.Prelude.{IsNone, IfSome}
-use Rattle.std.specs.Io.KnownBytes.{Consumes, IsAtEnd}
-use Rattle.std.proofs.KnownBytes.{Consumes-trans}
+use Rattle.std.{proofs.{Common.{zero, suc, ◌≡◌, ◌≢◌, ◌∙◌, ap, sym, subst, inr, refl, ℕ, ◌+◌, ◌<◌, List, [], ◌∷◌, ◌++◌, length, take, Option, None, Some, Ok, Vec, arith, length-append}, KnownBytes.Consumes-trans}, specs.{Prelude.{IsNone, IfSome}, Io.KnownBytes.{Consumes, IsAtEnd}}}
 use Rattle.stn_text.specs.Bytes.{line_feed}
 use Rattle.stn_device.proofs.Known.{Consumes-then_none}
 use Rattle.stn_shell.specs.Lines.{AreWithinLine, Takes, IsLineRead}

@@ -1,4 +1,3 @@
 mod Turns
 mod Bytes
 mod OnLog
-mod Other

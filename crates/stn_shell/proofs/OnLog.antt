@@ -1,13 +1,8 @@
 -- A command line that is a command on a log alone.
-use Rattle.std.proofs.Common.{◌≡◌, ℕ, List, Result, refl}
-use Rattle.std.specs.Borrow.{Bor}
-use Rattle.stn_line.specs.declared.words.Line.{Line}
-use Rattle.stn_line.specs.declared.words.Line.TheVariants.{Run, Shell, Serve, Send}
-use Rattle.stn_line.specs.declared.words.SiteLog.{SiteLog}
-use Rattle.stn_shell.specs.Carried.{Answers, Does, Succeeds}
-use Rattle.stn_shell.specs.Outside.{Outside}
-use Rattle.stn_refusal.specs.declared.failure.Failure.{Failure}
-use Rattle.stn_refusal.specs.declared.failure.Fault.{Fault}
+use Rattle.std.{proofs.Common.{◌≡◌, ℕ, List, Result, refl}, specs.Borrow.Bor}
+use Rattle.stn_line.specs.declared.words.{Line.{Line, TheVariants.{Run, Shell, Serve, Send}}, SiteLog.SiteLog}
+use Rattle.stn_shell.specs.{Carried.{Answers, Does, Succeeds}, Outside.Outside}
+use Rattle.stn_refusal.specs.declared.failure.{Failure.Failure, Fault.Fault}
 
 pub record IsOnLog (line : Line) : Type 0 where
   pub run : line ≡ Run → ⊥

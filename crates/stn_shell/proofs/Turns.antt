@@ -1,20 +1,9 @@
 -- The lines of a shell: their words, how they are read, and how they come one after the other.
-use Rattle.std.proofs.Common.{Bor, map, Bool, true, false, ◌≡◌, ◌∙◌, ap, sym, subst, refl, ℕ, ◌+◌, List, [], ◌∷◌, ◌++◌, append_assoc}
-use Rattle.std.specs.Prelude.{IsUtf8, if◌then◌else◌}
-use Rattle.std.specs.Int.{from_bool}
-use Rattle.std.specs.List.{AllByRecursion}
-use Rattle.std.specs.Prelude.{IsErrOf, ◌≢◌, ◌-◌, ◌^◌, min, None, Some, Ok, Err, Vec, Result, Option}
-use Rattle.stn_device.specs.Failures.{read_failure}
-use Rattle.stn_device.specs.declared.whole.ReadFault.{ReadFault}
-use Rattle.stn_device.specs.declared.whole.ReadFault.TheVariants.{Read, Bound, Memory}
-use Rattle.stn_effects.specs.Effects.{Effect, Then, stopped, went, Gives, seen}
-use Rattle.stn_effects.specs.Printing.{Device}
+use Rattle.std.{proofs.Common.{Bor, map, Bool, true, false, ◌≡◌, ◌∙◌, ap, sym, subst, refl, ℕ, ◌+◌, List, [], ◌∷◌, ◌++◌, append_assoc}, specs.{Prelude.{IsUtf8, if◌then◌else◌, IsErrOf, ◌≢◌, ◌-◌, ◌^◌, min, None, Some, Ok, Err, Vec, Result, Option}, Int.from_bool, List.AllByRecursion, Io.KnownBytes.IsAtEnd}}
+use Rattle.stn_device.specs.{Failures.read_failure, declared.whole.ReadFault.{ReadFault, TheVariants.{Read, Bound, Memory}}}
+use Rattle.stn_effects.specs.{Effects.{Effect, Then, stopped, went, Gives, seen}, Printing.Device}
 use Rattle.stn_refusal.specs.declared.failure.Failure.{Failure}
-use Rattle.stn_shell.specs.Carried.{Succeeds, Answers, Does}
-use Rattle.stn_shell.specs.Coprocess.{Standing, AreTexts, StopsReading, ReadsLine, further}
-use Rattle.std.specs.Io.KnownBytes.{IsAtEnd}
-use Rattle.stn_shell.specs.Lines.{IsLineRead, Takes}
-use Rattle.stn_shell.specs.Outside.{Outside}
+use Rattle.stn_shell.specs.{Carried.{Succeeds, Answers, Does}, Coprocess.{Standing, AreTexts, StopsReading, ReadsLine, further}, Lines.{IsLineRead, Takes}, Outside.Outside}
 
 -- one text more
 pub texts_more : (words : List (List ℕ)) (word : List ℕ) → AllByRecursion IsUtf8 words → IsUtf8 word → AllByRecursion IsUtf8 (words ++ word ∷ [])

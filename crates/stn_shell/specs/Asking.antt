@@ -1,9 +1,7 @@
 -- What words ask for, as the words of a command line.
 use Rattle.std.specs.Prelude.{◌≡◌, List, [], ◌∷◌, ◌++◌, ℕ, codes, IsSomeAnd}
 use Rattle.clap.specs.Words.{Text, fault_of, subcommand_of}
-use Rattle.stn_line.specs.Commands.{stn}
-use Rattle.stn_line.specs.Lines.{IsLineOf}
-use Rattle.stn_line.specs.declared.words.Line.{Line}
+use Rattle.stn_line.specs.{Commands.stn, Lines.IsLineOf, declared.words.Line.Line}
 
 -- the words are this command line
 abbrev pub AskFor : List Text → Line → Type 0

@@ -1,26 +1,16 @@
 -- What each command line does, over a store of logs and texts, and its status.
-use Rattle.std.specs.Prelude.{◌≡◌, ℕ, ◌<◌, ◌==◌, if◌then◌else◌, List, [], ◌∷◌, ◌++◌, length, codes, IfSome, Result, Ok, Err, ⊤}
-use Rattle.std.specs.Io.KnownBytes.{Consumes, IsAtEnd, Keeps}
-use Rattle.stn_device.specs.Bytes.{most_bytes}
-use Rattle.stn_effects.specs.Effects.{Effect, Then, Finds, Gives}
-use Rattle.stn_effects.specs.Printing.{Device, Writes}
+use Rattle.std.specs.{Prelude.{◌≡◌, ℕ, ◌<◌, ◌==◌, if◌then◌else◌, List, [], ◌∷◌, ◌++◌, length, codes, IfSome, Result, Ok, Err, ⊤}, Io.KnownBytes.{Consumes, IsAtEnd, Keeps}}
+use Rattle.stn_device.specs.{Bytes.most_bytes, Partner.PartnerState}
+use Rattle.stn_effects.specs.{Effects.{Effect, Then, Finds, Gives}, Printing.{Device, Writes}}
 use Rattle.stn_records.specs.Content.{Content}
 use Rattle.stn_site.specs.Held.{Held}
-use Rattle.stn_exec.specs.Script.{script_outcome}
-use Rattle.stn_exec.specs.Output.{WritesOutput, WritesOutputPart, CountsRefusals}
+use Rattle.stn_exec.specs.{Script.script_outcome, Output.{WritesOutput, WritesOutputPart, CountsRefusals}}
 use Rattle.stn_logs.specs.Commands.{DoesLine}
-use Rattle.stn_exchanges.specs.Connections.{Serves, StopsServing, Sends, StopsSending}
-use Rattle.stn_exchanges.specs.Peer.{strangers}
-use Rattle.stn_shell.specs.Coprocess.{RunsShell}
-use Rattle.stn_shell.specs.Outside.{Outside, InStore, OnOutput}
+use Rattle.stn_exchanges.specs.{Connections.{meeting, ServesSites, SendsTo, IsStranger}, Joining.shared, Peer.strangers}
+use Rattle.stn_shell.specs.{Coprocess.RunsShell, Outside.{Outside, InStore, OnOutput}}
 use Rattle.stn_store.specs.Steps.{LoadsLog}
-use Rattle.stn_line.specs.declared.words.SiteLog.{SiteLog}
-use Rattle.stn_line.specs.declared.words.Line.{Line}
-use Rattle.stn_line.specs.declared.words.Line.TheVariants.{Run, Bare, Init, Loosen, Add, Amend, Withdraw, Done, Merge, Guard, Report, Next, Ready, Why, Repairs, Records, Steps, Bounds, Check, Rehearse, Draw, Explain, Shell, Serve, Send}
-use Rattle.stn_refusal.specs.declared.failure.Failure.{Failure}
-use Rattle.stn_refusal.specs.declared.failure.Failure.TheVariants.{Failed}
-use Rattle.stn_refusal.specs.declared.failure.Fault.{Fault}
-use Rattle.stn_refusal.specs.declared.failure.Fault.TheVariants.{Read, Write, Bound, Memory, Net}
+use Rattle.stn_line.specs.declared.words.{SiteLog.SiteLog, Line.{Line, TheVariants.{Run, Bare, Init, Loosen, Add, Amend, Withdraw, Done, Merge, Guard, Report, Next, Ready, Why, Repairs, Records, Steps, Bounds, Check, Rehearse, Draw, Explain, Shell, Serve, Send}}}
+use Rattle.stn_refusal.specs.declared.failure.{Failure.{Failure, TheVariants.Failed}, Fault.{Fault, TheVariants.{Read, Write, Bound, Memory, Net}}}
 
 -- ---- a script
 -- it was read to its end and its output printed; the status is 0 exactly where none of its lines was refused
@@ -55,21 +45,16 @@ abbrev pub Connects : Effect Outside (Unit {0})
 Connects old new (Ok done) = new ≡ old
 Connects old new (Err failure) = (new ≡ old) × (failure ≡ Failed Net)
 
--- so many sessions with sites of which no clause knows what they say, of a plan in this state; or fewer
+-- so many sites of which no clause knows what they say are served, by what a log was found to say
 abbrev pub ServesSessions : (Fault → Type 0) → SiteLog → ℕ → Held → Effect Outside (Unit {0})
-ServesSessions Fails log count found old new (Ok done) = (left : Content)
-    × Serves count strangers strangers found.source log found.state left old.entries new.entries old.out new.out
-    × (new.unread ≡ old.unread) × (new.err ≡ old.err)
-ServesSessions Fails log count found old new (Err failure) = (left : Content)
-    × StopsServing Fails count strangers strangers found.source log found.state left old.entries new.entries old.out new.out failure
+ServesSessions Fails log count found old new ended = ((left : Content) × ServesSites Fails log found.source count
+    (meeting strangers (shared found.state old.entries) old.out) (meeting strangers (shared left new.entries) new.out) ended)
     × (new.unread ≡ old.unread) × (new.err ≡ old.err)
 
 -- an exchange with such a site
 abbrev pub SendsHeld : (Fault → Type 0) → SiteLog → Held → Effect Outside (Unit {0})
-SendsHeld Fails log found old new (Ok done) = (left : Content)
-    × Sends found.source log found.state left old.entries new.entries old.out new.out × (new.unread ≡ old.unread) × (new.err ≡ old.err)
-SendsHeld Fails log found old new (Err failure) = (left : Content)
-    × StopsSending Fails found.source log found.state left old.entries new.entries old.out new.out failure
+SendsHeld Fails log found old new ended = ((left : Content) × (met : PartnerState) × (gone : PartnerState) × IsStranger met × SendsTo Fails log found.source
+    (meeting met (shared found.state old.entries) old.out) (meeting gone (shared left new.entries) new.out) ended)
     × (new.unread ≡ old.unread) × (new.err ≡ old.err)
 
 -- an address is bound, and that is told
@@ -133,7 +118,7 @@ Does Fails (Steps log plan) = Succeeds (Answers Fails (Steps log plan))
 Does Fails (Bounds log) = Succeeds (Answers Fails (Bounds log))
 Does Fails (Check log times) = Succeeds (Answers Fails (Check log times))
 Does Fails (Rehearse log now choice) = Succeeds (Answers Fails (Rehearse log now choice))
-Does Fails (Draw log plan) = Succeeds (Answers Fails (Draw log plan))
+Does Fails (Draw log plan now arrows owned) = Succeeds (Answers Fails (Draw log plan now arrows owned))
 Does Fails (Explain code) = Succeeds (Answers Fails (Explain code))
 Does Fails (Shell log) = RunsShell Fails log
 Does Fails (Serve log address count seconds) = Succeeds (ServesLog Fails log count)

@@ -1,33 +1,17 @@
 -- A shell on a log: each line of an input is done as the command on the log, and answered, before more is read.
-use Rattle.std.specs.Prelude.{◌≡◌, ◌≢◌, ◌⊎◌, ℕ, ◌+◌, ◌-◌, ◌^◌, min, length, Bool, true, false, ◌||◌, if◌then◌else◌, bytes_eq, IsUtf8, List, [], ◌∷◌, ◌++◌, codes, decimal, Option, None, Some, Result, Ok, Err}
-use Rattle.std.specs.List.{AllByRecursion}
-use Rattle.std.specs.Io.KnownBytes.{Consumes, IsAtEnd}
-use Rattle.clap.specs.Words.{IsAmong, Text, fault_of}
-use Rattle.clap.specs.declared.error.kind.ErrorKind.{ErrorKind}
-use Rattle.stn_text.specs.Bytes.{line_feed}
-use Rattle.stn_text.specs.Lines.{words_of}
+use Rattle.std.specs.{Prelude.{◌≡◌, ◌≢◌, ◌⊎◌, ℕ, ◌+◌, ◌-◌, ◌^◌, min, length, Bool, true, false, ◌||◌, if◌then◌else◌, bytes_eq, IsUtf8, List, [], ◌∷◌, ◌++◌, codes, decimal, Option, None, Some, Result, Ok, Err}, List.AllByRecursion, Io.KnownBytes.{Consumes, IsAtEnd}}
+use Rattle.clap.specs.{Words.{IsAmong, Text, fault_of}, declared.error.kind.ErrorKind.ErrorKind}
+use Rattle.stn_text.specs.{Bytes.line_feed, Lines.words_of}
 use Rattle.stn_device.specs.Bytes.{most_bytes}
-use Rattle.stn_effects.specs.Effects.{Effect, Then, Repeats, Catches, Gives, seen}
-use Rattle.stn_effects.specs.Printing.{Device, Writes, TellsText}
+use Rattle.stn_effects.specs.{Effects.{Effect, Then, Repeats, Catches, Gives, seen}, Printing.{Device, Writes, TellsText}}
 use Rattle.stn_exec.specs.Script.{is_skipped}
-use Rattle.stn_line.specs.Commands.{stn}
-use Rattle.stn_line.specs.declared.words.SiteLog.{SiteLog}
-use Rattle.stn_line.specs.declared.words.Line.{Line}
-use Rattle.stn_line.specs.declared.words.Line.TheVariants.{Run, Bare, Init, Loosen, Add, Amend, Withdraw, Done, Merge, Guard, Report, Next, Ready, Why, Repairs, Records, Steps, Bounds, Check, Rehearse, Draw, Explain, Shell, Serve, Send}
+use Rattle.stn_line.specs.{Commands.stn, declared.words.{SiteLog.SiteLog, Line.{Line, TheVariants.{Run, Bare, Init, Loosen, Add, Amend, Withdraw, Done, Merge, Guard, Report, Next, Ready, Why, Repairs, Records, Steps, Bounds, Check, Rehearse, Draw, Explain, Shell, Serve, Send}}}}
 use Rattle.stn_logs.specs.Commands.{DoesLine}
-use Rattle.stn_shell.specs.Asking.{AskFor, no_text}
-use Rattle.stn_shell.specs.Lines.{AreWithinLine, AreOfLine, Takes}
-use Rattle.stn_shell.specs.Outside.{Outside, outside, InStore, OnOutput, OnError}
-use Rattle.stn_shell.specs.declared.coprocess.Progress.{Progress}
+use Rattle.stn_shell.specs.{Asking.{AskFor, no_text}, Lines.{AreWithinLine, AreOfLine, Takes}, Outside.{Outside, outside, InStore, OnOutput, OnError}, declared.coprocess.Progress.Progress}
 use Rattle.stn_store.specs.Steps.{LoadsLog}
-use Rattle.stn_refusal.specs.Printed.{refusal_text}
-use Rattle.stn_refusal.specs.Refusals.{refused_at, out_of_memory}
+use Rattle.stn_refusal.specs.{Printed.refusal_text, Refusals.{refused_at, out_of_memory}, declared.{failure.{Failure.{Failure, TheVariants.Failed}, Fault.Fault}, refusal.Refusal.Refusal}}
 use Rattle.stn_refusal.specs.declared.code.Code.TheVariants as code
-use Rattle.stn_refusal.specs.declared.failure.Failure.{Failure}
-use Rattle.stn_refusal.specs.declared.failure.Failure.TheVariants.{Failed}
-use Rattle.stn_refusal.specs.declared.failure.Fault.{Fault}
 use Rattle.stn_refusal.specs.declared.failure.Fault.TheVariants as fault
-use Rattle.stn_refusal.specs.declared.refusal.Refusal.{Refusal}
 
 -- ---- the command that a line asks for
 -- the words of a command line, by those of a line of the shell: LOG and SITE stand after the command, but for the one of no log
@@ -62,7 +46,7 @@ is_of_shell (Steps log plan) = true
 is_of_shell (Bounds log) = true
 is_of_shell (Check log times) = true
 is_of_shell (Rehearse log now choice) = true
-is_of_shell (Draw log plan) = true
+is_of_shell (Draw log plan now arrows owned) = true
 is_of_shell (Explain code) = true
 is_of_shell (Shell log) = false
 is_of_shell (Serve log address count seconds) = false

@@ -1,18 +1,11 @@
 -- What became of the words of a command line.
 use Rattle.std.specs.Prelude.{◌≡◌, ◌≢◌, ◌⊎◌, ℕ, List, []}
-use Rattle.clap.specs.Words.{IsAmong, Text, fault_of}
-use Rattle.clap.specs.declared.error.kind.ErrorKind.{ErrorKind}
-use Rattle.clap.specs.declared.error.kind.ErrorKind.TheVariants.{DisplayHelp, DisplayVersion}
-use Rattle.stn_line.specs.Commands.{stn}
-use Rattle.stn_line.specs.declared.words.Line.{Line}
-use Rattle.stn_shell.specs.Asking.{AskFor, no_text}
-use Rattle.stn_shell.specs.Carried.{Does}
-use Rattle.stn_shell.specs.Outside.{Outside, Ends}
+use Rattle.clap.specs.{Words.{IsAmong, Text, fault_of}, declared.error.kind.ErrorKind.{ErrorKind, TheVariants.{DisplayHelp, DisplayVersion}}}
+use Rattle.stn_line.specs.{Commands.stn, declared.words.Line.Line}
+use Rattle.stn_shell.specs.{Asking.{AskFor, no_text}, Carried.Does, Outside.{Outside, Ends}, declared.process.Wordless.Wordless}
 use Rattle.stn_effects.specs.Printing.{Device, Prints, BreaksOff, TellsText, TellsFault}
-use Rattle.stn_shell.specs.declared.process.Wordless.{Wordless}
 use Rattle.stn_shell.specs.declared.process.Wordless.TheVariants as wordless
-use Rattle.stn_refusal.specs.declared.failure.Fault.{Fault}
-use Rattle.stn_refusal.specs.declared.failure.Fault.TheVariants.{Write, Memory}
+use Rattle.stn_refusal.specs.declared.failure.Fault.{Fault, TheVariants.{Write, Memory}}
 
 -- what clap says of words is a mistake, no help and no version
 abbrev pub IsMistake : ErrorKind → Type 0

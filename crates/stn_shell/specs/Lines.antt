@@ -1,10 +1,7 @@
 -- What is read of an input for one line.
-use Rattle.std.specs.Prelude.{◌≡◌, ◌≢◌, ◌⊎◌, ℕ, ◌+◌, List, [], ◌∷◌, ◌++◌, length, Option, Some, None, Result, Ok, Err, Vec}
-use Rattle.std.specs.List.{AllByRecursion}
-use Rattle.std.specs.Io.KnownBytes.{Consumes, IsAtEnd}
+use Rattle.std.specs.{Prelude.{◌≡◌, ◌≢◌, ◌⊎◌, ℕ, ◌+◌, List, [], ◌∷◌, ◌++◌, length, Option, Some, None, Result, Ok, Err, Vec}, List.AllByRecursion, Io.KnownBytes.{Consumes, IsAtEnd}}
 use Rattle.stn_text.specs.Bytes.{line_feed}
-use Rattle.stn_device.specs.declared.whole.ReadFault.{ReadFault}
-use Rattle.stn_device.specs.declared.whole.ReadFault.TheVariants.{Bound}
+use Rattle.stn_device.specs.declared.whole.ReadFault.{ReadFault, TheVariants.Bound}
 
 -- none of the bytes ends a line
 abbrev pub AreWithinLine : List ℕ → Type 0

@@ -1,7 +1,6 @@
 -- What there is outside of a program, and how effects on parts of it are effects on all.
 use Rattle.std.specs.Prelude.{◌≡◌, ◌⊎◌, ℕ, Ok, Err}
-use Rattle.stn_effects.specs.Effects.{Effect}
-use Rattle.stn_effects.specs.Printing.{Device, Tells}
+use Rattle.stn_effects.specs.{Effects.Effect, Printing.{Device, Tells}}
 use Rattle.stn_store.specs.Steps.{Entries}
 use Rattle.stn_refusal.specs.declared.failure.Failure.{Failure}
 

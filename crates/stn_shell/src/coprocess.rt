@@ -1,17 +1,13 @@
 //! A shell on a log.
 
-ghost use Rattle.std.specs.Prelude.{◌≡◌, ◌≢◌, ◌+◌, ◌<◌, ◌≤◌, ◌++◌, [], ◌∷◌, ℕ, List, true, Ok, map, IsUtf8, IfOk, IfErr, OnOk, OnErr, IfSome, IsNone};
-ghost use Rattle.std.specs.List.{AllByRecursion};
+ghost use Rattle.std.specs.{Prelude.{◌≡◌, ◌≢◌, ◌+◌, ◌<◌, ◌≤◌, ◌++◌, [], ◌∷◌, ℕ, List, true, Ok, map, IsUtf8, IfOk, IfErr, OnOk, OnErr, IfSome, IsNone}, List.AllByRecursion};
 ghost use Rattle.stn_device.specs.Bytes.{most_bytes};
-ghost use Rattle.stn_effects.specs.Effects.{seen, Then};
-ghost use Rattle.stn_effects.specs.Printing.{Device, device_of, Prints, IsUnprinted, TellsText};
-ghost use Rattle.stn_text.specs.Bytes.{line_feed};
-ghost use Rattle.stn_text.specs.Lines.{words_of};
+ghost use Rattle.stn_effects.specs.{Effects.{seen, Then}, Printing.{Device, device_of, Prints, IsUnprinted, TellsText}};
+ghost use Rattle.stn_text.specs.{Bytes.line_feed, Lines.words_of};
 ghost use Rattle.stn_exec.specs.Script.{is_skipped as skips};
 ghost use Rattle.stn_refusal.specs.Printed.{refusal_text};
 ghost use Rattle.stn_shell.specs.Coprocess as spec;
-ghost use Rattle.stn_shell.specs.Coprocess.{standing, line_words, DoesText, DoesWords, ReadsTexts, DoesLines, RunsShell, Turns};
-ghost use Rattle.stn_shell.specs.Outside.{outside, OnError};
+ghost use Rattle.stn_shell.specs.{Coprocess.{standing, line_words, DoesText, DoesWords, ReadsTexts, DoesLines, RunsShell, Turns}, Outside.{outside, OnError}};
 
 use crate::lines::read_line;
 use crate::process::NO_TEXT;

@@ -1,16 +1,11 @@
 //! A command line, from its words to its status.
 
-ghost use Rattle.std.specs.Prelude.{◌≡◌, ◌<◌, ◌≤◌, ◌-◌, ◌*◌, ◌^◌, map, None, Ok, IfOk};
+ghost use Rattle.std.specs.{Prelude.{◌≡◌, ◌<◌, ◌≤◌, ◌-◌, ◌*◌, ◌^◌, map, None, Ok, IfOk}, Duration.as_nanos};
 ghost use Rattle.clap.specs.Words.{kind_of};
 ghost use Rattle.stn_device.specs.Counted.{failure_count};
-ghost use Rattle.stn_effects.specs.Effects.{seen};
-ghost use Rattle.stn_effects.specs.Printing.{Device, device_of};
-ghost use Rattle.stn_shell.specs.Carried.{RunsInput, Listens, ServesFound, ServesLog, SendsFound, SendsLog, Answers, Does};
-ghost use Rattle.stn_shell.specs.Executed.{IsSaid, IsExecuted, SaysText};
-ghost use Rattle.stn_shell.specs.Outside.{outside, Ends};
-ghost use Rattle.stn_store.specs.Files.{IsFileFault};
-ghost use Rattle.stn_store.specs.Steps.{Entries, LoadsLog};
-ghost use Rattle.std.specs.Duration.{as_nanos};
+ghost use Rattle.stn_effects.specs.{Effects.seen, Printing.{Device, device_of}};
+ghost use Rattle.stn_shell.specs.{Carried.{RunsInput, Listens, ServesFound, ServesLog, SendsFound, SendsLog, Answers, Does}, Executed.{IsSaid, IsExecuted, SaysText}, Outside.{outside, Ends}};
+ghost use Rattle.stn_store.specs.{Files.IsFileFault, Steps.{Entries, LoadsLog}};
 
 use crate::coprocess::run_shell;
 use std::alloc::Global;
@@ -26,7 +21,7 @@ use stn_exec::run;
 use stn_line::{Line, LineFault, SiteLog, line, said};
 use stn_logs::answer;
 use stn_refusal::{Failure, Fault};
-use stn_replica::Replica;
+use stn_site::SitePlan;
 use stn_store::{FileStore, Store};
 
 /// Does the command of the words over files.
@@ -252,12 +247,11 @@ fn limit(seconds: u16) -> Duration
     Duration::from_secs(u64::from(seconds))
 }
 
-// The replica of a log.
-fn open_replica<S: Store<Global>>(store: &S, log: &SiteLog<'_>) -> Result<Replica<Global>, Failure>
+// What a log says.
+fn load_plan<S: Store<Global>>(store: &S, log: &SiteLog<'_>) -> Result<SitePlan<Global>, Failure>
     ensures { LoadsLog S.fails log.now.name.now log.now.site (S.entries store.now) (S.entries store.now) result }
 {
-    let plan = store.load(log.name, log.site)?;
-    Ok(Replica::of(plan)?)
+    store.load(log.name, log.site)
 }
 
 // Serves a log at an address.
@@ -278,14 +272,14 @@ fn serve_at<
         (outside (S.entries store.old) unread (device_of W.contents out.old) err)
         (outside (S.entries store.new) unread (device_of W.contents out.new) err) result }
 {
-    let mut replica = open_replica(store, log)?;
-    let served = serve_replica(rt, store, log, address, count, limit, &mut replica, out);
-    drop(replica);
+    let mut plan = load_plan(store, log)?;
+    let served = serve_plan(rt, store, log, address, count, limit, &mut plan, out);
+    drop(plan);
     served
 }
 
-// Serves the replica of a log that can be saved.
-fn serve_replica<
+// Serves what a log says, if the log can be saved.
+fn serve_plan<
     S: Store<Global>,
     T: AllocGlobal + Clock + Net<Listener = TcpListener, Stream = TcpStream>,
     W: Write,
@@ -296,10 +290,10 @@ fn serve_replica<
     address: &str,
     count: u16,
     limit: Duration,
-    replica: &mut Replica<Global>,
+    plan: &mut SitePlan<Global>,
     out: &mut Counted<W>,
 ) -> Result<(), Failure>
-    ensures { (unread err : Device) → ServesFound S.fails log.now count replica.old
+    ensures { (unread err : Device) → ServesFound S.fails log.now count plan.old
         (outside (S.entries store.old) unread (device_of W.contents out.old) err)
         (outside (S.entries store.new) unread (device_of W.contents out.new) err) result }
 {
@@ -310,7 +304,7 @@ fn serve_replica<
         listener: &listener,
         limit,
     };
-    serve_each(rt.alloc(), store, &mut service, count, log, replica, out)
+    serve_each(rt.alloc(), store, &mut service, count, log, plan, out)
 }
 
 // Binds an address, and says so.
@@ -345,26 +339,26 @@ fn send_to<S: Store<Global>, T: AllocGlobal + Clock + Net<Stream = TcpStream>, W
         (outside (S.entries store.old) unread (device_of W.contents out.old) err)
         (outside (S.entries store.new) unread (device_of W.contents out.new) err) result }
 {
-    let mut replica = open_replica(store, log)?;
-    let sent = send_replica(rt, store, log, address, limit, &mut replica, out);
-    drop(replica);
+    let mut plan = load_plan(store, log)?;
+    let sent = send_plan(rt, store, log, address, limit, &mut plan, out);
+    drop(plan);
     sent
 }
 
-// Exchanges what the replica of a log holds with the site that serves at an address.
-fn send_replica<S: Store<Global>, T: AllocGlobal + Clock + Net<Stream = TcpStream>, W: Write>(
+// Exchanges what a log says with the site that serves at an address.
+fn send_plan<S: Store<Global>, T: AllocGlobal + Clock + Net<Stream = TcpStream>, W: Write>(
     rt: &T,
     store: &mut S,
     log: &SiteLog<'_>,
     address: &str,
     limit: Duration,
-    replica: &mut Replica<Global>,
+    plan: &mut SitePlan<Global>,
     out: &mut Counted<W>,
 ) -> Result<(), Failure>
-    ensures { (unread err : Device) → SendsFound S.fails log.now replica.old
+    ensures { (unread err : Device) → SendsFound S.fails log.now plan.old
         (outside (S.entries store.old) unread (device_of W.contents out.old) err)
         (outside (S.entries store.new) unread (device_of W.contents out.new) err) result }
 {
     let mut peer = connect(rt, address, limit)?;
-    send_to_partner(rt.alloc(), store, &mut peer, log, replica, out)
+    send_to_partner(rt.alloc(), store, &mut peer, log, plan, out)
 }

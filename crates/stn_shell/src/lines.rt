@@ -1,8 +1,7 @@
 //! The lines of an input, each read when it is asked for.
 
 ghost use Rattle.std.specs.Prelude.{◌≡◌, ◌≢◌, [], Err, IsErrOf, IsNone, IfSome};
-ghost use Rattle.stn_device.specs.Counted.{counted_device, CountsFailure, KeepsCount};
-ghost use Rattle.stn_device.specs.declared.whole.ReadFault.TheVariants.{Read};
+ghost use Rattle.stn_device.specs.{Counted.{counted_device, CountsFailure, KeepsCount}, declared.whole.ReadFault.TheVariants.Read};
 ghost use Rattle.stn_shell.specs.Lines.{IsLineRead};
 
 use std::alloc::Allocator;

@@ -1,11 +1,9 @@
 //! The program.
 
-ghost use Rattle.std.specs.Prelude.{◌<◌, ◌≤◌, ◌-◌, ◌^◌, map, None, MatchResult};
-ghost use Rattle.std.specs.Process.{exit_status};
+ghost use Rattle.std.specs.{Prelude.{◌<◌, ◌≤◌, ◌-◌, ◌^◌, map, None, MatchResult}, Process.exit_status};
 ghost use Rattle.stn_device.specs.Counted.{failure_count};
-ghost use Rattle.stn_shell.specs.Executed.{IsExecuted, IsWordless};
+ghost use Rattle.stn_shell.specs.{Executed.{IsExecuted, IsWordless}, Outside.outside};
 ghost use Rattle.stn_effects.specs.Printing.{device_of};
-ghost use Rattle.stn_shell.specs.Outside.{outside};
 ghost use Rattle.stn_store.specs.Files.{IsFileFault};
 
 use crate::execution::execute;

@@ -1,8 +1,8 @@
-use Rattle.std.proofs.Common.{refl, ap, inl, ◌∙◌}
-use Rattle.std.proofs.lemmas.Result.{err_from_is_err_and}
+use Rattle.std.proofs.{Common.{refl, ap, inl, ◌∙◌}, lemmas.Result.err_from_is_err_and}
 use Rattle.stn_site.specs.Held.{next_id}
 use Rattle.stn_command.specs.Change.{made_text}
 use Rattle.stn_store.proofs.Failed.{take_failed}
+use Rattle.stn_logs.specs.Commands.{updated}
 use Rattle.stn_logs.proofs.changes.change_plan.Goals as goal
 
 pub returns-in_err-made : goal.returns-in_err-made
@@ -19,8 +19,9 @@ pub returns : goal.returns
 returns g c = (
   record {
     id = next_id c.args.plan.now;
+    after = c.make_change.new.plan;
     left = c.in_ok-made.ensures.left;
-    line = c.in_ok-print.ensures.printed ∙ rw c.new-text.ensures.items (ap made_text c.in_ok-made.ensures.made);
+    whole = ap (updated c.make_change.new.plan) (c.in_ok-print.ensures.printed ∙ rw c.new-text.ensures.items (ap made_text c.in_ok-made.ensures.made));
   },
   c.in_ok-made.ensures.accepted,
 )

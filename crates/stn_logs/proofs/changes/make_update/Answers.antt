@@ -1,20 +1,18 @@
-use Rattle.std.proofs.Common.{◌≡◌, option_map, sym, ap, inl, inr, ⊎_elim}
-use Rattle.std.proofs.lemmas.Result.{MatchResult-weaker}
+use Rattle.std.proofs.{Common.{◌≡◌, option_map, sym, ap, inl, inr, ⊎_elim}, lemmas.Result.MatchResult-weaker}
 use Rattle.stn_effects.proofs.Endings.{makes_of}
 use Rattle.stn_site.specs.Failures.{replica_failure}
 use Rattle.stn_command.specs.Change.{change_refusal}
-use Rattle.stn_command.specs.Guarding.{IsGuarded}
-use Rattle.stn_logs.specs.Commands.{updated, IsChanged, IsUnguarded}
+use Rattle.stn_logs.specs.Commands.{seen_outcome, IsChanged, IsGuarded, IsUnguarded}
 use Rattle.stn_logs.proofs.changes.make_update.Goals as goal
 
 pub returns-in-Change : goal.returns-in-Change
 returns-in-Change g c =
     let held = c.args.plan.now in
     let asked = c.in-Change.asked in
-    rw c.in-Change.is (makes_of g.S.Store.fails (λ text. updated c.change_plan.new.plan text.items) (IsChanged asked held)
+    rw c.in-Change.is (makes_of g.S.Store.fails (seen_outcome c.change_plan.new.plan) (IsChanged asked held)
     (λ cause. cause ≡ option_map replica_failure (change_refusal held asked)) c.change_plan.result _
     (MatchResult-weaker c.change_plan.result c.change_plan.ensures
-    (λ text made. (made.0, sym (ap (option_map replica_failure) made.1))) (λ failure why. why)))
+    (λ outcome made. (made.0, sym (ap (option_map replica_failure) made.1))) (λ failure why. why)))
 
 pub returns-in-Merge : goal.returns-in-Merge
 returns-in-Merge g c = rw c.in-Merge.is c.merge_log.ensures
@@ -23,5 +21,5 @@ pub returns-in-Guard : goal.returns-in-Guard
 returns-in-Guard g c =
     let held = c.args.plan.now in
     let owned = c.in-Guard.owned.items in
-    rw c.in-Guard.is (makes_of g.S.Store.fails (λ text. updated c.guard_plan.new.plan text.items) (λ made. IsGuarded owned held made.held made.text)
+    rw c.in-Guard.is (makes_of g.S.Store.fails (seen_outcome c.guard_plan.new.plan) (IsGuarded owned held)
     (IsUnguarded owned held) c.guard_plan.result _ (rw c.deref.ensures.value at c.guard_plan.ensures))

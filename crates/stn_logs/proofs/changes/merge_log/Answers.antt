@@ -1,9 +1,8 @@
-use Rattle.std.proofs.Common.{refl, sym, ap, inl, inr, ⊎_elim}
-use Rattle.std.specs.Prelude.{option_map}
-use Rattle.std.proofs.lemmas.Result.{err_from_is_err_and}
+use Rattle.std.{proofs.{Common.{refl, sym, ap, inl, inr, ⊎_elim}, lemmas.Result.err_from_is_err_and}, specs.Prelude.option_map}
 use Rattle.stn_effects.specs.Effects.{stopped, went}
 use Rattle.stn_site.specs.Failures.{replica_failure}
 use Rattle.stn_store.proofs.Lacks.{lack_of_memory}
+use Rattle.stn_logs.specs.Commands.{updated}
 use Rattle.stn_logs.proofs.changes.merge_log.Goals as goal
 
 pub returns-in_err-theirs : goal.returns-in_err-theirs
@@ -30,6 +29,6 @@ returns g c =
     let taken = c.in_ok-take_in.ensures in
     went c.in_ok-theirs.theirs _ (refl, opened) (
       refl,
-      record { same = taken.same; left = taken.left; line = c.in_ok-copied.ensures },
+      record { same = taken.same; after = c.take_in.new.copy; left = taken.left; whole = ap (updated c.take_in.new.copy) c.in_ok-copied.ensures },
       inr (taken.same, sym (ap (option_map replica_failure) taken.accepted)),
     )

@@ -30,5 +30,8 @@ returns-in-Among g c = rw c.in-Among.is (rw c.choice_of-choice.ensures at c.say_
 pub returns-in-Named : goal.returns-in-Named
 returns-in-Named g c = rw c.in-Named.is c.show_named.ensures
 
+pub returns-in-Draw : goal.returns-in-Draw
+returns-in-Draw g c = rw c.in-Draw.is c.draw_log.ensures
+
 pub returns-in-Query : goal.returns-in-Query
 returns-in-Query g c = rw c.in-Query.is c.say_of-in-Query.ensures

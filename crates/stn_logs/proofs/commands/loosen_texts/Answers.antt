@@ -1,5 +1,4 @@
-use Rattle.std.proofs.Common.{refl, inl, inr, ⊎_elim}
-use Rattle.std.proofs.lemmas.Result.{err_from_is_err_and}
+use Rattle.std.proofs.{Common.{refl, inl, inr, ⊎_elim}, lemmas.Result.err_from_is_err_and}
 use Rattle.stn_effects.specs.Effects.{stopped, went}
 use Rattle.stn_store.proofs.Lacks.{lack_of_memory}
 use Rattle.stn_logs.proofs.Made.{saved_as}

@@ -1,10 +1,8 @@
-use Rattle.std.proofs.Common.{refl, ap, inl, inr, ⊎_elim}
-use Rattle.std.proofs.lemmas.Result.{err_from_is_err_and}
+use Rattle.std.proofs.{Common.{refl, ap, inl, inr, ⊎_elim}, lemmas.Result.err_from_is_err_and}
 use Rattle.stn_effects.specs.Effects.{stopped, went}
 use Rattle.stn_lift.specs.PlanSource.{plan_source}
 use Rattle.stn_store.proofs.Lacks.{lack_of_memory}
-use Rattle.stn_logs.specs.Commands.{based}
-use Rattle.stn_logs.proofs.Made.{saved_as}
+use Rattle.stn_logs.{specs.Commands.based, proofs.Made.saved_as}
 use Rattle.stn_logs.proofs.commands.make.Goals as goal
 
 pub returns-in_err-plan : goal.returns-in_err-plan

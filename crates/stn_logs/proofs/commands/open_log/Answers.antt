@@ -1,5 +1,4 @@
-use Rattle.std.proofs.Common.{refl, inl, inr, ⊎_elim}
-use Rattle.std.proofs.lemmas.Result.{err_from_is_err_and}
+use Rattle.std.proofs.{Common.{refl, inl, inr, ⊎_elim}, lemmas.Result.err_from_is_err_and}
 use Rattle.stn_logs.proofs.commands.open_log.Goals as goal
 
 pub returns-in_err-held : goal.returns-in_err-held

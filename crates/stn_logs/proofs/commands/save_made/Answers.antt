@@ -1,5 +1,4 @@
-use Rattle.std.proofs.Common.{Ok, refl, ap, inr}
-use Rattle.std.proofs.lemmas.Result.{err_from_is_err_and}
+use Rattle.std.proofs.{Common.{Ok, refl, ap, inr}, lemmas.Result.err_from_is_err_and}
 use Rattle.stn_effects.specs.Effects.{stopped, went}
 use Rattle.stn_store.proofs.Lacks.{lack_of_memory}
 use Rattle.stn_logs.proofs.commands.save_made.Goals as goal

@@ -1,5 +1,4 @@
-use Rattle.std.proofs.Common.{refl, inr}
-use Rattle.std.proofs.lemmas.Result.{err_from_is_err_and}
+use Rattle.std.proofs.{Common.{refl, inr}, lemmas.Result.err_from_is_err_and}
 use Rattle.stn_logs.proofs.Made.{save_ended}
 use Rattle.stn_logs.proofs.commands.save_new.Goals as goal
 

@@ -1,7 +1,5 @@
-use Rattle.std.proofs.Common.{refl}
-use Rattle.std.proofs.lemmas.Result.{err_from_is_err_and}
-use Rattle.stn_effects.specs.Effects.{stopped, went}
-use Rattle.stn_effects.proofs.Endings.{makes_of}
+use Rattle.std.proofs.{Common.refl, lemmas.Result.err_from_is_err_and}
+use Rattle.stn_effects.{specs.Effects.{stopped, went}, proofs.Endings.makes_of}
 use Rattle.stn_command.specs.Query.{seen_query, IsSaid, IsQueryRefusal}
 use Rattle.stn_logs.proofs.commands.say_of.Goals as goal
 

@@ -1,5 +1,4 @@
-use Rattle.std.proofs.Common.{refl}
-use Rattle.std.proofs.lemmas.Result.{err_from_is_err_and}
+use Rattle.std.proofs.{Common.refl, lemmas.Result.err_from_is_err_and}
 use Rattle.stn_effects.specs.Effects.{stopped, went}
 use Rattle.stn_logs.proofs.commands.update_log.Goals as goal
 
@@ -13,15 +12,18 @@ returns-in_err-text g c =
     let p = err_from_is_err_and c.from_residual-in_err-text.result c.from_residual-in_err-text.ensures.1 in
     rw (p.1, p.2) (went _ _ c.in_ok-ours.ensures.loaded (stopped _ c.in_err-text.ensures refl))
 
-pub returns-in_err-saved : goal.returns-in_err-saved
-returns-in_err-saved g c =
-    let p = err_from_is_err_and c.from_residual-in_err-saved.result c.from_residual-in_err-saved.ensures.1 in
-    rw (p.1, p.2) (went _ _ c.in_ok-ours.ensures.loaded (went _ _ c.in_ok-text.ensures
-    (stopped _ (c.in_err-saved.ensures.kept, c.in_err-saved.ensures.failed) refl)))
+pub returns-in_err-saved-in-Updated : goal.returns-in_err-saved-in-Updated
+returns-in_err-saved-in-Updated g c =
+    let p = err_from_is_err_and c.from_residual-in_err-saved-in-Updated.result c.from_residual-in_err-saved-in-Updated.ensures.1 in
+    rw (p.1, p.2) (went _ _ c.in_ok-ours.ensures.loaded (went _ _ (rw c.in-Updated.is at c.in_ok-text.ensures)
+    (stopped _ (c.in_err-saved-in-Updated.ensures.kept, c.in_err-saved-in-Updated.ensures.failed) refl)))
 
 pub learn-requires : goal.learn-requires
-learn-requires g c = c.in_ok-saved.ensures.spelled
+learn-requires g c = c.in_ok-saved-in-Updated.ensures.spelled
 
-pub returns : goal.returns
-returns g c = went _ _ c.in_ok-ours.ensures.loaded (went _ _ c.in_ok-text.ensures
-    (went tt _ (rw c.in_ok-ours.ensures.named at c.in_ok-saved.ensures.saved) (refl, refl)))
+pub returns-in_ok-saved-in-Updated : goal.returns-in_ok-saved-in-Updated
+returns-in_ok-saved-in-Updated g c = went _ _ c.in_ok-ours.ensures.loaded (went _ _ (rw c.in-Updated.is at c.in_ok-text.ensures)
+    (went tt _ (rw c.in_ok-ours.ensures.named at c.in_ok-saved-in-Updated.ensures.saved) (refl, refl)))
+
+pub returns-in-Unchanged : goal.returns-in-Unchanged
+returns-in-Unchanged g c = went _ _ c.in_ok-ours.ensures.loaded (went _ _ (rw c.in-Unchanged.is at c.in_ok-text.ensures) (refl, refl))

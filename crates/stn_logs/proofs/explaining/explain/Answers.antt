@@ -1,6 +1,4 @@
-use Rattle.std.proofs.Common.{◌∙◌, ◌++◌, refl, inr, sym, ap, subst, option_map}
-use Rattle.std.proofs.lemmas.Bool.{false≢true}
-use Rattle.std.specs.Result.{is_err}
+use Rattle.std.{proofs.{Common.{◌∙◌, ◌++◌, refl, inr, sym, ap, subst, option_map}, lemmas.Bool.false≢true}, specs.Result.is_err}
 use Rattle.stn_line.specs.Explanations.Explained.{IsExplained}
 use Rattle.stn_logs.proofs.explaining.explain.Goals as goal
 

@@ -1,12 +1,8 @@
 use Rattle.std.proofs.Common.{ℕ, ℤ, subst}
 use Rattle.stn_net.specs.Schedule.{IsSchedule}
-use Rattle.stn_lift.specs.BaseBounds.{KeepsOrder}
-use Rattle.stn_lift.specs.PlanSource.{base_bounds, events_of, interfere_in_plan, planned_of}
-use Rattle.stn_site.specs.Bounds.{all_bounds}
-use Rattle.stn_site.specs.Held.{Held}
-use Rattle.stn_loosen.specs.Loosened.{loose_durations}
-use Rattle.stn_loosen.specs.Promise.{Promises}
-use Rattle.stn_loosen.specs.Robust.{loose_bounds}
+use Rattle.stn_lift.specs.{BaseBounds.KeepsOrder, PlanSource.{base_bounds, events_of, interfere_in_plan, planned_of}}
+use Rattle.stn_site.specs.{Bounds.all_bounds, Held.Held}
+use Rattle.stn_loosen.specs.{Loosened.loose_durations, Promise.Promises, Robust.loose_bounds}
 use Rattle.stn_logs.proofs.loosening.copy_of.Goals as goal
 
 pub returns-in_ok-robust_site_plan-clause-loosened : goal.returns-in_ok-robust_site_plan-clause-loosened

@@ -1,9 +1,7 @@
 use Rattle.std.proofs.Common.{◌≡◌, ◌⊎◌, Some, None, OnOk, IfOk, IfErr, subst}
 use Rattle.stn_lift.specs.PlanSource.{PlanSource, bare, steps_of, plan_source}
 use Rattle.stn_site.specs.Held.{Held}
-use Rattle.stn_refusal.specs.declared.failure.Failure.{Failure}
-use Rattle.stn_refusal.specs.declared.failure.Failure.TheVariants.{Failed}
-use Rattle.stn_refusal.specs.declared.failure.Fault.TheVariants.{Memory}
+use Rattle.stn_refusal.specs.declared.failure.{Failure.{Failure, TheVariants.Failed}, Fault.TheVariants.Memory}
 use Rattle.stn_logs.specs.Loosening.{HoldsLoosened, IsLooseningRefusal}
 use Rattle.stn_logs.proofs.loosening.loosen.Goals as goal
 

@@ -1,5 +1,4 @@
-use Rattle.std.proofs.Common.{refl, sym, inl, inr, ⊎_elim}
-use Rattle.std.proofs.lemmas.Result.{err_from_is_err_and}
+use Rattle.std.proofs.{Common.{refl, sym, inl, inr, ⊎_elim}, lemmas.Result.err_from_is_err_and}
 use Rattle.stn_logs.specs.Words.{among_read}
 use Rattle.stn_logs.proofs.words.read_among.Goals as goal
 

@@ -1,5 +1,4 @@
-use Rattle.std.proofs.Common.{refl}
-use Rattle.std.proofs.lemmas.Result.{err_from_is_err_and}
+use Rattle.std.proofs.{Common.refl, lemmas.Result.err_from_is_err_and}
 use Rattle.stn_logs.specs.Words.{bound_read}
 use Rattle.stn_logs.proofs.words.read_bound.Goals as goal
 

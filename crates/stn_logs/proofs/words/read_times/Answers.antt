@@ -1,7 +1,5 @@
-use Rattle.std.proofs.Common.{refl, sym, subst, inl, inr}
-use Rattle.std.proofs.lemmas.Result.{err_from_is_err_and}
-use Rattle.stn_command.specs.Words.{time_read}
-use Rattle.stn_command.proofs.EachRead.{IsReadTo, none_read, one_read, word_refused, all_read}
+use Rattle.std.proofs.{Common.{refl, sym, subst, inl, inr}, lemmas.Result.err_from_is_err_and}
+use Rattle.stn_command.{specs.Words.time_read, proofs.EachRead.{IsReadTo, none_read, one_read, word_refused, all_read}}
 use Rattle.stn_logs.proofs.words.read_times.Goals as goal
 
 pub words-init : goal.words-init

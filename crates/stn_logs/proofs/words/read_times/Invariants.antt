@@ -1,5 +1,4 @@
-use Rattle.stn_command.specs.Words.{time_read}
-use Rattle.stn_command.proofs.EachRead.{IsReadTo}
+use Rattle.stn_command.{specs.Words.time_read, proofs.EachRead.IsReadTo}
 use Rattle.stn_logs.proofs.words.read_times.Given as goal
 
 abbrev pub invariant-words : goal.invariant-words

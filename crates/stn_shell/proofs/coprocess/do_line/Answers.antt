@@ -1,7 +1,5 @@
-use Rattle.std.proofs.Common.{Ok, Err, refl, sym, inl, ◌∙◌}
-use Rattle.std.proofs.lemmas.Result.{err_from_is_err_and}
-use Rattle.stn_effects.specs.Effects.{stopped, went}
-use Rattle.stn_effects.specs.Printing.{device_of}
+use Rattle.std.proofs.{Common.{Ok, Err, refl, sym, inl, ◌∙◌}, lemmas.Result.err_from_is_err_and}
+use Rattle.stn_effects.specs.{Effects.{stopped, went}, Printing.device_of}
 use Rattle.stn_shell.specs.Outside.{outside}
 use Rattle.stn_shell.proofs.coprocess.do_line.Goals as goal
 

@@ -1,9 +1,6 @@
-use Rattle.std.proofs.Common.{refl}
-use Rattle.std.proofs.lemmas.Result.{err_from_is_err_and}
-use Rattle.stn_effects.specs.Effects.{stopped, went, broke, over, again}
-use Rattle.stn_effects.specs.Printing.{device_of}
-use Rattle.stn_shell.specs.Coprocess.{standing}
-use Rattle.stn_shell.specs.Outside.{outside}
+use Rattle.std.proofs.{Common.refl, lemmas.Result.err_from_is_err_and}
+use Rattle.stn_effects.specs.{Effects.{stopped, went, broke, over, again}, Printing.device_of}
+use Rattle.stn_shell.specs.{Coprocess.standing, Outside.outside}
 use Rattle.stn_shell.proofs.coprocess.do_lines.Goals as goal
 
 pub returns-in_err-find_log : goal.returns-in_err-find_log

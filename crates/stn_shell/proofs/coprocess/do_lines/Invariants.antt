@@ -1,10 +1,8 @@
 use Rattle.std.proofs.Common.{◌+◌, ◌≤◌, ℕ, Result}
 use Rattle.stn_device.specs.Bytes.{most_bytes}
-use Rattle.stn_effects.specs.Effects.{Repeats}
-use Rattle.stn_effects.specs.Printing.{device_of}
+use Rattle.stn_effects.specs.{Effects.Repeats, Printing.device_of}
 use Rattle.stn_refusal.specs.declared.failure.Failure.{Failure}
-use Rattle.stn_shell.specs.Coprocess.{Standing, standing, Turns}
-use Rattle.stn_shell.specs.Outside.{outside}
+use Rattle.stn_shell.specs.{Coprocess.{Standing, standing, Turns}, Outside.outside}
 use Rattle.stn_shell.proofs.coprocess.do_lines.Given as goal
 
 abbrev pub invariant-turns : goal.invariant-turns

@@ -1,6 +1,5 @@
 use Rattle.std.proofs.Common.{ap, subst, ◌++◌, ◌∙◌}
-use Rattle.stn_shell.specs.Coprocess.{AreTexts}
-use Rattle.stn_shell.proofs.Turns.{no_texts, one_further}
+use Rattle.stn_shell.{specs.Coprocess.AreTexts, proofs.Turns.{no_texts, one_further}}
 use Rattle.stn_shell.proofs.coprocess.read_further.Goals as goal
 
 pub returns-in-Err-clause-none : goal.returns-in-Err-clause-none

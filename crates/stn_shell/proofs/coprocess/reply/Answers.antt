@@ -1,11 +1,7 @@
-use Rattle.std.proofs.Common.{ℕ, List, map, refl, ap, ◌∙◌, inl, inr}
-use Rattle.std.specs.Prelude.{decimal}
-use Rattle.std.proofs.lemmas.Result.{err_from_is_err_and}
-use Rattle.stn_effects.specs.Effects.{stopped, went}
-use Rattle.stn_effects.specs.Printing.{device_of}
+use Rattle.std.{proofs.{Common.{ℕ, List, map, refl, ap, ◌∙◌, inl, inr}, lemmas.Result.err_from_is_err_and}, specs.Prelude.decimal}
+use Rattle.stn_effects.specs.{Effects.{stopped, went}, Printing.device_of}
 use Rattle.stn_text.specs.Lines.{words_of}
-use Rattle.stn_shell.specs.Coprocess.{line_words}
-use Rattle.stn_shell.specs.Outside.{outside}
+use Rattle.stn_shell.specs.{Coprocess.line_words, Outside.outside}
 use Rattle.stn_shell.proofs.coprocess.reply.Goals as goal
 
 pub returns-in_err-words : goal.returns-in_err-words

@@ -1,8 +1,6 @@
-use Rattle.std.proofs.Common.{refl, sym, inl, inr, ◌∙◌}
-use Rattle.std.proofs.lemmas.Result.{err_from_is_err_and}
-use Rattle.stn_effects.specs.Effects.{stopped, went}
+use Rattle.std.proofs.{Common.{refl, sym, inl, inr, ◌∙◌}, lemmas.Result.err_from_is_err_and}
+use Rattle.stn_effects.specs.{Effects.{stopped, went}, Printing.device_of}
 use Rattle.clap.specs.Words.{kind_of}
-use Rattle.stn_effects.specs.Printing.{device_of}
 use Rattle.stn_shell.specs.Outside.{outside}
 use Rattle.stn_shell.proofs.coprocess.reply_to.Goals as goal
 

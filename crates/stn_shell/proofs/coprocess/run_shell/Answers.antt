@@ -1,9 +1,6 @@
-use Rattle.std.proofs.Common.{Ok, Err, refl, ap}
-use Rattle.std.proofs.lemmas.Result.{err_from_is_err_and}
+use Rattle.std.proofs.{Common.{Ok, Err, refl, ap}, lemmas.Result.err_from_is_err_and}
 use Rattle.stn_effects.specs.Printing.{device_of}
-use Rattle.stn_shell.specs.Coprocess.{standing}
-use Rattle.stn_shell.specs.Outside.{outside}
-use Rattle.stn_shell.proofs.Turns.{refused_status}
+use Rattle.stn_shell.{specs.{Coprocess.standing, Outside.outside}, proofs.Turns.refused_status}
 use Rattle.stn_shell.proofs.coprocess.run_shell.Goals as goal
 
 pub returns-in_err-done-clause-ran : goal.returns-in_err-done-clause-ran

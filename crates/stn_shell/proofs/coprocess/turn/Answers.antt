@@ -1,11 +1,7 @@
-use Rattle.std.proofs.Common.{Ok, None, Some, Err, ◌+◌, refl}
-use Rattle.std.proofs.lemmas.Result.{err_from_is_err_and}
+use Rattle.std.proofs.{Common.{Ok, None, Some, Err, ◌+◌, refl}, lemmas.Result.err_from_is_err_and}
 use Rattle.stn_device.proofs.Known.{not_err}
-use Rattle.stn_effects.specs.Effects.{stopped, went}
-use Rattle.stn_effects.specs.Printing.{device_of}
-use Rattle.stn_shell.specs.Coprocess.{Standing, standing, further}
-use Rattle.stn_shell.specs.Outside.{outside}
-use Rattle.stn_shell.proofs.Turns.{reading_stopped, one_read, none_read}
+use Rattle.stn_effects.specs.{Effects.{stopped, went}, Printing.device_of}
+use Rattle.stn_shell.{specs.{Coprocess.{Standing, standing, further}, Outside.outside}, proofs.Turns.{reading_stopped, one_read, none_read}}
 use Rattle.stn_shell.proofs.coprocess.turn.Goals as goal
 
 pub returns-in_err-text-clause-turned : goal.returns-in_err-text-clause-turned

@@ -1,8 +1,6 @@
 use Rattle.std.proofs.Common.{refl}
 use Rattle.stn_effects.specs.Printing.{device_of}
-use Rattle.stn_shell.specs.Carried.{Answers, ServesLog, SendsLog}
-use Rattle.stn_shell.proofs.OnLog.{IsOnLog, answered}
-use Rattle.stn_shell.proofs.Turns.{succeeded}
+use Rattle.stn_shell.{specs.Carried.{Answers, ServesLog, SendsLog}, proofs.{OnLog.{IsOnLog, answered}, Turns.succeeded}}
 use Rattle.stn_shell.proofs.execution.do_line.Goals as goal
 
 pub returns-in-Run : goal.returns-in-Run

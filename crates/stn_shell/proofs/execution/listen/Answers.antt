@@ -1,5 +1,4 @@
-use Rattle.std.proofs.Common.{refl}
-use Rattle.std.proofs.lemmas.Result.{err_from_is_err_and}
+use Rattle.std.proofs.{Common.refl, lemmas.Result.err_from_is_err_and}
 use Rattle.stn_effects.specs.Effects.{stopped, went}
 use Rattle.stn_shell.proofs.execution.listen.Goals as goal
 

@@ -1,14 +1,12 @@
-use Rattle.std.proofs.Common.{refl}
-use Rattle.std.proofs.lemmas.Result.{err_from_is_err_and}
-use Rattle.stn_effects.specs.Effects.{stopped, went}
-use Rattle.stn_effects.specs.Printing.{device_of}
+use Rattle.std.proofs.{Common.refl, lemmas.Result.err_from_is_err_and}
+use Rattle.stn_effects.specs.{Effects.{stopped, went}, Printing.device_of}
 use Rattle.stn_shell.specs.Outside.{outside}
 use Rattle.stn_shell.proofs.execution.serve_at.Goals as goal
 
-pub returns-in_err-replica : goal.returns-in_err-replica
-returns-in_err-replica g c =
+pub returns-in_err-plan : goal.returns-in_err-plan
+returns-in_err-plan g c =
     let p = err_from_is_err_and c.from_residual.result c.from_residual.ensures.1 in
-    rw (p.1, p.2) (λ unread err. stopped _ (c.in_err-replica.ensures, refl, refl, refl) refl)
+    rw (p.1, p.2) (λ unread err. stopped _ (c.in_err-plan.ensures, refl, refl, refl) refl)
 
 pub returns : goal.returns
-returns g c = λ unread err. went c.in_ok-replica.replica (outside (g.S.Store.entries c.args.store.now) unread (device_of g.W.Write.contents c.args.out.now) err) (c.in_ok-replica.ensures, refl, refl, refl) (c.serve_replica-served.ensures unread err)
+returns g c = λ unread err. went c.in_ok-plan.plan (outside (g.S.Store.entries c.args.store.now) unread (device_of g.W.Write.contents c.args.out.now) err) (c.in_ok-plan.ensures, refl, refl, refl) (c.serve_plan-served.ensures unread err)

@@ -1,8 +1,5 @@
-use Rattle.std.proofs.Common.{refl}
-use Rattle.std.proofs.lemmas.Result.{err_from_is_err_and}
-use Rattle.stn_effects.specs.Effects.{stopped, went}
-use Rattle.stn_effects.proofs.Endings.{wrote}
-use Rattle.stn_effects.specs.Printing.{device_of}
+use Rattle.std.proofs.{Common.refl, lemmas.Result.err_from_is_err_and}
+use Rattle.stn_effects.{specs.{Effects.{stopped, went}, Printing.device_of}, proofs.Endings.wrote}
 use Rattle.stn_shell.specs.Outside.{outside}
 use Rattle.stn_shell.proofs.execution.tell_answer.Goals as goal
 

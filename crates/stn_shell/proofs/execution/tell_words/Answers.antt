@@ -1,5 +1,4 @@
-use Rattle.std.proofs.Common.{inl}
-use Rattle.std.specs.String.{string_bytes}
+use Rattle.std.{proofs.Common.inl, specs.String.string_bytes}
 use Rattle.stn_shell.proofs.execution.tell_words.Goals as goal
 
 pub returns-in-Ok : goal.returns-in-Ok

@@ -1,7 +1,4 @@
-use Rattle.std.proofs.Common.{◌≡◌, ◌≢◌, ◌+◌, ◌-◌, ◌^◌, ◌++◌, ◌∷◌, [], min, length, refl, ap, inl, ◌∙◌, arith}
-use Rattle.std.proofs.KnownBytes.{Consumes-nil, Consumes-kept, Consumes-trans}
-use Rattle.std.proofs.lemmas.Grind.{common_steps}
-use Rattle.std.proofs.lemmas.Result.{err_from_is_err_and}
+use Rattle.std.proofs.{Common.{◌≡◌, ◌≢◌, ◌+◌, ◌-◌, ◌^◌, ◌++◌, ◌∷◌, [], min, length, refl, ap, inl, ◌∙◌, arith}, KnownBytes.{Consumes-nil, Consumes-kept, Consumes-trans}, lemmas.{Grind.common_steps, Result.err_from_is_err_and}}
 use Rattle.stn_text.specs.Bytes.{line_feed}
 use Rattle.stn_shell.proofs.Bytes.{within_more, one_taken, taken_more, at_end}
 use Rattle.stn_shell.proofs.lines.read_line.Goals as goal

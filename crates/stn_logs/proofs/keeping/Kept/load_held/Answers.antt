@@ -1,6 +1,5 @@
 use Rattle.std.proofs.Common.{sym, subst}
-use Rattle.stn_store.specs.Store.{Opens}
-use Rattle.stn_store.proofs.SameLog.{opens_same}
+use Rattle.stn_store.{specs.Store.Opens, proofs.SameLog.opens_same}
 use Rattle.stn_logs.proofs.keeping.Kept.load_held.Goals as goal
 
 pub returns-then-branch-clause-opened : goal.returns-then-branch-clause-opened

@@ -1,5 +1,4 @@
-use Rattle.stn_command.specs.Query.{seen_query}
-use Rattle.stn_command.proofs.Alike.{said_of}
+use Rattle.stn_command.{specs.Query.seen_query, proofs.Alike.said_of}
 use Rattle.stn_logs.proofs.keeping.Kept.say.Goals as goal
 
 pub returns : goal.returns

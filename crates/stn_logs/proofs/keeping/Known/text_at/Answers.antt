@@ -1,5 +1,4 @@
-use Rattle.std.proofs.Common.{◌≡◌, Ok, sym, subst, ◌∙◌}
-use Rattle.std.proofs.lemmas.Bool.Decides.{Decides-eqb}
+use Rattle.std.proofs.{Common.{◌≡◌, Ok, sym, subst, ◌∙◌}, lemmas.Bool.Decides.Decides-eqb}
 use Rattle.stn_site.specs.Held.{Held}
 use Rattle.stn_store.specs.Log.{log_held, IsLog}
 use Rattle.stn_logs.proofs.Spelled.{this_text}

@@ -1,10 +1,7 @@
-use Rattle.std.proofs.Common.{refl, inr}
-use Rattle.std.proofs.lemmas.Result.{err_from_is_err_and}
-use Rattle.stn_effects.specs.Effects.{stopped, went}
-use Rattle.stn_effects.specs.Printing.{device_of}
+use Rattle.std.proofs.{Common.{refl, inr}, lemmas.Result.err_from_is_err_and}
+use Rattle.stn_effects.specs.{Effects.{stopped, went}, Printing.device_of}
 use Rattle.stn_shell.specs.Outside.{outside}
-use Rattle.stn_shell.proofs.Other.{served}
-use Rattle.stn_shell.proofs.execution.serve_replica.Goals as goal
+use Rattle.stn_shell.proofs.execution.serve_plan.Goals as goal
 
 pub returns-in_err-can_save : goal.returns-in_err-can_save
 returns-in_err-can_save g c =
@@ -18,4 +15,4 @@ returns-in_err-listener g c =
 
 pub returns : goal.returns
 returns g c = λ unread err. went tt (outside (g.S.Store.entries c.args.store.now) unread (device_of g.W.Write.contents c.args.out.now) err) ((refl, tt), refl, refl, refl) (went tt (outside (g.S.Store.entries c.args.store.now) unread (device_of g.W.Write.contents c.listen.new.out) err) (c.in_ok-listener.ensures (g.S.Store.entries c.args.store.now) unread err)
-    (served c.serve_each.result g.S.Store.fails c.args.count c.args.log.now c.args.replica.now c.serve_each.new.replica.state _ _ _ _ unread err c.serve_each.ensures.served c.serve_each.ensures.stopped))
+    ((c.serve_each.new.copy.state, c.serve_each.ensures.served), refl, refl))
