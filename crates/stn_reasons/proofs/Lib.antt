@@ -1,2 +1,4 @@
+mod Opened
 mod Refusals
+mod Steps
 mod Words

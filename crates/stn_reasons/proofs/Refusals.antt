@@ -1,23 +1,16 @@
 -- The word that is told is the one that refuses the command.
-use Rattle.std.proofs.Common.{◌≡◌, ◌∙◌, ◌++◌, ℕ, ℤ, Bor, Bool, true, false, List, [], ◌∷◌, Option, Some, None, Result, Ok, Err, refl, sym, ap, map, option_map, pos, neg_ℤ, int_lt, ◌||◌, cond}
-use Rattle.std.specs.Option.{option_or}
+use Rattle.std.{proofs.Common.{◌≡◌, ◌∙◌, ◌++◌, ℕ, ℤ, Bor, Bool, true, false, List, [], ◌∷◌, Option, Some, None, Result, Ok, Err, refl, sym, ap, map, option_map, pos, neg_ℤ, int_lt, bytes_eq, codes, ◌||◌, cond}, specs.Option.option_or}
 use Rattle.stn_refusal.specs.declared.failure.Failure.{Failure}
 use Rattle.stn_time.specs.Time.{horizon}
 use Rattle.stn_guard.specs.declared.owners.OwnedSteps.{OwnedSteps}
-use Rattle.stn_line.specs.declared.words.EventChoice.{EventChoice}
-use Rattle.stn_line.specs.declared.words.SiteLog.{SiteLog}
-use Rattle.stn_line.specs.declared.words.Line.{Line}
+use Rattle.stn_line.specs.declared.words.{EventChoice.EventChoice, SiteLog.SiteLog, Line.Line}
 use Rattle.stn_line.specs.declared.words.Line.TheVariants as line
-use Rattle.stn_command.specs.{Words.and_then, Words.event_of, Words.id_of, Words.named, Words.no_such_word, Words.time_read, Words.times_read, Steps.steps_read, Steps.all_owned, Steps.owned_after, Steps.owned_too}
-use Rattle.stn_command.specs.declared.queries.Outlook.{Outlook}
+use Rattle.stn_command.specs.{Words.{and_then, event_of, id_of, named, no_such_word, time_read, times_read}, Steps.{steps_read, all_owned, owned_after, owned_too}, declared.{queries.Outlook.Outlook, changes.AskedBound.AskedBound}}
 use Rattle.stn_command.specs.declared.queries.Outlook.TheVariants as outlook
-use Rattle.stn_command.specs.declared.changes.AskedBound.{AskedBound}
 use Rattle.stn_questions.specs.declared.asked.Question.TheVariants.{Why as why, WhyApart as why_apart}
 use Rattle.stn_loosen.specs.Slack.{Slack}
-use Rattle.stn_logs.specs.Words.{among_read, bound_read, event_read, id_read, side_read, slack_of, slack_read, chosen_read, why_read}
-use Rattle.stn_reasons.specs.Refused.{RefusedWord, no_bound, no_choice, no_event, no_id, no_owned, no_steps, no_time, no_times, no_tolerance, no_tolerances, unread, where_given, word_refused}
-use Rattle.stn_reasons.specs.Refusing.{refusal_by, words_refusal}
-use Rattle.stn_reasons.specs.declared.refused.Form.{Form}
+use Rattle.stn_logs.specs.Words.{among_read, bound_read, event_read, id_read, side_read, slack_of, slack_read, chosen_read, why_read, Drawing, arrows_read, drawing_read, drawn_of, present_read}
+use Rattle.stn_reasons.specs.{Refused.{RefusedWord, no_bound, no_choice, no_event, no_id, no_owned, no_steps, no_time, no_times, no_tolerance, no_tolerances, no_yes_or_no, unread, where_given, word_refused}, Refusing.{refusal_by, words_refusal}, declared.refused.Form.Form}
 use Rattle.stn_reasons.specs.declared.refused.Form.TheVariants as form
 
 -- the refusal of a word, where there is one
@@ -170,6 +163,28 @@ tolerances early late =
         ∙ second less is (side_read (pos 0) late) refl
     go (Err failure) is = refl
 
+arrows : (word : Option (Bor (List ℕ))) → failure_of (where_given no_yes_or_no word) ≡ refusal_by (arrows_read word)
+arrows None = refl
+arrows (Some word) = by (bytes_eq word.now (codes "yes")) (bytes_eq word.now (codes "no"))
+  where
+    by : (is_yes is_no : Bool) → failure_of (cond is_yes None (cond is_no None (Some (record { word = word.now; form = form.YesNo; failure = no_such_word }))))
+        ≡ refusal_by (cond is_yes (Ok true) (cond is_no (Ok false) (Err no_such_word)))
+    by true is_no = refl
+    by false true = refl
+    by false false = refl
+
+present : (word : Option (Bor (List ℕ))) → failure_of (where_given no_time word) ≡ refusal_by (present_read word)
+present None = refl
+present (Some word) = time word.now ∙ sym (made (time_read word.now) Some)
+
+drawing : (words : List (List ℕ)) (are now : Option (Bor (List ℕ)))
+    → failure_of (option_or (no_owned [] words) (option_or (where_given no_yes_or_no are) (where_given no_time now))) ≡ refusal_by (drawing_read words are now)
+unfolding drawing_read
+drawing words are now =
+    word_then (no_owned [] words) (all_owned words) _ _ (owned [] words [] refl) (λ all.
+    word_then (where_given no_yes_or_no are) (arrows_read are) _ _ (arrows are) (λ yes.
+    present now ∙ sym (made {Y = Drawing} (present_read now) (λ time. record { present = time; arrows = yes; owned = all }))))
+
 pub told : (line : Line) → option_map (λ refused. refused.failure) (word_refused line) ≡ words_refusal line
 told line.Run = refl
 told (line.Bare log steps) = refl
@@ -198,8 +213,7 @@ told (line.Steps log (Some plan)) = refl
 told (line.Bounds log) = refl
 told (line.Check log words) = times (map (λ word. word.now) words.items) ∙ sym (made (times_read (map (λ word. word.now) words.items)) _)
 told (line.Rehearse log now choice) = among log outlook.Rehearse now.now choice
-told (line.Draw log None) = refl
-told (line.Draw log (Some plan)) = refl
+told (line.Draw log plan now are words) = drawing (map (λ word. word.now) words.items) are now ∙ sym (made (drawing_read (map (λ word. word.now) words.items) are now) (drawn_of log plan))
 told (line.Explain code) = refl
 told (line.Shell log) = refl
 told (line.Serve log address count seconds) = refl

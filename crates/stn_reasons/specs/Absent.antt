@@ -1,8 +1,6 @@
 -- The word of a command that names no event of a plan.
-use Rattle.std.specs.Prelude.{ℕ, ◌*◌, ◌&&◌, Bool, nat_le, not, List, Option, Some, None, if◌then◌else◌}
-use Rattle.std.specs.{Borrow.Bor, Option.option_or}
-use Rattle.stn_line.specs.declared.words.Line.{Line}
-use Rattle.stn_line.specs.declared.words.Line.TheVariants.{Add, Amend, Done, Why}
+use Rattle.std.specs.{Prelude.{ℕ, ◌*◌, ◌&&◌, Bool, nat_le, not, List, Option, Some, None, if◌then◌else◌}, Borrow.Bor, Option.option_or}
+use Rattle.stn_line.specs.declared.words.Line.{Line, TheVariants.{Add, Amend, Done, Why}}
 use Rattle.stn_command.specs.Words.{event_of}
 
 -- an event lies between the first that may be named and the last of so many steps

@@ -1,4 +1,5 @@
 pub mod Absent
+pub mod Reasons
 pub mod Refused
 pub mod Refusing
 pub mod Told

@@ -1,14 +1,10 @@
 -- The word that refuses a command: the first that says nothing, in the order in which they are read.
-use Rattle.std.specs.Prelude.{ℕ, pos, int_lt, ◌++◌, List, [], ◌∷◌, map, Option, Some, None, Result, Ok, Err, if◌then◌else◌}
-use Rattle.std.specs.{Borrow.Bor, Option.option_or}
+use Rattle.std.specs.{Prelude.{ℕ, pos, int_lt, bytes_eq, codes, ◌++◌, List, [], ◌∷◌, map, Option, Some, None, Result, Ok, Err, if◌then◌else◌}, Borrow.Bor, Option.option_or}
 use Rattle.stn_refusal.specs.declared.failure.Failure.{Failure}
-use Rattle.stn_line.specs.declared.words.EventChoice.{EventChoice}
-use Rattle.stn_line.specs.declared.words.Line.{Line}
-use Rattle.stn_line.specs.declared.words.Line.TheVariants.{Loosen, Add, Amend, Withdraw, Done, Guard, Next, Ready, Rehearse, Why, Check}
-use Rattle.stn_command.specs.{Words.and_then, Words.event_of, Words.id_of, Words.named, Words.no_such_word, Words.time_read, Steps.steps_read, Steps.all_owned}
-use Rattle.stn_reasons.specs.declared.refused.Form.{Form}
+use Rattle.stn_line.specs.declared.words.{EventChoice.EventChoice, Line.{Line, TheVariants.{Loosen, Add, Amend, Withdraw, Done, Guard, Next, Ready, Rehearse, Why, Check, Draw}}}
+use Rattle.stn_command.specs.{Words.{and_then, event_of, id_of, named, no_such_word, time_read}, Steps.{steps_read, all_owned}}
+use Rattle.stn_reasons.specs.declared.refused.{Form.Form, RefusedWord.RefusedWord as RefusedWordOfCode}
 use Rattle.stn_reasons.specs.declared.refused.Form.TheVariants as form
-use Rattle.stn_reasons.specs.declared.refused.RefusedWord.{RefusedWord as RefusedWordOfCode}
 
 -- a word that refuses a command, what it should be, and the refusal
 pub record RefusedWord : Type 0 where
@@ -56,6 +52,11 @@ no_tolerances early late =
 abbrev pub no_bound : List ℕ → List ℕ → Option (Bor (List ℕ)) → Option (Bor (List ℕ)) → Option RefusedWord
 no_bound from to lo hi = option_or (no_event from) (option_or (no_event to) (option_or (where_given no_time lo) (where_given no_time hi)))
 
+-- a word that has to say yes or no
+abbrev pub no_yes_or_no : List ℕ → Option RefusedWord
+no_yes_or_no word = if bytes_eq word (codes "yes") then None else (if bytes_eq word (codes "no") then None
+    else Some (record { word = word; form = form.YesNo; failure = no_such_word }))
+
 -- the steps that are chosen, and then the time now
 abbrev pub no_choice : EventChoice → List ℕ → Option RefusedWord
 no_choice choice now = option_or (where_given no_steps choice.steps) (no_time now)
@@ -83,4 +84,6 @@ word_refused (Ready log now choice) = no_choice choice now.now
 word_refused (Rehearse log now choice) = no_choice choice now.now
 word_refused (Why log event to) = option_or (no_event event.now) (where_given no_event to)
 word_refused (Check log times) = no_times (map (λ word. word.now) times.items)
+word_refused (Draw log plan now arrows owned) =
+    option_or (no_owned [] (map (λ word. word.now) owned.items)) (option_or (where_given no_yes_or_no arrows) (where_given no_time now))
 word_refused other = None

@@ -1,8 +1,7 @@
 -- Why the words of a command refuse it, as the command reads them.
 use Rattle.std.specs.Prelude.{Option, Some, None, Result, Ok, Err}
 use Rattle.stn_refusal.specs.declared.failure.Failure.{Failure}
-use Rattle.stn_line.specs.declared.words.Line.{Line}
-use Rattle.stn_line.specs.declared.words.Line.TheVariants.{Run, Bare, Init, Loosen, Explain, Shell, Serve, Send}
+use Rattle.stn_line.specs.declared.words.Line.{Line, TheVariants.{Run, Bare, Init, Loosen, Explain, Shell, Serve, Send}}
 use Rattle.stn_logs.specs.Words.{asked_of, slack_read}
 
 abbrev pub refusal_by : {X : Type 0} → Result X Failure → Option Failure

@@ -1,10 +1,8 @@
 -- What is said of a word that refuses a command.
 use Rattle.std.specs.Prelude.{ℕ, ◌==◌, List, [], ◌∷◌, ◌++◌, codes, decimal, Option, Some, None, if◌then◌else◌}
 use Rattle.stn_text.specs.Bytes.{line_feed}
-use Rattle.stn_refusal.specs.{Codes.number_of, Refusals.code_of, declared.failure.Failure.Failure}
-use Rattle.stn_refusal.specs.declared.code.Code.TheVariants.{TooFine, OutOfRange}
-use Rattle.stn_reasons.specs.Refused.{RefusedWord}
-use Rattle.stn_reasons.specs.declared.refused.Form.{Form}
+use Rattle.stn_refusal.specs.{Codes.number_of, Refusals.code_of, declared.{failure.Failure.Failure, code.Code.TheVariants.{TooFine, OutOfRange}}}
+use Rattle.stn_reasons.specs.{Refused.RefusedWord, declared.refused.Form.Form}
 use Rattle.stn_reasons.specs.declared.refused.Form.TheVariants as form
 
 -- the events of a plan of so many steps; of any plan, where that is not known
@@ -35,6 +33,7 @@ form_text steps form.Time failure = time_text failure
 form_text steps form.Tolerance failure = codes "a tolerance below 0"
 form_text steps form.Steps failure = codes "not steps (as 2,4-6)"
 form_text steps form.Owned failure = codes "not a site and its steps (as 2:4-6), or a step that is given already"
+form_text steps form.YesNo failure = codes "neither yes nor no"
 
 -- the line for a word: the word, and what it is instead
 abbrev pub word_text : Option ℕ → RefusedWord → List ℕ

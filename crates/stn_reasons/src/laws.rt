@@ -1,7 +1,6 @@
 ghost use Rattle.std.specs.Prelude.{◌≡◌, option_map};
 ghost use Rattle.stn_line.specs.declared.words.Line.{Line};
-ghost use Rattle.stn_reasons.specs.Refused.{word_refused};
-ghost use Rattle.stn_reasons.specs.Refusing.{words_refusal};
+ghost use Rattle.stn_reasons.specs.{Refused.word_refused, Refusing.words_refusal};
 
 /// The word that is told is the one that refuses the command: where the words refuse it, there is such a word, and its refusal is
 /// that of the command.

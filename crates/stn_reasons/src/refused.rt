@@ -1,7 +1,6 @@
 ghost use Rattle.std.specs.Prelude.{◌≡◌, [], map, option_map, IfOk};
 ghost use Rattle.stn_reasons.specs.Refused as spec;
-ghost use Rattle.stn_reasons.specs.Refused.{seen};
-ghost use Rattle.stn_reasons.specs.declared.refused.Form.TheVariants.{Owned as owned};
+ghost use Rattle.stn_reasons.specs.{Refused.seen, declared.refused.Form.TheVariants.Owned as owned};
 ghost use Rattle.stn_command.specs.Steps.{all_owned};
 
 use std::alloc::{AllocError, Allocator};
@@ -25,6 +24,8 @@ pub enum Form {
     Steps,
     /// Steps of a site, as `2:4-6`, that no word before gives to a site.
     Owned,
+    /// `yes` or `no`.
+    YesNo,
 }
 
 /// A word that refuses its command, what it should be, and the refusal.
@@ -68,6 +69,12 @@ pub fn refused_word<'a, A: Allocator + Copy>(
         Line::Rehearse { now, choice, .. } => no_choice(alloc, choice, *now),
         Line::Why { event, to, .. } => Ok(no_event(*event).or(no_second(*to))),
         Line::Check { times, .. } => Ok(no_times(times)),
+        Line::Draw {
+            now,
+            arrows,
+            owned,
+            ..
+        } => Ok(no_owned(alloc, owned)?.or(no_yes_or_no(*arrows).or(no_side(*now)))),
         _ => Ok(None),
     }
 }
@@ -149,6 +156,20 @@ fn no_tolerance(word: Option<&str>) -> Option<RefusedWord<'_>>
         form: Form::Tolerance,
         failure,
     })
+}
+
+// The word, where it is there and is neither yes nor no.
+fn no_yes_or_no(word: Option<&str>) -> Option<RefusedWord<'_>>
+    ensures { option_map seen result ≡ spec.where_given spec.no_yes_or_no word.entry }
+{
+    match word {
+        Some("yes") | Some("no") | None => None,
+        Some(word) => Some(RefusedWord {
+            word,
+            form: Form::YesNo,
+            failure: no_such_word(),
+        }),
+    }
 }
 
 // The first of the words of two tolerances that is none.

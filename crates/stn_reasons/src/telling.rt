@@ -1,5 +1,5 @@
 ghost use Rattle.std.specs.Prelude.{◌≡◌, ◌++◌, OnOk, OnErr, decimal};
-ghost use Rattle.stn_reasons.specs.Refused.{seen};
+ghost use Rattle.stn_reasons.specs.{Refused.seen, Reasons.{absent_text, missing_text, no_event_of}};
 ghost use Rattle.stn_reasons.specs.Told as spec;
 
 use crate::refused::{Form, RefusedWord};
@@ -26,6 +26,43 @@ pub fn append_refused_word<A: Allocator + Copy>(
     append_form(refused.form, refused.failure, steps, &mut line)?;
     line.extend_from_slice(b"\n")?;
     out.extend_from_slice(&line)
+}
+
+/// Appends the line for an event that a plan of so many steps lacks, or that never takes place. If memory runs out, a part of it may
+/// stand there.
+pub fn append_absent<A: Allocator>(
+    word: &str,
+    steps: u16,
+    out: &mut Vec<u8, A>,
+) -> Result<(), Memory>
+    ensures { OnOk result (out.new.items ≡ out.old.items ++ absent_text steps word.now) }
+{
+    if word == "z" {
+        out.extend_from_slice(b"z: the origin, which is never done\n")
+    } else {
+        append_missing(word, Some(steps), out)
+    }
+}
+
+// Appends the line for an event that a plan of so many steps lacks.
+fn append_missing<A: Allocator>(
+    word: &str,
+    steps: Option<u16>,
+    out: &mut Vec<u8, A>,
+) -> Result<(), Memory>
+    ensures { OnOk result (out.new.items ≡ out.old.items ++ missing_text steps word.now) }
+{
+    out.extend_from_slice(word.as_bytes())?;
+    append_no_event_of(steps, out)
+}
+
+// Appends that a word is no event of a plan of so many steps.
+fn append_no_event_of<A: Allocator>(steps: Option<u16>, out: &mut Vec<u8, A>) -> Result<(), Memory>
+    ensures { OnOk result (out.new.items ≡ out.old.items ++ no_event_of steps) }
+{
+    out.extend_from_slice(b": not an event of the plan (")?;
+    append_events(steps, out)?;
+    out.extend_from_slice(b")\n")
 }
 
 /// Appends the line for times of which there are too many or too few, one for each event. If memory runs out, it appends
@@ -69,6 +106,7 @@ fn append_form<A: Allocator>(
         Form::Owned => out.extend_from_slice(
             b"not a site and its steps (as 2:4-6), or a step that is given already",
         ),
+        Form::YesNo => out.extend_from_slice(b"neither yes nor no"),
     }
 }
 

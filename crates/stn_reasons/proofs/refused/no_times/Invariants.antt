@@ -1,6 +1,5 @@
 use Rattle.std.proofs.Common.{◌≡◌, drop}
-use Rattle.stn_reasons.specs.Refused.{no_times}
-use Rattle.stn_reasons.proofs.Words.{texts}
+use Rattle.stn_reasons.{specs.Refused.no_times, proofs.Words.texts}
 use Rattle.stn_reasons.proofs.refused.no_times.Given as goal
 
 abbrev pub invariant-words : goal.invariant-words
