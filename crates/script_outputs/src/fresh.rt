@@ -1,4 +1,5 @@
 use crate::output::output_of;
+use crate::replicas::Replicas;
 use std::alloc::{AllocError, Global};
 use std::io;
 
@@ -77,9 +78,26 @@ fn append_line(script: &mut String, line: &str) -> Result<(), AllocError> {
     }
 }
 
-// The number of the first line of a text after which a site reports otherwise than a new one.
+// Makes the changes of a line, as `append_line` appends them.
+fn follow_line(replicas: &mut Replicas, line: &str) {
+    match line.strip_prefix("* ") {
+        Some(repeated) => {
+            let (count, command) = repeated.split_once(' ').unwrap_or(("0", ""));
+            for _ in 0..count.parse::<u16>().unwrap_or(0) {
+                let _ = replicas.follow(command);
+            }
+        }
+        None => {
+            let _ = replicas.follow(line);
+        }
+    }
+}
+
+// The number of the first line of a text after which a site reports otherwise than a new one, or its replica otherwise than a new
+// replica.
 fn find_difference(
     script: &mut String,
+    replicas: &mut Replicas,
     text: &str,
     heading: Heading,
 ) -> Result<Option<usize>, AllocError> {
@@ -87,7 +105,11 @@ fn find_difference(
     for (place, line) in text.lines().enumerate() {
         let last = place == heading.last;
         append_line(script, if last { "sites 64" } else { line })?;
-        if place >= heading.last && !are_same_at(alloc, script, heading.sites)? {
+        if place > heading.last {
+            follow_line(replicas, line);
+        }
+        let is_opened = place >= heading.last;
+        if is_opened && !(are_same_at(alloc, script, heading.sites)? && replicas.are_fresh()) {
             return Ok(Some(place.saturating_add(1)));
         }
     }
@@ -95,9 +117,13 @@ fn find_difference(
 }
 
 fn difference(alloc: Global, text: &str, heading: Heading) -> Result<Option<usize>, AllocError> {
+    let Some(mut replicas) = Replicas::open(alloc, text, heading.sites) else {
+        return Ok(Some(0));
+    };
     let mut script = String::new(alloc);
-    let place = find_difference(&mut script, text, heading);
+    let place = find_difference(&mut script, &mut replicas, text, heading);
     drop(script);
+    drop(replicas);
     place
 }
 

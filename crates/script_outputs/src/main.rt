@@ -9,8 +9,9 @@
 //! What sites report is compared after lines with another mark:
 //!
 //! - After a line `~ <name>` stands a script, in which a line `* <number> <command>` stands for so many commands. Before and
-//!   after each line of it the report of each site is compared with that of a new site that has merged it. It prints how many
-//!   comparisons were the same, or the first that was not.
+//!   after each line of it the report of each site is compared with that of a new site that has merged it, and that of each
+//!   site's replica, which comes from its matrix, with that of a new replica that took the same records. It prints at how many
+//!   times and sites both were the same, or the first line after which one was not.
 //! - After a line `@ <name>` stands nothing. 64 sites of one plan each add a bound, one of them withdraws another of its own, and
 //!   they merge in a ring until nothing that they report changes. It prints what they then report and how many of them do, and
 //!   the same again once one of them has added a bound that contradicts others.
@@ -19,6 +20,7 @@
 mod faults;
 mod fresh;
 mod output;
+mod replicas;
 mod ring;
 
 use crate::faults::{Worked, sweep, sweep_requests};

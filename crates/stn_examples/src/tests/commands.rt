@@ -7,6 +7,7 @@ use stn_command::{Choice, Outlook, Query, say};
 use stn_lift::{Base, Source};
 use stn_loosen::{LoosenFault, Tolerance, loosened_site_plan, robust_site_plan};
 use stn_net::Event;
+use stn_picture::Look;
 use stn_questions::Question;
 use stn_records::Site;
 use stn_refusal::{Failure, Fault};
@@ -58,6 +59,16 @@ fn chosen<'a>(starts: bool) -> Choice<'a> {
     }
 }
 
+// A picture with the present.
+fn look<'a>() -> Look<'a> {
+    Look {
+        title: b"a.log",
+        present: Some(Ms::new(1_000).unwrap()),
+        arrows: true,
+        owned: &[],
+    }
+}
+
 fn say_asked<'a>(
     plan: &SitePlan<&'a Refusing<Global>>,
     asked: Asked,
@@ -66,7 +77,7 @@ fn say_asked<'a>(
     match asked {
         Asked::Report => say(plan, &Query::Report),
         Asked::Repairs => say(plan, &Query::Repairs),
-        Asked::Draw => say(plan, &Query::Draw),
+        Asked::Draw => say(plan, &Query::Draw(look())),
         Asked::Next => say(plan, &Query::Foresee(Outlook::Next, now, chosen(false))),
         Asked::Ready => say(plan, &Query::Foresee(Outlook::Ready, now, chosen(false))),
         Asked::Rehearse => say(plan, &Query::Foresee(Outlook::Rehearse, now, chosen(false))),
