@@ -142,11 +142,11 @@ def found_in(report):
 
 
 def instructions(words, folder, given):
-    """How many instructions a run takes; none without valgrind."""
+    """How many instructions a program takes; none without valgrind."""
     if not shutil.which("valgrind"):
         return None
     with given.open("rb") as text:
-        counted = subprocess.run([*COUNTED, str(PROGRAM), *words], cwd=folder, stdin=text,
+        counted = subprocess.run([*COUNTED, *words], cwd=folder, stdin=text,
                                  stdout=subprocess.DEVNULL, stderr=subprocess.PIPE, text=True, check=False)
     return found_in(counted.stderr)
 
@@ -157,8 +157,41 @@ def run_script(name, folder):
     script.write_text("\n".join(made) + "\n")
     best, done = timed(["run"], folder, script)
     row = f"{name}: {len(made)} lines, {len(done.stdout)} bytes printed, status {done.returncode}, {best:.3f} s"
-    count = instructions(["run"], folder, script)
+    count = instructions([str(PROGRAM), "run"], folder, script)
     print(row if count is None else f"{row}, {count / 1e6:.0f} million instructions", flush=True)
+
+
+def by_hand(folder):
+    """The script of `windows`, and the same work by hand in C++, where g++ is there: both print the same bytes."""
+    if not shutil.which("g++"):
+        print("by_hand: not tried, as there is no g++", flush=True)
+        return
+    program, script = folder / "by_hand", folder / "by_hand.stn"
+    script.write_text("\n".join(windows()) + "\n")
+    subprocess.run(["g++", "-O2", "-std=c++20", "-o", str(program), str(TOP / "bench" / "windows.cpp")], check=True)
+    printed, counts = [], []
+    for words in ([str(PROGRAM), "run"], [str(program)]):
+        with script.open("rb") as text:
+            printed.append(subprocess.run(words, stdin=text, stdout=subprocess.PIPE, check=True).stdout)
+        counts.append(instructions(words, folder, script))
+    row = f"by_hand: {'the same bytes' if printed[0] == printed[1] else 'OTHER BYTES'}"
+    if None not in counts:
+        row += f", {counts[0] / 1e6:.1f} million instructions, {counts[1] / 1e6:.1f} by hand, {counts[0] / counts[1]:.1f} times"
+    print(row, flush=True)
+
+
+def memory(folder):
+    """The most memory that a script of 64 sites over 256 steps takes, with 1,000 records that all sites come to hold."""
+    rng = random.Random(7)
+    lines = ["steps 256", "sites 64"]
+    lines += [f"{number % 64 + 1} add {bound}" for number, bound in enumerate(bounds(rng, 512, 1000))]
+    lines += [f"{site % 64 + 1} merge {site}" for _ in range(2) for site in range(1, 65)]
+    script = folder / "memory.stn"
+    script.write_text("\n".join(lines + ["1 report", "64 report"]) + "\n")
+    with script.open("rb") as text:
+        started = subprocess.Popen([str(PROGRAM), "run"], stdin=text, stdout=subprocess.DEVNULL)
+        _, status, used = os.wait4(started.pid, 0)
+    print(f"memory: status {os.waitstatus_to_exitcode(status)}, {used.ru_maxrss / 1024:.1f} MB at most", flush=True)
 
 
 def frame(body):
@@ -180,7 +213,7 @@ def frames(folder):
         (folder / "frames.log").write_bytes(log_of(records))
         words = ["merge", "frames.log", "1", "frames.log"]
         best, _ = timed(words, folder, nothing)
-        counts.append(instructions(words, folder, nothing))
+        counts.append(instructions([str(PROGRAM), *words], folder, nothing))
     size = len(log_of(4096))
     row = f"frames: 2 logs of {size} bytes decoded and 1 encoded, {best:.3f} s"
     if None not in counts:
@@ -209,7 +242,7 @@ def run_command(name, words, folder, begin):
     nothing.write_bytes(b"")
     best, done = timed(words, folder, nothing, begin)
     begin()
-    count = instructions(words, folder, nothing)
+    count = instructions([str(PROGRAM), *words], folder, nothing)
     row = f"{name}: {len(done.stdout)} bytes printed, status {done.returncode}, {best:.3f} s"
     print(row if count is None else f"{row}, {count / 1e6:.1f} million instructions", flush=True)
 
@@ -222,6 +255,11 @@ def commands(folder):
                   "draw", "next 0", "ready 0", "rehearse 0"):
         command, *rest = words.split()
         run_command(command, [command, log.name, "1", *rest], folder, lambda: log.write_bytes(made))
+    run_command("draw --now", ["draw", log.name, "1", "--now=0"], folder, lambda: log.write_bytes(made))
+    subprocess.run([str(PROGRAM), "add", log.name, "1", "s1", "e1", "--lo=1000000"], cwd=folder, stdout=subprocess.DEVNULL, check=True)
+    contrary = log.read_bytes()
+    for command in ("repairs", "draw"):
+        run_command(f"in a conflict: {command}", [command, log.name, "1"], folder, lambda: log.write_bytes(contrary))
 
 
 def crowded(folder):
@@ -249,7 +287,7 @@ def shell_lines(name, log, folder, lines):
     asked.write_text("\n".join(lines) + "\n")
     best, done = timed(["shell", log.name, "1"], folder, asked, lambda: log.write_bytes(made))
     log.write_bytes(made)
-    count = instructions(["shell", log.name, "1"], folder, asked) if len(lines) <= 100 else None
+    count = instructions([str(PROGRAM), "shell", log.name, "1"], folder, asked) if len(lines) <= 100 else None
     log.write_bytes(made)
     row = f"{name}: {len(lines)} lines, status {done.returncode}, {best / len(lines) * 1000:.3f} ms a line"
     print(row if count is None else f"{row}, {count / len(lines) / 1e6:.2f} million instructions a line", flush=True)
@@ -328,7 +366,7 @@ def feed(folder):
         served.wait()
 
 
-OTHERS = {made.__name__: made for made in (frames, commands, crowded, shell, feed)}
+OTHERS = {made.__name__: made for made in (by_hand, memory, frames, commands, crowded, shell, feed)}
 
 
 def main():
