@@ -31,7 +31,7 @@ _stn() {
         bounds) options="--help" places="1" values="" ;;
         check) options="--help" places="1" values="" ;;
         rehearse) options="--steps= --starts --help" places="1" values="" ;;
-        draw) options="--plan= --help" places="1" values="--plan" ;;
+        draw) options="--now= --arrows= --plan= --own= --help" places="1" values="--plan" ;;
         explain) options="--help" places="" values="" ;;
         shell) options="--help" places="1" values="" ;;
         serve) options="--seconds= --help" places="1" values="" ;;

@@ -22,7 +22,7 @@ complete -c stn -n __fish_use_subcommand -a steps -d 'Prints the steps of the pl
 complete -c stn -n __fish_use_subcommand -a bounds -d 'Prints all bounds that count, the plan’s first'
 complete -c stn -n __fish_use_subcommand -a check -d 'Says whether times, one for each event, are a schedule'
 complete -c stn -n __fish_use_subcommand -a rehearse -d 'Prints the rest of the plan as `next` would run it from NOW on'
-complete -c stn -n __fish_use_subcommand -a draw -d 'Draws the plan as a picture (SVG): the window of each event, or the conflict'
+complete -c stn -n __fish_use_subcommand -a draw -d 'Draws the plan as a picture (SVG): its steps and when they may run, or the conflict'
 complete -c stn -n __fish_use_subcommand -a explain -d 'Says what a refusal or a fault means, and what to do about it'
 complete -c stn -n __fish_use_subcommand -a shell -d 'Answers each line of standard input, a command without LOG and SITE, and an empty line after it'
 complete -c stn -n __fish_use_subcommand -a serve -d 'Exchanges records with the sites that connect'
@@ -84,7 +84,10 @@ complete -c stn -n '__fish_seen_subcommand_from rehearse' -l steps -x -d 'Only e
 complete -c stn -n '__fish_seen_subcommand_from rehearse' -l starts -d 'Only starts count as left'
 complete -c stn -n '__fish_seen_subcommand_from rehearse' -l help -d 'Print help'
 complete -c stn -n '__fish_seen_subcommand_from draw' -F
+complete -c stn -n '__fish_seen_subcommand_from draw' -l now -x -d 'The time now: all that is left comes at T or later; not shown, if not given'
+complete -c stn -n '__fish_seen_subcommand_from draw' -l arrows -x -d 'Whether arrows lead to each start from what holds it back: `yes`, if not given, or `no`'
 complete -c stn -n '__fish_seen_subcommand_from draw' -l plan -r -F -d 'The file of a plan whose actions name the steps; for a bare or loosened plan'
+complete -c stn -n '__fish_seen_subcommand_from draw' -l own -x -d 'Steps of a site, as `2:4-6`, which get the site’s colour and number; given once for each site'
 complete -c stn -n '__fish_seen_subcommand_from draw' -l help -d 'Print help'
 complete -c stn -n '__fish_seen_subcommand_from explain' -l help -d 'Print help'
 complete -c stn -n '__fish_seen_subcommand_from shell' -F

@@ -114,7 +114,7 @@ def shown_parts(block):
 
 def not_in_sources():
     """The clauses and definitions that stand in no source."""
-    sources = [on_one_line(path.read_text(encoding="utf-8")) for path in [*CRATES.rglob("src/**/*.rt"), *CRATES.rglob("specs/**/*.antt")]]
+    sources = [on_one_line(path.read_text(encoding="utf-8")) for path in [*CRATES.glob("*/src/**/*.rt"), *CRATES.glob("*/specs/**/*.antt")]]
     for document in LISTED:
         for begins, block in listings(document, ("```antt",)):
             for part in filter(None, shown_parts(block)):
@@ -264,7 +264,7 @@ def owner_of(head):
 def functions_of(crate):
     """The functions of a crate. Public are those that another crate can call: not those of a trait that stands elsewhere."""
     public = handed_on(crate) if (crate / "src" / "lib.rt").exists() else set()
-    for path in sorted(crate.rglob("src/**/*.rt")):
+    for path in sorted((crate / "src").rglob("*.rt")):
         text = path.read_text(encoding="utf-8")
         module = path.relative_to(crate / "src").parts[0].removesuffix(".rt")
         owner, of_trait, is_trait = "", False, False
@@ -283,10 +283,10 @@ def functions_of(crate):
 def other_names():
     """What else counts as a name: a crate, a type, a trait, a constant, what a trait says of its types, a definition, and a command."""
     names = {word for line in lines_of(TOP / "crates.txt") if not line.startswith("#") for word in line.replace(":", "").split()}
-    for path in CRATES.rglob("src/**/*.rt"):
+    for path in CRATES.glob("*/src/**/*.rt"):
         text = path.read_text(encoding="utf-8")
         names.update(re.findall(r"^pub (?:struct|enum|trait|type|const) (\w+)|^ +ghost (\w+):", text, re.M))
-    for path in CRATES.rglob("specs/**/*.antt"):
+    for path in CRATES.glob("*/specs/**/*.antt"):
         names.update(re.findall(r"^(?:abbrev |unfoldable )?pub (?:record |data )?(\w+)", path.read_text(encoding="utf-8"), re.M))
     names.update(re.findall(r'^        name: "(\w+)",', (CRATES / "stn_line/src/commands.rt").read_text(encoding="utf-8"), re.M))
     return {word for name in names for word in ([name] if isinstance(name, str) else name) if word}
@@ -297,7 +297,7 @@ def crate_rows():
     rows = {match[1]: (number, int(match[2].replace(",", ""))) for number, match in found(CRATE_ROW, README)}
     for name in [line.partition(":")[0] for line in lines_of(TOP / "crates.txt") if not line.startswith("#")]:
         number, said = rows.get(name, (1, 0))
-        lines = sum(len(lines_of(path)) for path in (CRATES / name).rglob("src/**/*.rt"))
+        lines = sum(len(lines_of(path)) for path in (CRATES / name / "src").rglob("*.rt"))
         if name not in OF_TESTS | {"stn"} and not 0.9 * lines <= said <= 1.1 * lines:
             yield README, number, f"{name} has {lines} lines, not {said}"
 
