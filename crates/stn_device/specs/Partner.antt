@@ -37,8 +37,8 @@ pub record HearsRest (old new : PartnerState) : Type 0 where
   pub all : (length bytes ≡ most_bytes) ⊎ IsAtEnd new.unheard ⊎ (new.failed_reads ≡ min (old.failed_reads + 1) (2 ^ 64 - 1))
 
 -- it was told the end, and the rest was heard; or a call failed, and nothing was heard
-abbrev pub Parts : PartnerState → PartnerState → Type 0
-Parts old new = Keeps old.told new.told
+abbrev pub PartsWays : PartnerState → PartnerState → Type 0
+PartsWays old new = Keeps old.told new.told
     × ((IsEnded new.ended × HearsRest old new × (new.failed_writes ≡ old.failed_writes))
     ⊎ ((new.ended ≡ old.ended) × (new.unheard ≡ old.unheard) × (new.failed_reads ≡ old.failed_reads)
     × (new.failed_writes ≡ min (old.failed_writes + 1) (2 ^ 64 - 1))))

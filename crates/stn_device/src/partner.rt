@@ -1,7 +1,7 @@
 //! Another site: what it says is read, and what it is told is written.
 
 ghost use Rattle.std.specs.{Prelude.{◌≡◌, [], false, OnOk, OnErr}, Io.KnownBytes.Keeps};
-ghost use Rattle.stn_device.specs.Partner.{partner_state, IsEnded, Parts, heard_bytes, heard_end};
+ghost use Rattle.stn_device.specs.Partner.{partner_state, IsEnded, PartsWays, heard_bytes, heard_end};
 
 use crate::counted::Counted;
 use crate::whole::{MOST_BYTES, drain};
@@ -33,7 +33,7 @@ impl<R: Read, W: Finish> Partner<R, W> {
     /// Tells the other site the end, and drops what it still says, at most `MOST_BYTES` bytes. So it can read what it was told last: a
     /// connection that is dropped before its bytes are read is reset.
     pub fn part(&mut self)
-        ensures { Parts (partner_state R.remaining W.contents W.ended self.old) (partner_state R.remaining W.contents W.ended self.new) }
+        ensures { PartsWays (partner_state R.remaining W.contents W.ended self.old) (partner_state R.remaining W.contents W.ended self.new) }
     {
         if self.writer.finish().is_ok() {
             drain(&mut self.reader, MOST_BYTES);

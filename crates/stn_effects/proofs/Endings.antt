@@ -1,7 +1,7 @@
 -- How effects end: what they leave if they stop, and that two runs of one end alike.
 use Rattle.std.{proofs.{Common.{◌≡◌, ◌⊎◌, inl, inr, ℕ, List, OnOk, IfErr, Option, Some, None, is_some, Result, Ok, Err, MatchResult, refl, sym, ap, subst, ◌∙◌}, lemmas.{Bool.false≢true, Option.same_Some}}, specs.Prelude.⊤}
 use Rattle.stn_device.proofs.Known.{not_err}
-use Rattle.stn_effects.specs.{Effects.{Effect, Then, stopped, went, seen, Gives, Finds, Makes, Reads, IsLack, EndAlike}, Printing.{Device, Prints, IsUnprinted, Writes}}
+use Rattle.stn_effects.specs.{Effects.{Effect, Then, stopped, went, seen, Gives, Finds, Makes, Settles, IsLack, EndAlike}, Printing.{Device, Prints, IsUnprinted, Writes}}
 use Rattle.stn_refusal.specs.declared.failure.{Failure.{Failure, TheVariants.Failed}, Fault.{Fault, TheVariants.Memory}}
 
 -- a call that makes a value, or says the first cause against it
@@ -34,7 +34,7 @@ module _ {World X : Type 0} (Fails : Fault → Type 0) where
   makes_same Is IsCause old new (Ok value) is = is.0
   makes_same Is IsCause old new (Err failure) is = is.0
 
-  pub reads_same : (said : Result X Failure) → ChangesNothing {World = World} (Reads Fails said)
+  pub reads_same : (said : Result X Failure) → ChangesNothing {World = World} (Settles Fails said)
   reads_same said old new (Ok value) is = is.0
   reads_same said old new (Err failure) is = is.0
 
@@ -177,7 +177,7 @@ module _ (Fails : Fault → Type 0) where
         inr (inr (same_Some failure other (one (Some failure) (Some other) why reason)))
 
   -- what is read is one
-  pub reads_alike : {World X : Type 0} (said : Result X Failure) (old : World) → EndSo Fails (λ one other. one ≡ other) old (Reads Fails said) (Reads Fails said)
+  pub reads_alike : {World X : Type 0} (said : Result X Failure) (old : World) → EndSo Fails (λ one other. one ≡ other) old (Settles Fails said) (Settles Fails said)
   reads_alike said old new last (Ok value) (Ok other) a b = same_ok value other (sym a.1 ∙ b.1)
   reads_alike said old new last (Ok value) (Err failure) a (same, inl is) = absurd (not_err value failure (sym a.1 ∙ is))
   reads_alike said old new last (Ok value) (Err failure) a (same, inr lack) = lack

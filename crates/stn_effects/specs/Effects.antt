@@ -1,5 +1,5 @@
 -- What is done one after the other: each effect says what there was, what there is then, and what came of it.
-use Rattle.std.specs.Prelude.{◌≡◌, ◌⊎◌, Bool, true, false, Option, Some, None, Result, Ok, Err, ⊤}
+use Rattle.std.specs.Prelude.{◌≡◌, ◌⊎◌, ℕ, zero, suc, Bool, true, false, Option, Some, None, Result, Ok, Err, ⊤}
 use Rattle.stn_refusal.specs.declared.{failure.{Failure.{Failure, TheVariants.{Refused, Failed}}, Fault.{Fault, TheVariants.Memory}}, refusal.Refusal.Refusal}
 
 -- from what there was to what there is then, with a value, or with why nothing further was done
@@ -30,15 +30,25 @@ abbrev pub Makes : {World X : Type 0} → (Fault → Type 0) → (X → Type 0) 
 Makes Fails Is IsCause old new (Ok value) = (new ≡ old) × Is value × IsCause None
 Makes Fails Is IsCause old new (Err failure) = (new ≡ old) × (IsCause (Some failure) ⊎ IsLack Fails failure)
 
--- what is said decides, but for a lack
-abbrev pub Reads : {World X : Type 0} → (Fault → Type 0) → Result X Failure → Effect World X
-Reads Fails said old new (Ok value) = (new ≡ old) × (said ≡ Ok value)
-Reads Fails said old new (Err failure) = (new ≡ old) × ((said ≡ Err failure) ⊎ IsLack Fails failure)
+-- what was said already settles it, but for a lack: nothing is read here
+abbrev pub Settles : {World X : Type 0} → (Fault → Type 0) → Result X Failure → Effect World X
+Settles Fails said old new (Ok value) = (new ≡ old) × (said ≡ Ok value)
+Settles Fails said old new (Err failure) = (new ≡ old) × ((said ≡ Err failure) ⊎ IsLack Fails failure)
 
 -- what came of it, as this says its value
 abbrev pub seen : {X Y : Type 0} → (X → Y) → Result X Failure → Result Y Failure
 seen see (Ok value) = Ok (see value)
 seen see (Err failure) = Err failure
+
+-- what came of it, as this says why there is no value
+abbrev pub failing : {X Reason : Type 0} → (Reason → Failure) → Result X Reason → Result X Failure
+failing why (Ok value) = Ok value
+failing why (Err reason) = Err (why reason)
+
+-- an effect is had so many times
+abbrev pub Times : {World X : Type 0} → ℕ → Effect World X → Effect World (Unit {0})
+Times zero Does = Gives tt
+Times (suc count) Does = Then Does (λ _. Times count Does)
 
 -- an effect is had again and again, until it gives `false`
 pub data Repeats {World : Type 0} (Does : Effect World Bool) : World → World → Result (Unit {0}) Failure → Type 0 where

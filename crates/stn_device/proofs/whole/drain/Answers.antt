@@ -1,4 +1,4 @@
-use Rattle.std.proofs.{Common.{◌++◌, take, arith, ◌∙◌}, lemmas.Grind.common_steps, KnownBytes.Consumes-trans}
+use Rattle.std.proofs.{Common.{◌++◌, take, arith, rules, ◌∙◌}, lemmas.Grind.common_steps, KnownBytes.Consumes-trans}
 use Rattle.stn_device.proofs.whole.drain.Goals as goal
 
 pub loop-left-preserved : goal.loop-left-preserved
@@ -14,3 +14,6 @@ loop-left-preserved g c =
       );
       kept = c.in-Ok.ensures.passed ∙ i.kept;
     }
+
+pub loop-left-init : goal.loop-left-init
+loop-left-init g c = search rules
