@@ -1,7 +1,7 @@
 use Rattle.std.proofs.{Common.{◌≡◌, inl, inr, ℕ, zero, suc, ◌+◌, ◌≤◌, List, [], ◌∷◌, ◌++◌, length, take, sym, subst, ap, refl, ◌∙◌, arith}, lemmas.{Int.ints, Bool.cases_order, List.{length_push, take-take}}}
 use Rattle.stn_time.proofs.Each.{each_parted}
 use Rattle.stn_net.{specs.{Difference.Difference, Schedule.{IsSchedule, HasSchedule}}, proofs.Tightest.tightest_unique}
-use Rattle.stn_conflict.{specs.{declared.links.{Link.Link, Side.{Side, TheVariants.{Upper, Lower}}}, Arcs.{arc_of, bound_at, rank, side_rank}, Culprit.{IsRefusedSide, IsCulprit}, Named.{IsLevel, IsStep, IsFirstStep, IsWay, IsNamedCycle}}, proofs.{Tightness.schedule_before, Chains.{IsPushedChain, chain-unpush, last_of}}}
+use Rattle.stn_conflict.{specs.{declared.links.{Link.Link, Side.{Side, TheVariants.{Upper, Lower}}}, Arcs.{arc_of, bound_at, rank, side_rank}, Culprit.{IsRefusedSide, IsCulprit}, Named.{IsLevel, IsLevelStep, IsFirstStep, IsWay, IsNamedCycle}}, proofs.{Tightness.schedule_before, Chains.{IsPushedChain, chain-unpush, last_of}}}
 
 -- links of one place and one side are equal
 pub link_same : (p q : ℕ) (s t : Side) → p ≡ q → s ≡ t → (let one : Link = record { place = p; side = s } in let other : Link = record { place = q; side = t } in one ≡ other)
@@ -36,7 +36,7 @@ level_of_start bounds start = record {
 }
 
 -- no step ends at the start
-pub no_step_to_start : (bounds : List Difference) (start : ℕ) (link : Link) → (arc_of bounds link).to ≡ start → ¬ IsStep bounds start link
+pub no_step_to_start : (bounds : List Difference) (start : ℕ) (link : Link) → (arc_of bounds link).to ≡ start → ¬ IsLevelStep bounds start link
 no_step_to_start bounds start link e step =
     let (k, from, to) = step.level in
     let here : IsLevel bounds start start (suc k) = subst (λ z. IsLevel bounds start z (suc k)) e to in

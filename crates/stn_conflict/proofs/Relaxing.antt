@@ -1,7 +1,7 @@
 use Rattle.std.{proofs.{Common.{◌≡◌, ◌≢◌, inl, inr, ℕ, Bool, true, false, ◌+◌, ◌<◌, ◌≤◌, List, [], ◌∷◌, ◌++◌, length, set, take, replicate, sym, subst, ap, refl, ◌∙◌, arith}, lemmas.{Int.ints, Bool.{cases_eq, cases_lt, false≢true}, List.{take-take, get_or-set_same, get_or-set_other, get_or-replicate, get_or_append_left, get_or_push, length-append, length-set, length-replicate, Sums.sum_by-set, Elements.{All-from_get_or, All-take, All-append, All-push}}}}, specs.Prelude.{ℤ, pos, negsuc, neg_ℤ, ◌+ℤ◌, ◌-ℤ◌, ◌≤ℤ◌, ◌<ℤ◌, All, unsigned_abs}}
 use Rattle.stn_time.{specs.Time.{horizon, IsWithinHorizon}, proofs.Each.All-left}
 use Rattle.stn_net.{specs.{Difference.{Difference, NamesEvents}, Schedule.{Meets, IsSchedule, HasSchedule, times_of}, Horizon.horizon_bounds}, proofs.Widest.horizon_times}
-use Rattle.stn_conflict.{specs.{declared.links.{Link.Link, Side.{Side, TheVariants.{Upper, Lower}}}, Arcs.{Arc, arc, arc_of, bound_at}, Relaxation.{NamesAmong, IsNetwork, AreEstimates, AreDistances, AreRelaxed, IsRelaxed, IsRelaxedBut, IsTaken, is_fresh, room}}, proofs.{Tightness.{schedule_before, link_kept, link_reaches, link_among}, Known.known_first, LevelTable.meets_moved}}
+use Rattle.stn_conflict.{specs.{declared.links.{Link.Link, Side.{Side, TheVariants.{Upper, Lower}}}, Arcs.{Arc, arc, arc_of, bound_at}, Relaxation.{NamesAmong, IsNetwork, AreEstimates, AreDistances, AreRelaxed, IsRelaxed, IsRelaxedBut, IsPossibleGap, is_fresh, room}}, proofs.{Tightness.{schedule_before, link_kept, link_reaches, link_among}, Known.known_first, LevelTable.meets_moved}}
 
 -- the events of the plan are so many and the origin
 pub among_events : (bounds : List Difference) (events count : ℕ) → count ≡ events + 1 → All (NamesEvents events) bounds → All (NamesAmong count) bounds
@@ -225,7 +225,7 @@ distances_relaxed bounds start far d = λ link there.
 
 -- and they differ as some schedule does
 pub distances_taken : (bounds : List Difference) (start : ℕ) (far : List ℤ) (from to : ℕ) → AreDistances bounds start far
-    → IsTaken bounds from to (times_of far to -ℤ times_of far from)
+    → IsPossibleGap bounds from to (times_of far to -ℤ times_of far from)
 distances_taken bounds start far from to d = (
   λ x. times_of far x -ℤ times_of far 0,
   relaxed_schedule bounds far (distances_relaxed bounds start far d),

@@ -1,7 +1,7 @@
 use Rattle.std.{proofs.{Common.{◌≡◌, ◌≢◌, inl, inr, ℕ, zero, suc, ◌+◌, ◌*◌, ◌<◌, ◌≤◌, Option, Some, List, [], ◌∷◌, ◌++◌, length, eqb, eqb-true, eq-eqb, sym, subst, ap, refl, ◌∙◌, arith, to_z, of_z, w64}, lemmas.{List.{get_or_default, reverse-append}, Bool.{cases_eq, cases_lt}, Int.ints}}, specs.{Prelude.{ℤ, ◌+ℤ◌, IsTrue, reverse, slice_index_or}, List.AllByRecursion}}
 use Rattle.stn_time.specs.Time.{IsWithinHorizon}
 use Rattle.stn_net.specs.{Difference.Difference, Matrix.Tightest.IsTightest}
-use Rattle.stn_conflict.{specs.{declared.{links.{Link.Link, Side.{Side, TheVariants.{Upper, Lower}}}, outgoing.Look.Look}, Arcs.{arc, arc_of, bound_at, rank, side_rank, IsChain}, Named.{IsTight, IsLevel, IsStep, IsFirstStep}, Relaxation.{HasLink, IsRow, Searched}, Search.{other_side, across, HasLevels, HasNoStep, IsFirstStepTo}}, proofs.{Tightness.{tight_from_sum, sum_from_tight}, OneCycle.{link_same, level_unique}}}
+use Rattle.stn_conflict.{specs.{declared.{links.{Link.Link, Side.{Side, TheVariants.{Upper, Lower}}}, outgoing.Look.Look}, Arcs.{arc, arc_of, bound_at, rank, side_rank, IsChain}, Named.{IsTight, IsLevel, IsLevelStep, IsFirstStep}, Relaxation.{HasLink, IsRow, Searched}, Search.{other_side, across, HasLevels, HasNoStep, IsFirstStepTo}}, proofs.{Tightness.{tight_from_sum, sum_from_tight}, OneCycle.{link_same, level_unique}}}
 
 -- what a test of a sum of two times says
 pub sum_test : (m w n : ℤ) → IsWithinHorizon m → IsWithinHorizon w → IsWithinHorizon n
@@ -22,14 +22,14 @@ tight_decided bounds start link x y w m n there from to weight near far =
     )
 
 -- a tight link whose entries differ by one is a step
-pub step_from_entries : (bounds : List Difference) (start events : ℕ) (levels : ℕ → Option ℕ) (link : Link) (x y : ℕ) → HasLevels bounds start events levels → x ≡ (arc_of bounds link).from → y ≡ (arc_of bounds link).to → IsTight bounds start link → (level : ℕ) × (levels x ≡ Some level) × (levels y ≡ Some (suc level)) → IsStep bounds start link
+pub step_from_entries : (bounds : List Difference) (start events : ℕ) (levels : ℕ → Option ℕ) (link : Link) (x y : ℕ) → HasLevels bounds start events levels → x ≡ (arc_of bounds link).from → y ≡ (arc_of bounds link).to → IsTight bounds start link → (level : ℕ) × (levels x ≡ Some level) × (levels y ≡ Some (suc level)) → IsLevelStep bounds start link
 step_from_entries bounds start events levels link x y has from to tight (level, low, high) = record {
   tight = tight;
   level = (level, subst (λ z. IsLevel bounds start z level) from ((has.level x level).0 low), subst (λ z. IsLevel bounds start z (suc level)) to ((has.level y (suc level)).0 high));
 }
 
 -- the entries of a step's ends differ by one
-pub entries_from_step : (bounds : List Difference) (start events : ℕ) (levels : ℕ → Option ℕ) (link : Link) (x y : ℕ) → HasLevels bounds start events levels → x ≡ (arc_of bounds link).from → y ≡ (arc_of bounds link).to → IsStep bounds start link → (level : ℕ) × (levels x ≡ Some level) × (levels y ≡ Some (suc level))
+pub entries_from_step : (bounds : List Difference) (start events : ℕ) (levels : ℕ → Option ℕ) (link : Link) (x y : ℕ) → HasLevels bounds start events levels → x ≡ (arc_of bounds link).from → y ≡ (arc_of bounds link).to → IsLevelStep bounds start link → (level : ℕ) × (levels x ≡ Some level) × (levels y ≡ Some (suc level))
 entries_from_step bounds start events levels link x y has from to step =
     let (level, low, high) = step.level in
     (level, ap levels from ∙ (has.level _ level).1 low, ap levels to ∙ (has.level _ (suc level)).1 high)
@@ -88,23 +88,23 @@ link_before_across one link place before = sides one.side link.side refl refl
     sides Lower Upper p q = absurd (omega (arith, ap side_rank p, ap (λ s. side_rank (other_side s)) q))
 
 -- a step ends at another event
-step_leaves : (bounds : List Difference) (start : ℕ) (link : Link) → IsStep bounds start link → (arc_of bounds link).from ≢ (arc_of bounds link).to
+step_leaves : (bounds : List Difference) (start : ℕ) (link : Link) → IsLevelStep bounds start link → (arc_of bounds link).from ≢ (arc_of bounds link).to
 step_leaves bounds start link step same =
     let (level, low, high) = step.level in
     absurd (omega (arith, level_unique bounds start _ level (suc level) low (subst (λ x. IsLevel bounds start x (suc level)) (sym same) high)))
 
 -- none of the first links of a row is across from a step
 abbrev pub ArePassed : List Difference → ℕ → List Look → ℕ → Type 0
-ArePassed bounds start row seen = (k : ℕ) (look : Look) → k < seen → slice_index_or row k look ≡ look → ¬ IsStep bounds start (across look.link)
+ArePassed bounds start row seen = (k : ℕ) (look : Look) → k < seen → slice_index_or row k look ≡ look → ¬ IsLevelStep bounds start (across look.link)
 
 -- one more
 pub passed_more : (bounds : List Difference) (start seen : ℕ) (row : List Look) (look : Look) → seen < length row → slice_index_or row seen look ≡ look
-    → ¬ IsStep bounds start (across look.link) → ArePassed bounds start row seen → ArePassed bounds start row (seen + 1)
+    → ¬ IsLevelStep bounds start (across look.link) → ArePassed bounds start row seen → ArePassed bounds start row (seen + 1)
 passed_more bounds start seen row look there here none passed = λ k other below at.
     elim (cases_eq k seen) [
       | inl same ↦
           let e : other ≡ look = sym at ∙ ap (λ n. slice_index_or row n other) same ∙ get_or_default row seen other look there ∙ here in
-          λ step. none (subst (λ (l : Look). IsStep bounds start (across l.link)) e step)
+          λ step. none (subst (λ (l : Look). IsLevelStep bounds start (across l.link)) e step)
       | inr differs ↦ passed k other (omega arith) at
     ]
 
@@ -115,7 +115,7 @@ module _ (searched : Searched) (start event seen : ℕ) (row : List Look) (is : 
 
   -- the first link of the event's row that is across from a step is across from the first step to the event
   pub first_in_row : (look : Look) → seen < length row → slice_index_or row seen look ≡ look → ArePassed searched.bounds start row seen
-      → IsStep searched.bounds start (across look.link) → IsFirstStepTo searched.bounds start event (across look.link)
+      → IsLevelStep searched.bounds start (across look.link) → IsFirstStepTo searched.bounds start event (across look.link)
   first_in_row look there here passed step =
       let bounds = searched.bounds in
       let link = look.link in
@@ -129,7 +129,7 @@ module _ (searched : Searched) (start event seen : ℕ) (row : List Look) (is : 
               let (found, (k, within, at), names) = across_in_row other other_step.tight.there (same ∙ ends) in
               let back : across found.link ≡ other = ap across names ∙ across_twice other in
               elim (cases_lt k seen) [
-                | inl earlier ↦ passed k found earlier at (subst (IsStep bounds start) (sym back) other_step)
+                | inl earlier ↦ passed k found earlier at (subst (IsLevelStep bounds start) (sym back) other_step)
                 | inr later ↦
                     let order = is.ordered seen k look later within in
                     let read : slice_index_or row k look ≡ found = get_or_default row k look found within ∙ at in
@@ -151,7 +151,7 @@ module _ (searched : Searched) (start event seen : ℕ) (row : List Look) (is : 
   pub none_in_row : length row ≤ seen → ArePassed searched.bounds start row seen → HasNoStep searched.bounds start event
   none_in_row all passed = λ link ends step.
       let (found, (k, within, at), names) = across_in_row link step.tight.there ends in
-      passed k found (omega arith) at (subst (IsStep searched.bounds start) (sym (ap across names ∙ across_twice link)) step)
+      passed k found (omega arith) at (subst (IsLevelStep searched.bounds start) (sym (ap across names ∙ across_twice link)) step)
 
 -- a step to an event begins one level lower
 pub lower_by_one : (bounds : List Difference) (start count x : ℕ) (levels : ℕ → Option ℕ) (link : Link) → HasLevels bounds start count levels

@@ -20,16 +20,16 @@ pub record IsLevel (bounds : List Difference) (start x level : ℕ) : Type 0 whe
   pub least : (links : List Link) → IsTightChain bounds start x links → level ≤ length links
 
 -- a tight link that begins one level lower than it ends
-pub record IsStep (bounds : List Difference) (start : ℕ) (link : Link) : Type 0 where
+pub record IsLevelStep (bounds : List Difference) (start : ℕ) (link : Link) : Type 0 where
   pub tight : IsTight bounds start link
   pub level : (level : ℕ) × IsLevel bounds start (arc_of bounds link).from level
       × IsLevel bounds start (arc_of bounds link).to (suc level)
 
 -- the first of the steps that end where it ends
 pub record IsFirstStep (bounds : List Difference) (start : ℕ) (link : Link) : Type 0 where
-  pub step : IsStep bounds start link
+  pub step : IsLevelStep bounds start link
   pub first : (other : Link) → rank other < rank link → (arc_of bounds other).to ≡ (arc_of bounds link).to
-      → ¬ IsStep bounds start other
+      → ¬ IsLevelStep bounds start other
 
 -- the chain from `start` to x that takes, going back from x, the first step to each event that it comes to
 pub record IsWay (bounds : List Difference) (start x : ℕ) (links : List Link) : Type 0 where

@@ -146,12 +146,12 @@ pub record AreFirstRows {A : Type 0} (bounds : List Difference) (count : ℕ) (r
   pub stand : AreRowsTo bounds count rows.added rows.outgoing.items
 
 -- in some schedule of the bounds the one event comes so long after the other
-abbrev pub IsTaken : List Difference → ℕ → ℕ → ℤ → Type 0
-IsTaken bounds from to apart = (time : ℕ → ℤ) × IsSchedule bounds time × ((time to -ℤ time from) ≡ apart)
+abbrev pub IsPossibleGap : List Difference → ℕ → ℕ → ℤ → Type 0
+IsPossibleGap bounds from to apart = (time : ℕ → ℤ) × IsSchedule bounds time × ((time to -ℤ time from) ≡ apart)
 
 -- the bounds of a plan with so many events can be searched, once all their links are added; and the search for how late each event can come
 -- has only links from events with fresh estimates left
-pub record IsReady {A : Type 0} (events : ℕ) (bounds : List Difference) (rows : Rows A) (latest search : Search A) : Type 0 where
+pub record CanBeSearched {A : Type 0} (events : ℕ) (bounds : List Difference) (rows : Rows A) (latest search : Search A) : Type 0 where
   pub few : events ≤ most_events
   pub network : IsNetwork events bounds
   pub first : AreFirstRows bounds (events + 1) rows

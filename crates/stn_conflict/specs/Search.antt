@@ -2,7 +2,7 @@
 use Rattle.std.specs.Prelude.{◌≡◌, ℕ, ℤ, pos, neg_ℤ, ◌*ℤ◌, ◌≤ℤ◌, suc, ◌+◌, ◌<◌, ◌≤◌, ◌↔◌, List, length, take, All, Option, Some, None, is_some, count_by, slice_index_or}
 use Rattle.stn_time.specs.Time.{horizon}
 use Rattle.stn_net.specs.{Difference.Difference, Schedule.HasSchedule}
-use Rattle.stn_conflict.specs.{declared.{levels.Walk.Walk, links.{Link.Link, Side.{Side, TheVariants.{Upper, Lower}}}}, Arcs.{arc_of, weight_of, IsNegativeCycle}, Named.{IsTight, IsLevel, IsStep, IsFirstStep, IsNamedCycle}}
+use Rattle.stn_conflict.specs.{declared.{levels.Walk.Walk, links.{Link.Link, Side.{Side, TheVariants.{Upper, Lower}}}}, Arcs.{arc_of, weight_of, IsNegativeCycle}, Named.{IsTight, IsLevel, IsLevelStep, IsFirstStep, IsNamedCycle}}
 
 -- the level that a table has of an event, if it has one yet
 abbrev pub level_at : List (Option ℕ) → ℕ → Option ℕ
@@ -65,7 +65,7 @@ across link = record { place = link.place; side = other_side link.side }
 
 -- no step leads to the event
 abbrev pub HasNoStep : List Difference → ℕ → ℕ → Type 0
-HasNoStep bounds start event = (link : Link) → (arc_of bounds link).to ≡ event → ¬ IsStep bounds start link
+HasNoStep bounds start event = (link : Link) → (arc_of bounds link).to ≡ event → ¬ IsLevelStep bounds start link
 
 -- the link is the first step to the event
 pub record IsFirstStepTo (bounds : List Difference) (start event : ℕ) (link : Link) : Type 0 where

@@ -1,6 +1,6 @@
 ghost use Rattle.std.specs.Prelude.{◌≡◌, ◌+◌, ◌<◌, ◌≤◌, ◌↔◌, ℕ, length, IsTrue, IfOk, OnOk, MatchOption};
 ghost use Rattle.stn_net.specs.Event.{most_events};
-ghost use Rattle.stn_conflict.specs.{Relaxation.{AreDistances, IsLookOf}, Named.{IsTight, IsStep}, Search.{level_at, LeadsOn, IsWalkOf, AreLevels, HasNoStep, IsFirstStepTo}};
+ghost use Rattle.stn_conflict.specs.{Relaxation.{AreDistances, IsLookOf}, Named.{IsTight, IsLevelStep}, Search.{level_at, LeadsOn, IsWalkOf, AreLevels, HasNoStep, IsFirstStepTo}};
 
 use crate::graph::Graph;
 use crate::links::Link;
@@ -111,7 +111,7 @@ fn is_step<A: Allocator>(
     requires few { length far.now ≤ most_events + 1 }
     requires levels { AreLevels graph.now.bounds start (length far.now) levels.now }
     requires there { link.place < length graph.now.bounds }
-    ensures { IsTrue result ↔ IsStep graph.now.bounds start link }
+    ensures { IsTrue result ↔ IsLevelStep graph.now.bounds start link }
 {
     let arc = graph.arc(link);
     let begin = levels[usize::from(arc.from.number())].unwrap();

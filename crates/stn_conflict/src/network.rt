@@ -1,6 +1,6 @@
 ghost use Rattle.std.specs.Prelude.{◌≡◌, ◌+◌, ◌≤◌, ◌↔◌, ◌++◌, ◌∷◌, [], false, take, All, IsTrue, IfOk, OnOk, OnErr, MatchOption};
 ghost use Rattle.stn_net.specs.{Event.most_events, Difference.NamesEvents, Schedule.HasSchedule, Horizon.horizon_bounds, Matrix.Tightest.IsTightest};
-ghost use Rattle.stn_conflict.specs.{Distances.TellsWithin, Relaxation.{AreDistances, AreFirstRows, IsRelaxedBut, IsSearch, IsTaken, NamesAmong}};
+ghost use Rattle.stn_conflict.specs.{Distances.TellsWithin, Relaxation.{AreDistances, AreFirstRows, IsRelaxedBut, IsSearch, IsPossibleGap, NamesAmong}};
 
 use crate::graph::{Direction, Graph};
 use crate::outgoing::Rows;
@@ -23,13 +23,13 @@ pub struct Network<A: Allocator> {
 }
 
 impl<A: Allocator> Model for Network<A> {
-    ghost use Rattle.stn_conflict.specs.{Listing.Listing, Relaxation.IsReady};
+    ghost use Rattle.stn_conflict.specs.{Listing.ListedBounds, Relaxation.CanBeSearched};
 
-    ghost Value = { Listing };
+    ghost Value = { ListedBounds };
 
     ghost view = { λ n. record { events = n.events; bounds = n.bounds.items } };
 
-    ghost invariant = { λ n. IsReady n.events n.bounds.items n.rows n.latest n.search };
+    ghost invariant = { λ n. CanBeSearched n.events n.bounds.items n.rows n.latest n.search };
 }
 
 impl<A: Allocator + Copy> Network<A> {
@@ -119,7 +119,7 @@ impl<A: Allocator + Copy> Network<A> {
     fn latest_apart(&mut self, from: Event, to: Event) -> Result<Option<i64>, Memory>
         requires from { from ≤ self.old.events }
         requires to { to ≤ self.old.events }
-        ensures taken { IfOk result (λ found. MatchOption found (¬ HasSchedule self.old.bounds) (IsTaken self.old.bounds from to)) }
+        ensures taken { IfOk result (λ found. MatchOption found (¬ HasSchedule self.old.bounds) (IsPossibleGap self.old.bounds from to)) }
         ensures same { self.new ≡ self.old }
     {
         if !extend(self.events, &self.bounds, &mut self.rows, &mut self.latest)? {

@@ -38,7 +38,7 @@ module _ (text : List ℕ) where
   unfolding plan_of
   by_length long = let many : nat_lt most_text (length text) ≡ true = lt-ltb _ _ long in rw many refl
 
-  pub plan_fault_of : (fault : PlanFault) → read.is_memory fault ≡ false → IsPlanCause text fault → plan_of text ≡ Err fault
+  pub plan_fault_of : (fault : PlanFault) → read.is_plan_memory fault ≡ false → IsPlanCause text fault → plan_of text ≡ Err fault
   plan_fault_of plan.TooLong some is = by_length is
   plan_fault_of (plan.Syntax line) some is = by_line _ is
   plan_fault_of (plan.Number line) some is = by_line _ is
@@ -55,7 +55,7 @@ module _ (text : List ℕ) where
   many_steps fault short steps found false many is = cc
 
   -- of a text that is short enough
-  of_lines : (fault : PlanFault) → read.is_memory fault ≡ false → length text ≤ most_text → (found : Result (List PlannedStep) PlanFault) → steps_of (lines_of text) ≡ found
+  of_lines : (fault : PlanFault) → read.is_plan_memory fault ≡ false → length text ≤ most_text → (found : Result (List PlannedStep) PlanFault) → steps_of (lines_of text) ≡ found
       → (found >>= limited) ≡ Err fault → IsPlanCause text fault
   unfolding limited
   of_lines fault some short (Ok steps) found is = many_steps fault short steps found (nat_lt most_steps (length steps)) refl is
@@ -63,7 +63,7 @@ module _ (text : List ℕ) where
       let same : given ≡ fault = cc in
       lines_fault fault text short (subst (λ memory. Unless memory (steps_of (lines_of text) ≡ Err fault)) (sym some) (found ∙ ap Err same))
 
-  pub plan_cause_for : (fault : PlanFault) → read.is_memory fault ≡ false → plan_of text ≡ Err fault → IsPlanCause text fault
+  pub plan_cause_for : (fault : PlanFault) → read.is_plan_memory fault ≡ false → plan_of text ≡ Err fault → IsPlanCause text fault
   unfolding plan_of
   plan_cause_for fault some is = by (nat_lt most_text (length text)) refl is
     where

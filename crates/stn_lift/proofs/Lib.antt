@@ -13,3 +13,4 @@ pub mod LiftedBase
 pub mod PlannedTimes
 pub mod StepFacts
 pub mod FromCauses
+pub mod SoundSource

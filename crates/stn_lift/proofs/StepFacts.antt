@@ -1,7 +1,7 @@
 -- How the steps of a text are read one after another.
 use Rattle.std.{proofs.{Common.{◌≡◌, ℕ, ℤ, pos, negsuc, ◌≤ℤ◌, Bool, true, false, ◌||◌, cond, ◌≤◌, ◌<◌, nat_lt, length, List, [], ◌∷◌, ◌++◌, Option, Some, None, IfSome, Result, Ok, Err, refl, sym, ap, ◌∙◌, append_assoc, subst, arith, rules}, lemmas.{Bool.{or_parts, le-ltb, lt-ltb, Decides.nat_tests}, List.{append-nil, Elements.{All-nil, All-cons, All-append}}}}, specs.{Int.is_negative, List.All, Option.{option_to_list, option_map_or}}}
 use Rattle.stn_text.specs.Faults.{◌>>=◌, Fails, Unless}
-use Rattle.stn_lift.specs.{declared.plan.fault.PlanFault.{PlanFault, TheVariants.{TooLong, Negative, TooManySteps}}, Plan.{Tokens.{Lexeme, tokens_of}, Lines.lines_of, Steps.{most_text, most_steps, PlannedStep, Form, IsPlan, IsTimely, form_of, time_at, duration_of, step_at, timed_step, step_of, line_step, steps_of, limited, plan_of, is_memory}}}
+use Rattle.stn_lift.specs.{declared.plan.fault.PlanFault.{PlanFault, TheVariants.{TooLong, Negative, TooManySteps}}, Plan.{Tokens.{Lexeme, tokens_of}, Lines.lines_of, Steps.{most_text, most_steps, PlannedStep, Form, IsPlan, IsTimely, form_of, time_at, duration_of, step_at, timed_step, step_of, line_step, steps_of, limited, plan_of, is_plan_memory}}}
 
 -- names that were read before those that are found
 abbrev pub behind_names : List (List ℕ) → Result (List (List ℕ) × List Lexeme) PlanFault → Result (List (List ℕ) × List Lexeme) PlanFault
@@ -82,10 +82,10 @@ steps_more before after lines rest line found here is more =
     by (Err fault) = refl
 
 -- the fault of the next line is that of all lines
-pub steps_fail : (before : List PlannedStep) (lines rest : List (ℕ × List ℕ)) (line : ℕ × List ℕ) (fault : PlanFault) → lines ≡ line ∷ rest → Fails is_memory fault (line_step line)
-    → Fails is_memory fault (behind_steps before (steps_of lines))
+pub steps_fail : (before : List PlannedStep) (lines rest : List (ℕ × List ℕ)) (line : ℕ × List ℕ) (fault : PlanFault) → lines ≡ line ∷ rest → Fails is_plan_memory fault (line_step line)
+    → Fails is_plan_memory fault (behind_steps before (steps_of lines))
 unfolding steps_of
-steps_fail before lines rest line fault here fails = rw here (by (is_memory fault) fails)
+steps_fail before lines rest line fault here fails = rw here (by (is_plan_memory fault) fails)
   where
     by : (memory : Bool) → Unless memory (line_step line ≡ Err fault)
         → Unless memory (behind_steps before (line_step line >>= λ step. steps_of rest >>= λ steps. Ok (option_to_list step ++ steps)) ≡ Err fault)

@@ -4,7 +4,7 @@ use Rattle.stn_text.specs.Faults.{Fails}
 use Rattle.stn_pddl.specs.{declared.fault.DomainFault.DomainFault, Schemas.ActionSchema, Domains.domain_of}
 use Rattle.stn_pddl.specs.declared.fault.DomainFault.TheVariants as domain_fault
 use Rattle.stn_pddl.specs.Faults as pddl
-use Rattle.stn_lift.specs.{declared.{plan.fault.PlanFault.PlanFault, fault.{LiftFault.{LiftFault, TheVariants.{UnknownAction, Arity, DurationDiffers, PastHorizon, Memory}}, BaseFault.TheVariants.{Domain, Plan, Lift, TooManySteps}}}, Plan.Steps.{PlannedStep, plan_of}, Faults.{of_domain, of_plan, of_lifting}, Activities.{Activity, activities}, PlanSource.{PlanSource, files, of_lift, steps_in, lifted, activities_of, source_with, source_with_lifted, base_of, is_memory}}
+use Rattle.stn_lift.specs.{declared.{plan.fault.PlanFault.PlanFault, fault.{LiftFault.{LiftFault, TheVariants.{UnknownAction, Arity, DurationDiffers, PastHorizon, Memory}}, BaseFault.TheVariants.{Domain, Plan, Lift, TooManySteps}}}, Plan.Steps.{PlannedStep, plan_of}, Faults.{of_domain, of_plan, of_lifting}, Activities.{Activity, activities}, PlanSource.{PlanSource, files, of_lift, steps_in, lifted, activities_of, source_with, source_with_lifted, base_of, is_base_memory}}
 use Rattle.stn_lift.specs.declared.plan.fault.PlanFault.TheVariants as plan_fault
 use Rattle.stn_lift.specs.Plan.Steps as timed
 use Rattle.stn_lift.specs.Activities as lifting
@@ -53,7 +53,7 @@ module _ (domain plan : List ℕ) where
   unfolding lifted
   refused_at_domain fault is = ap (λ r. source_with (files domain plan) (steps_in r (plan_of plan))) is
 
-  pub domain_refused : (fault : DomainFault) → Fails pddl.is_memory fault (domain_of domain) → Fails is_memory (of_domain fault) (base_of (files domain plan))
+  pub domain_refused : (fault : DomainFault) → Fails pddl.is_memory fault (domain_of domain) → Fails is_base_memory (of_domain fault) (base_of (files domain plan))
   domain_refused domain_fault.TooLong h = refused_at_domain _ h
   domain_refused (domain_fault.Syntax line) h = refused_at_domain _ h
   domain_refused (domain_fault.TooDeep line) h = refused_at_domain _ h
@@ -71,7 +71,7 @@ module _ (domain plan : List ℕ) where
         ap (λ r. source_with (files domain plan) (steps_in r (plan_of plan))) domain_is
         ∙ ap (λ r. source_with (files domain plan) (steps_in (Ok actions) r)) is
 
-    pub plan_refused : (fault : PlanFault) → Fails timed.is_memory fault (plan_of plan) → Fails is_memory (of_plan fault) (base_of (files domain plan))
+    pub plan_refused : (fault : PlanFault) → Fails timed.is_plan_memory fault (plan_of plan) → Fails is_base_memory (of_plan fault) (base_of (files domain plan))
     plan_refused plan_fault.TooLong h = refused_at_plan _ h
     plan_refused (plan_fault.Syntax line) h = refused_at_plan _ h
     plan_refused (plan_fault.Number line) h = refused_at_plan _ h
@@ -81,7 +81,7 @@ module _ (domain plan : List ℕ) where
 
     -- a step with a fault
     pub steps_refused : (steps : List PlannedStep) (other : PlanSource) (fault : LiftFault) → plan_of plan ≡ Ok steps
-        → Fails lifting.is_lift_memory fault (source_with_lifted other (activities actions 0 steps)) → Fails is_memory (of_lifting fault) (base_of (files domain plan))
+        → Fails lifting.is_lift_memory fault (source_with_lifted other (activities actions 0 steps)) → Fails is_base_memory (of_lifting fault) (base_of (files domain plan))
     steps_refused steps other fault plan_is h = rw (lifted-Ok actions steps domain_is plan_is) (by fault (activities actions 0 steps) h)
       where
         refused : (fault : LiftFault) (found : Result (List Activity) LiftFault) → source_with_lifted other found ≡ Err fault
@@ -90,7 +90,7 @@ module _ (domain plan : List ℕ) where
         refused fault (Err given) h = cc
 
         by : (fault : LiftFault) (found : Result (List Activity) LiftFault) → Fails lifting.is_lift_memory fault (source_with_lifted other found)
-            → Fails is_memory (of_lifting fault) (source_with (files domain plan) (of_lift found))
+            → Fails is_base_memory (of_lifting fault) (source_with (files domain plan) (of_lift found))
         by (UnknownAction step) found h = refused _ found h
         by (Arity step) found h = refused _ found h
         by (DurationDiffers step) found h = refused _ found h

@@ -71,9 +71,9 @@ base_of (bare steps) = if nat_lt most_steps steps then Err TooManySteps else Ok 
 base_of (files domain plan) = source_with (files domain plan) (lifted domain plan)
 
 -- memory ran out
-abbrev pub is_memory : BaseFault → Bool
-is_memory Memory = true
-is_memory fault = false
+abbrev pub is_base_memory : BaseFault → Bool
+is_base_memory Memory = true
+is_base_memory fault = false
 
 -- a plan has at most so many bounds of its own: 512 horizon bounds, 256 durations, and one bound for each pair of events of
 -- different steps

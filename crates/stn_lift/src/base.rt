@@ -2,7 +2,7 @@ ghost use Rattle.std.specs.Prelude.{◌≡◌, ◌*◌, ◌<◌, ◌≤◌, ◌�
 ghost use Rattle.stn_text.specs.Faults.{Returns};
 ghost use Rattle.stn_net.specs.{Event.{most_events, most_steps}, Schedule.IsSchedule};
 ghost use Rattle.stn_pddl.specs.Domains.{domain_of};
-ghost use Rattle.stn_lift.specs.{Activities.{activities, IsLiftCause}, BaseBounds.KeepsOrder, PlanSource.{bare, files, plan_source, steps_of, events_of, base_bounds, planned_of, interfere_in_plan, activities_of, base_of, source_with_lifted, is_memory, HasShortTexts, IsSoundSource}};
+ghost use Rattle.stn_lift.specs.{Activities.{activities, IsLiftCause}, BaseBounds.KeepsOrder, PlanSource.{bare, files, plan_source, steps_of, events_of, base_bounds, planned_of, interfere_in_plan, activities_of, base_of, source_with_lifted, is_base_memory, HasShortTexts, IsSoundSource}};
 ghost use Rattle.stn_lift.specs.Activities as lifting;
 
 use crate::bounds::horizon_bounds;
@@ -83,7 +83,7 @@ impl<A: Allocator + Copy> Base<A> {
     pub fn bare(alloc: A, steps: u16) -> Result<Base<A>, BaseFault>
         ensures made { IfOk result (λ base. base ≡ bare steps) }
         ensures limit { IsErrOf result BaseFault.TooManySteps ↔ (most_steps < steps) }
-        ensures given { Returns is_memory (λ base. base) result (base_of (bare steps)) }
+        ensures given { Returns is_base_memory (λ base. base) result (base_of (bare steps)) }
         ensures sound { IfOk result IsSoundSource }
     {
         if steps > MOST_STEPS {
@@ -105,7 +105,7 @@ impl<A: Allocator + Copy> Base<A> {
         ensures limit { IsErrOf result BaseFault.TooManySteps ↔ (most_steps < steps_of (plan_source source.now)) }
 
         // The base, or the first fault of the source.
-        ensures given { Returns is_memory (λ base. base) result (base_of (plan_source source.now)) }
+        ensures given { Returns is_base_memory (λ base. base) result (base_of (plan_source source.now)) }
 
         // The planned times are a schedule of the base bounds.
         ensures possible { IfOk result (λ base. IsSchedule (base_bounds base) (planned_of base)) }
@@ -129,7 +129,7 @@ fn base_of_texts<A: Allocator + Copy>(
 ) -> Result<Base<A>, BaseFault>
     ensures made { IfOk result (λ base. base ≡ files domain.now plan.now) }
     ensures limit { ¬ IsErrOf result BaseFault.TooManySteps }
-    ensures given { Returns is_memory (λ base. base) result (base_of (files domain.now plan.now)) }
+    ensures given { Returns is_base_memory (λ base. base) result (base_of (files domain.now plan.now)) }
     ensures sound { IfOk result IsSoundSource }
 {
     let domain = Domain::read(alloc, domain)?;
@@ -145,7 +145,7 @@ fn base_of_plan<'a, A: Allocator + Copy>(
     requires { domain_of domain.now.text ≡ Ok domain.now.actions }
     ensures made { IfOk result (λ base. base ≡ files domain.now.text plan.now) }
     ensures limit { ¬ IsErrOf result BaseFault.TooManySteps }
-    ensures given { Returns is_memory (λ base. base) result (base_of (files domain.now.text plan.now)) }
+    ensures given { Returns is_base_memory (λ base. base) result (base_of (files domain.now.text plan.now)) }
     ensures sound { IfOk result IsSoundSource }
 {
     let plan = Plan::read(alloc, plan)?;

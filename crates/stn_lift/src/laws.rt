@@ -21,7 +21,7 @@ pub fn planned_times()
 
 /// The law that the text of a plan has a fault exactly where it has the cause of that fault.
 pub fn plan_faults_by_cause()
-    ensures { (text : List ℕ) (fault : PlanFault) → plan.is_memory fault ≡ false → (plan.plan_of text ≡ Err fault) ↔ plan_faults.IsPlanCause text fault }
+    ensures { (text : List ℕ) (fault : PlanFault) → plan.is_plan_memory fault ≡ false → (plan.plan_of text ≡ Err fault) ↔ plan_faults.IsPlanCause text fault }
 {}
 
 /// The law that the steps of a plan have a fault in a domain of these actions exactly where they have the cause of that fault.

@@ -1,7 +1,7 @@
 //! Timed plans: texts of steps, each with its time, its action and the action's arguments, and perhaps a duration.
 ghost use Rattle.std.specs.Prelude.{◌≡◌, ◌≤◌, length, map, All, Ok, IfOk, IfErr};
 ghost use Rattle.stn_text.specs.Faults.{Returns};
-ghost use Rattle.stn_lift.specs.Plan.{Steps.{is_memory, IsTimely, most_steps, most_text, steps_of, plan_of}, Faults.IsPlanCause, Views.planned_step};
+ghost use Rattle.stn_lift.specs.Plan.{Steps.{is_plan_memory, IsTimely, most_steps, most_text, steps_of, plan_of}, Faults.IsPlanCause, Views.planned_step};
 
 mod bytes;
 mod fault;
@@ -43,7 +43,7 @@ fn read_steps<'a, A: Allocator + Copy>(
     alloc: A,
     mut lines: Lines<'a>,
 ) -> Result<Vec<Step<'a, A>, A>, PlanFault>
-    ensures { Returns is_memory (λ steps. map planned_step steps.items) result (steps_of lines.entry) }
+    ensures { Returns is_plan_memory (λ steps. map planned_step steps.items) result (steps_of lines.entry) }
 {
     let mut steps = Vec::new(alloc);
     while let Some((number, line)) = lines.next_line() {
@@ -59,7 +59,7 @@ impl<'a, A: Allocator + Copy> Plan<'a, A> {
     /// has one, `Syntax`, `Number` or `Negative`; `TooManySteps`. `Memory` may come in place of any answer.
     #[tactic(auto, unfolding(crate::specs::Plan::Steps::plan_of, crate::specs::Plan::Steps::limited))]
     pub fn read(alloc: A, text: &'a [u8]) -> Result<Plan<'a, A>, PlanFault>
-        ensures given { Returns is_memory (λ plan. plan.steps) result (plan_of text.now) }
+        ensures given { Returns is_plan_memory (λ plan. plan.steps) result (plan_of text.now) }
         ensures text { IfOk result (λ plan. plan.text ≡ text.now) }
 
         // The text is too long, or the first line with a fault has it, or there are too many steps.

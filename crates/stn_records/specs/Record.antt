@@ -23,20 +23,20 @@ abbrev pub same_records : Record → Record → Bool
 same_records r s = same_marks r.mark s.mark && same_bounds r.bound s.bound
 
 -- a mark as whether it is Done, and a record as a pair of its mark and its bound
-abbrev pub is_done : Mark → Bool
-is_done Plain = false
-is_done Done = true
+abbrev pub is_done_mark : Mark → Bool
+is_done_mark Plain = false
+is_done_mark Done = true
 
 abbrev pub mark_of : Bool → Mark
 mark_of false = Plain
 mark_of true = Done
 
-pub mark_of-is_done : (m : Mark) → mark_of (is_done m) ≡ m
-mark_of-is_done Plain = refl
-mark_of-is_done Done = refl
+pub mark_of-is_done_mark : (m : Mark) → mark_of (is_done_mark m) ≡ m
+mark_of-is_done_mark Plain = refl
+mark_of-is_done_mark Done = refl
 
 abbrev pub coded_mark : Coded Mark
-coded_mark = code_by Bool coded_bool is_done mark_of mark_of-is_done
+coded_mark = code_by Bool coded_bool is_done_mark mark_of mark_of-is_done_mark
 
 abbrev pub coded_bound : Coded Difference
 coded_bound = code_by ((ℕ × ℕ) × (ℤ × ℤ)) (coded× (coded× coded_ℕ coded_ℕ) (coded× coded_ℤ coded_ℤ)) (λ b. ((b.from, b.to), (b.lo, b.hi))) (λ p. record { from = p.0.0; to = p.0.1; lo = p.1.0; hi = p.1.1 }) (λ _. refl)

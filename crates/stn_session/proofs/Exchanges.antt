@@ -4,7 +4,7 @@ use Rattle.stn_time.proofs.Each.{each_pushed}
 use Rattle.stn_wire.{proofs.Streams.cut_more, specs.{Frame.{FrameContent, content, same, records, text, spelling, IsFrame}, declared.frame.Frame.Frame as WireFrame, Stream.{unread, pending, Held.Stream}}}
 use Rattle.stn_lift.specs.PlanSource.{PlanSource}
 use Rattle.stn_records.specs.Content.{Content}
-use Rattle.stn_session.specs.{Exchange.{Stage, greeting, handing, telling, told, failed, Reception, at_stage, expecting, greeted_by, handed, told_by, staged, IsWaiting, IsReception, IsReceived, seen}, Turns.{Finds, Came, Leads}, declared.exchange.ReplyFault.{ReplyFault, TheVariants.Memory}}
+use Rattle.stn_session.specs.{Exchange.{Stage, greeting, handing, telling, told, failed, Reception, at_stage, expecting, greeted_by, handed, reception_of, staged, IsWaiting, IsReception, IsReceived, seen_value}, Turns.{FindsFrame, Came, Leads}, declared.exchange.ReplyFault.{ReplyFault, TheVariants.Memory}}
 
 -- one frame more
 abbrev received : PlanSource → Reception → FrameContent → Reception
@@ -70,10 +70,10 @@ stage_ends source first before after rest taken stage state p answer is = record
 -- ---- one frame more of the reader
 module _ (source : PlanSource) (first : Content) (before mid after : Option (List ℕ)) (old new : Stream) (stage : Stage) (state : Content)
     (p : Came source first before mid (pending old) old.count stage state) where
-  pub next_lost : {A : Type 0} → IsWaiting stage → (fault : ReplyFault) → Finds {A = A} old new mid after (Err fault) → IsReceived source first before after state (Err fault)
+  pub next_lost : {A : Type 0} → IsWaiting stage → (fault : ReplyFault) → FindsFrame {A = A} old new mid after (Err fault) → IsReceived source first before after state (Err fault)
   next_lost waits fault f = stage_ends source first before after _ _ stage state (read_on source first before mid (pending old) old.count stage state p after f.bytes f.consumed) (Err fault) (inr (waits, f.found))
 
-  module _ {A : Type 0} (frame : WireFrame A) (f : Finds old new mid after (Ok frame)) where
+  module _ {A : Type 0} (frame : WireFrame A) (f : FindsFrame old new mid after (Ok frame)) where
     pub next_came : (next : Stage) (left : Content) → staged source stage state (content frame) ≡ at_stage next left → Came source first before after (pending new) new.count next left
     next_came next left leads =
         frame_came source first before after (pending old ++ f.bytes) (old.count + length f.bytes) stage state (read_on source first before mid (pending old) old.count stage state p after f.bytes f.consumed)
@@ -95,18 +95,18 @@ module _ (source : PlanSource) (first : Content) (before mid after : Option (Lis
         (⊎_elim (λ is. subst (λ e. IsReceived source first before after state (Err e)) (sym is) (next_kept waits)) (next_refused fault) why)
 
 pub text_answered : {A T : Type 0} (source : PlanSource) (first : Content) (before mid after : Option (List ℕ)) (old new : Stream) (state : Content)
-    → Came source first before mid (pending old) old.count telling state → (frame : WireFrame A) → Finds old new mid after (Ok frame)
+    → Came source first before mid (pending old) old.count telling state → (frame : WireFrame A) → FindsFrame old new mid after (Ok frame)
     → (view : T → List ℕ) (answer : Result T ReplyFault) → IfOk answer (λ given. content frame ≡ text (view given))
-    → IfErr answer (λ fault. (s : Content) → told_by s (content frame) ≡ at_stage (failed fault) s) → IsReceived source first before after state (seen view answer)
+    → IfErr answer (λ fault. (s : Content) → reception_of s (content frame) ≡ at_stage (failed fault) s) → IsReceived source first before after state (seen_value view answer)
 text_answered source first before mid after old new state p frame f view (Ok given) is why =
     stage_ends source first before after (pending new) new.count (told (view given)) state
-    (next_came source first before mid after old new telling state p frame f (told (view given)) state (ap (told_by state) is))
+    (next_came source first before mid after old new telling state p frame f (told (view given)) state (ap (reception_of state) is))
     (Ok (view given)) (omega (arith, f.found.3, f.found.4), refl)
 text_answered source first before mid after old new state p frame f view (Err fault) is why = next_refused source first before mid after old new telling state p frame f fault (why state)
 
 -- ---- a reply that was read leads on, or refuses
 pub same_answered : {A : Type 0} (source : PlanSource) (first : Content) (before mid after : Option (List ℕ)) (old new : Stream) (state : Content)
-    → Came source first before mid (pending old) old.count greeting state → (frame : WireFrame A) → Finds old new mid after (Ok frame)
+    → Came source first before mid (pending old) old.count greeting state → (frame : WireFrame A) → FindsFrame old new mid after (Ok frame)
     → (answer : Result (Unit {0}) ReplyFault) → OnOk answer (content frame ≡ same)
     → IfErr answer (λ fault. (s : Content) → greeted_by s (content frame) ≡ at_stage (failed fault) s) → Leads source first before after new handing state answer
 same_answered source first before mid after old new state p frame f (Ok done) is why =
@@ -114,7 +114,7 @@ same_answered source first before mid after old new state p frame f (Ok done) is
 same_answered source first before mid after old new state p frame f (Err fault) is why = next_refused source first before mid after old new greeting state p frame f fault (why state)
 
 pub records_answered : {A : Type 0} (source : PlanSource) (first : Content) (before mid after : Option (List ℕ)) (old new : Stream) (state : Content)
-    → Came source first before mid (pending old) old.count handing state → (frame : WireFrame A) → Finds old new mid after (Ok frame)
+    → Came source first before mid (pending old) old.count handing state → (frame : WireFrame A) → FindsFrame old new mid after (Ok frame)
     → (theirs now : Content) → content frame ≡ records theirs → (answer : Result (Unit {0}) ReplyFault)
     → OnOk answer (handed source state (records theirs) ≡ at_stage telling now)
     → IfErr answer (λ fault. (fault ≡ Memory) ⊎ (handed source state (records theirs) ≡ at_stage (failed fault) state))

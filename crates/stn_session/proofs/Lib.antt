@@ -4,3 +4,4 @@ pub mod Unique
 pub mod Taken
 pub mod OneReception
 pub mod SomeSession
+pub mod SomeReception

@@ -2,12 +2,12 @@
 use Rattle.std.{proofs.{Common.{◌≡◌, ◌≢◌, ℕ, ◌+◌, ◌<◌, ◌≤◌, cond, Bool, true, false, List, [], ◌∷◌, ◌++◌, length, Option, Some, None, Result, Ok, Err, refl, sym, ap, subst, ◌∙◌, inl, inr, ⊎_elim, arith, append_assoc, append-nil, length-append}, KnownBytes.{Consumes-nil, Consumes-trans, Appends-nil, Appends-trans}, lemmas.List.Sums.fold-append}, specs.{Prelude.{flat_map, is_some, min, ◌^◌, ◌-◌, IsErrOf}, Io.KnownBytes.{Consumes, Appends, IsAtEnd}}}
 use Rattle.stn_device.{specs.{Bytes.AppendsPart, declared.whole.ReadFault.ReadFault}, proofs.Known.{not_err, fails_more}}
 use Rattle.stn_time.proofs.Each.{each_pushed}
-use Rattle.stn_wire.{proofs.Streams.cut_more, specs.{Frame.{FrameContent, spelling, refused, IsFrame}, Front.{IsFront, faulty, unfinished}, Stream.{wire_fault, frame_code, IsNext, IsCounted, Held.Stream}, declared.stream.fault.FrameFault.FrameFault}}
+use Rattle.stn_wire.{proofs.Streams.cut_more, specs.{Frame.{FrameContent, spelling, refused, IsFrame}, Front.{IsFront, faulty, unfinished}, Stream.{wire_fault, frame_code, IsNextFrame, IsCounted, Held.Stream}, declared.stream.fault.FrameFault.FrameFault}}
 use Rattle.stn_effects.specs.{Effects.{Effect, Gives}, Printing.Device}
 use Rattle.stn_lift.specs.PlanSource.{PlanSource}
 use Rattle.stn_records.specs.Content.{Content}
 use Rattle.stn_refusal.specs.declared.failure.Failure.{Failure}
-use Rattle.stn_session.specs.{Session.{Reply, said, Session, answer, opening, followed, advanced, talked, broken_off}, Serving.{IsReplyBytes, AreReplies, WritesReplies, Reaches, Ends, GoesOn, Talk, talk, KeepsChange, KeepsEach, KeepsNothing, Point, Says, HearsWell, BreaksOff, EndsAt, Serves, session_answer, serve_fault}, declared.session.{End.{End, TheVariants.{Closed, Cut, Refused}}, Served.Served, KeepingFault.KeepingFault, ServeFault.{ServeFault, TheVariants.{Read, Write, Bound, Memory}}}, Turns.{IsChange, Wrote, KeepsTurn, KeepsLast, WroteKept, WroteRefused}}
+use Rattle.stn_session.specs.{Session.{Reply, said, Session, answer, opening, followed, advanced, talked, broken_off}, Serving.{IsReplyBytes, AreReplies, WritesReplies, Reaches, EndsSession, GoesOn, Talk, talk, KeepsChange, KeepsEach, KeepsNothing, Point, HasReplied, HearsWell, BreaksOffSession, EndsAt, Serves, session_answer, serve_fault}, declared.session.{End.{End, TheVariants.{Closed, Cut, Refused}}, Served.Served, KeepingFault.KeepingFault, ServeFault.{ServeFault, TheVariants.{Read, Write, Bound, Memory}}}, Turns.{IsChange, Wrote, KeepsTurn, KeepsLast, WroteKept, WroteRefused}}
 use Rattle.stn_session.specs.declared.session.KeepingFault.TheVariants as keeping
 use Rattle.stn_device.specs.declared.whole.ReadFault.TheVariants as stream
 
@@ -57,7 +57,7 @@ pub record Progress {P : Type 0} (Keeps : Content → Effect P (Unit {0})) (sour
   pub many : taken ≡ length bytes
   pub reached : Reaches (opening source old.state) bytes session rest
   pub on : session.ended ≡ None
-  pub says : Says session old now
+  pub says : HasReplied session old now
   pub counted : count ≡ session.frames
   pub source_is : source ≡ session.source
   pub state_is : now.state ≡ session.state
@@ -105,12 +105,12 @@ module _ {P : Type 0} {Keeps : Content → Effect P (Unit {0})} {source : PlanSo
       → Serves Keeps source old (talk heard then state place) ended
   ends_with then state place ended is = record { at = all_read; consumed = consumed_all; reached = reached_all; each = p.each; ends = is }
 
-  breaks_with : (then : Device) (state : Content) (place : P) (fault : ServeFault) → BreaksOff Keeps all_read old (talk heard then state place) fault
+  breaks_with : (then : Device) (state : Content) (place : P) (fault : ServeFault) → BreaksOffSession Keeps all_read old (talk heard then state place) fault
       → Serves Keeps source old (talk heard then state place) (Ok (Err fault))
   breaks_with then state place fault is = ends_with then state place (Ok (Err fault)) (p.on, is)
 
   -- nothing more comes of the stream
-  pub stream_fails : {X : Type 0} (A : Type 0) (stream_now : Stream) (fault : ReadFault) → IsNext {A = A} (rest ++ more) stream_now (Err fault) → IsCounted {A = A} (taken + length more) stream_now (Err fault)
+  pub stream_fails : {X : Type 0} (A : Type 0) (stream_now : Stream) (fault : ReadFault) → IsNextFrame {A = A} (rest ++ more) stream_now (Err fault) → IsCounted {A = A} (taken + length more) stream_now (Err fault)
       → old.unheard.failures < 2 ^ 64 - 1 → (call : Result X ReadFault) → call ≡ Err fault
       → (IsErrOf call stream.Read → heard.failures ≡ min (now.unheard.failures + 1) (2 ^ 64 - 1)) → (call ≢ Err stream.Read → heard.failures ≡ now.unheard.failures)
       → Serves Keeps source old (talk heard now.told now.state now.place) (Ok (Err (serve_fault fault)))
@@ -143,7 +143,7 @@ module _ {P : Type 0} {Keeps : Content → Effect P (Unit {0})} {source : PlanSo
         ((p.session, (p.on, some, front, refl), p.says, p.counted, p.state_is), refl, done, hears now.told now.state now.place)
 
     -- nothing was written
-    says_same : (then : Device) (state : Content) (place : P) → Appends now.told.bytes then.bytes [] → then.failures ≡ now.told.failures → Says p.session old (talk heard then state place)
+    says_same : (then : Device) (state : Content) (place : P) → Appends now.told.bytes then.bytes [] → then.failures ≡ now.told.failures → HasReplied p.session old (talk heard then state place)
     says_same then state place none kept = (writes_same old.told.bytes now.told.bytes then.bytes p.session.replies p.says.0 none, kept ∙ p.says.1)
 
     -- a write failed
@@ -263,7 +263,7 @@ module _ {P : Type 0} {Keeps : Content → Effect P (Unit {0})} {source : PlanSo
           )
 
           module _ (wrote : Appends now.told.bytes then.bytes bytes) (kept : then.failures ≡ now.told.failures) (says : Bool) (says_is : says ≡ (answer source now.state greeted frame).greeted) where
-            next_said : Says (advanced p.session frame) old (talk heard then state place)
+            next_said : HasReplied (advanced p.session frame) old (talk heard then state place)
             next_said = (
               subst (λ (s : Session). WritesReplies old.told.bytes then.bytes s.replies) (sym next_is)
                   (writes_more old.told.bytes now.told.bytes then.bytes p.session.replies (answer source now.state greeted frame).reply bytes p.says.0 said_bytes wrote),

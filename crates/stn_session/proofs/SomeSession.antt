@@ -3,17 +3,17 @@ use Rattle.std.proofs.Common.{◌≡◌, ℕ, List, [], ◌∷◌, length, Optio
 use Rattle.stn_wire.{specs.{Frame.FrameContent, Front.{faulty, unfinished, IsFront}, declared.{fault.WireFault.WireFault, stream.fault.FrameFault.FrameFault}, Stream.{wire_fault, frame_code}}, proofs.{Fronts.ShowsNone, Cuts.IsCut}}
 use Rattle.stn_wire.specs.declared.fault.WireFault.TheVariants as wire
 use Rattle.stn_wire.specs.declared.stream.fault.FrameFault.TheVariants as frame
-use Rattle.stn_session.specs.{Session.{Session, talked, broken_off}, Serving.{Ends, IsSession}, declared.session.End.{End, TheVariants.{Closed, Cut, Refused}}}
+use Rattle.stn_session.specs.{Session.{Session, talked, broken_off}, Serving.{EndsSession, IsSession}, declared.session.End.{End, TheVariants.{Closed, Cut, Refused}}}
 
 -- a fault that bytes show is one of a frame
-of_frame : (rest : List ℕ) (fault : WireFault) → IsFront rest (faulty fault) → (one : FrameFault) × IsFront rest (faulty (wire_fault one))
+pub of_frame : (rest : List ℕ) (fault : WireFault) → IsFront rest (faulty fault) → (one : FrameFault) × IsFront rest (faulty (wire_fault one))
 of_frame rest wire.Length is = (frame.Length, is)
 of_frame rest wire.Kind is = (frame.Kind, is)
 of_frame rest wire.Body is = (frame.Body, is)
 of_frame rest wire.OldFrame is = absurd is
 of_frame rest wire.Memory is = absurd is
 
-ending : (session : Session) (ended : Option ℕ) → session.ended ≡ ended → (rest : List ℕ) → ShowsNone rest → (end : End) × (last : Session) × Ends session rest end last
+ending : (session : Session) (ended : Option ℕ) → session.ended ≡ ended → (rest : List ℕ) → ShowsNone rest → (end : End) × (last : Session) × EndsSession session rest end last
 ending session (Some code) is rest shows = (Refused code, session, inl (is, refl))
 ending session None is [] (inl front) = (Closed, session, (is, refl, refl))
 ending session None is (byte ∷ rest) (inl front) = (Cut, session, (is, omega arith, front, refl))

@@ -48,25 +48,25 @@ greeted_by state same = at_stage handing state
 greeted_by state other = at_stage (failed (unexpected other)) state
 
 -- records are taken in, or refused
-abbrev pub taken_in : Content → Content → Option ReplicaFault → Reception
-taken_in state theirs None = at_stage telling (joined_contents state theirs)
-taken_in state theirs (Some fault) = at_stage (failed (Replica fault)) state
+abbrev pub received : Content → Content → Option ReplicaFault → Reception
+received state theirs None = at_stage telling (joined_contents state theirs)
+received state theirs (Some fault) = at_stage (failed (Replica fault)) state
 
 -- the second is RECORDS
 abbrev pub handed : PlanSource → Content → FrameContent → Reception
-handed source state (records theirs) = taken_in state theirs (take_refusal (holding_state source state) theirs)
+handed source state (records theirs) = received state theirs (take_refusal (holding_state source state) theirs)
 handed source state other = at_stage (failed (unexpected other)) state
 
 -- the third is TEXT
-abbrev pub told_by : Content → FrameContent → Reception
-told_by state (text bytes) = at_stage (told bytes) state
-told_by state other = at_stage (failed (unexpected other)) state
+abbrev pub reception_of : Content → FrameContent → Reception
+reception_of state (text bytes) = at_stage (told bytes) state
+reception_of state other = at_stage (failed (unexpected other)) state
 
 -- a frame by the stage; what stands after the text, or after what was refused, is not judged
 abbrev pub staged : PlanSource → Stage → Content → FrameContent → Reception
 staged source greeting state frame = greeted_by state frame
 staged source handing state frame = handed source state frame
-staged source telling state frame = told_by state frame
+staged source telling state frame = reception_of state frame
 staged source (told bytes) state frame = at_stage (told bytes) state
 staged source (failed fault) state frame = at_stage (failed fault) state
 
@@ -100,9 +100,9 @@ IsReception reception rest many after (Ok bytes) = (many ≤ most_bytes) × (rec
 IsReception reception rest many after (Err fault) = ((many ≤ most_bytes) × (reception.stage ≡ failed fault)) ⊎ (IsWaiting reception.stage × IsLost rest many after fault)
 
 -- what a value is seen as, where there is one
-abbrev pub seen : {T U E : Type 0} → (T → U) → Result T E → Result U E
-seen view (Ok value) = Ok (view value)
-seen view (Err fault) = Err fault
+abbrev pub seen_value : {T U E : Type 0} → (T → U) → Result T E → Result U E
+seen_value view (Ok value) = Ok (view value)
+seen_value view (Err fault) = Err fault
 
 -- replies that were received: the bytes that were read are frames and a rest, and the answer and the state are what the frames came to
 pub record IsReceived (source : PlanSource) (first : Content) (before after : Option (List ℕ)) (state : Content) (answer : Result (List ℕ) ReplyFault) : Type 0 where

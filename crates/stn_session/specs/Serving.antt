@@ -35,10 +35,10 @@ pub record Reaches (first : Session) (bytes : List ℕ) (session : Session) (res
 
 -- how a session ends, by what stands after its frames, and what it is then: nothing does; less than a frame does; a reply ended it,
 -- or a fault does
-abbrev pub Ends : Session → List ℕ → End → Session → Type 0
-Ends session rest Closed last = (session.ended ≡ None) × (rest ≡ []) × (last ≡ session)
-Ends session rest Cut last = (session.ended ≡ None) × (0 < length rest) × IsFront rest unfinished × (last ≡ session)
-Ends session rest (Refused code) last = ((session.ended ≡ Some code) × (last ≡ session))
+abbrev pub EndsSession : Session → List ℕ → End → Session → Type 0
+EndsSession session rest Closed last = (session.ended ≡ None) × (rest ≡ []) × (last ≡ session)
+EndsSession session rest Cut last = (session.ended ≡ None) × (0 < length rest) × IsFront rest unfinished × (last ≡ session)
+EndsSession session rest (Refused code) last = ((session.ended ≡ Some code) × (last ≡ session))
     ⊎ ((fault : FrameFault) × (session.ended ≡ None) × IsFront rest (faulty (wire_fault fault)) × (code ≡ frame_code fault) × (last ≡ broken_off session code))
 
 -- a session over some bytes: how it ended, and what it was then
@@ -46,7 +46,7 @@ pub record IsSession (first : Session) (bytes : List ℕ) (end : End) (last : Se
   pub session : Session
   pub rest : List ℕ
   pub reached : Reaches first bytes session rest
-  pub ends : Ends session rest end last
+  pub ends : EndsSession session rest end last
 
 -- what a session is when one thing more was answered: a frame in front of the rest, or the fault that the rest shows
 abbrev pub GoesOn : Session → List ℕ → Session → Type 0
@@ -89,8 +89,8 @@ abbrev pub KeepsNothing : Content → Effect (Unit {0}) (Unit {0})
 KeepsNothing state = Gives tt
 
 -- all replies of a session were written
-abbrev pub Says : {P : Type 0} → Session → Talk P → Talk P → Type 0
-Says session old new = WritesReplies old.told.bytes new.told.bytes session.replies × (new.told.failures ≡ old.told.failures)
+abbrev pub HasReplied : {P : Type 0} → Session → Talk P → Talk P → Type 0
+HasReplied session old new = WritesReplies old.told.bytes new.told.bytes session.replies × (new.told.failures ≡ old.told.failures)
 
 -- where the session ended with the input, no byte is left
 abbrev pub IsInputEnd : End → Option (List ℕ) → Type 0
@@ -118,25 +118,25 @@ pub record TakesOne {P : Type 0} (Keeps : Content → Effect P (Unit {0})) (at :
 
 -- what broke a session off, and what it left. Read: no whole frame is left. Bound: nor before the first byte beyond the limit. Memory:
 -- the next frame was taken or not, and is neither kept nor answered. Write: it was taken and kept, and part of its reply may be written
-abbrev pub BreaksOff : {P : Type 0} → (Content → Effect P (Unit {0})) → Point P → Talk P → Talk P → ServeFault → Type 0
-BreaksOff Keeps at old new Read = Says at.session old new × (new.state ≡ at.session.state) × (new.place ≡ at.kept)
+abbrev pub BreaksOffSession : {P : Type 0} → (Content → Effect P (Unit {0})) → Point P → Talk P → Talk P → ServeFault → Type 0
+BreaksOffSession Keeps at old new Read = HasReplied at.session old new × (new.state ≡ at.session.state) × (new.place ≡ at.kept)
     × IsFront at.rest unfinished × (length at.bytes ≤ most_bytes) × (old.unheard.failures < new.unheard.failures)
-BreaksOff Keeps at old new Bound = Says at.session old new × (new.state ≡ at.session.state) × (new.place ≡ at.kept)
+BreaksOffSession Keeps at old new Bound = HasReplied at.session old new × (new.state ≡ at.session.state) × (new.place ≡ at.kept)
     × ((left : List ℕ) × (byte : ℕ) × (at.rest ≡ left ++ byte ∷ []) × IsFront left unfinished)
     × (length at.bytes ≡ most_bytes + 1) × (new.unheard.failures ≡ old.unheard.failures)
-BreaksOff Keeps at old new Memory = Says at.session old new × (new.place ≡ at.kept) × HearsWell at old new
+BreaksOffSession Keeps at old new Memory = HasReplied at.session old new × (new.place ≡ at.kept) × HearsWell at old new
     × ((new.state ≡ at.session.state) ⊎ ((next : Session) × GoesOn at.session at.rest next × (new.state ≡ next.state)))
-BreaksOff Keeps at old new Write = ((next : Session) × TakesOne Keeps at next new (Ok tt) × WritesPart old.told.bytes new.told.bytes at.session next)
+BreaksOffSession Keeps at old new Write = ((next : Session) × TakesOne Keeps at next new (Ok tt) × WritesPart old.told.bytes new.told.bytes at.session next)
     × (old.told.failures < new.told.failures) × HearsWell at old new
 
 -- how a session ended: it was served, all replies of its last state written; a fault broke it off; or a state could not be kept, and
 -- nothing of the reply that tells of it is written
 abbrev pub EndsAt : {P : Type 0} → (Content → Effect P (Unit {0})) → Point P → Talk P → Talk P → Result (Result Served ServeFault) Failure → Type 0
 EndsAt Keeps at old new (Ok (Ok served)) =
-    ((last : Session) × Ends at.session at.rest served.end last × Says last old new × (served.frames ≡ last.frames) × (new.state ≡ last.state))
+    ((last : Session) × EndsSession at.session at.rest served.end last × HasReplied last old new × (served.frames ≡ last.frames) × (new.state ≡ last.state))
     × (new.place ≡ at.kept) × IsInputEnd served.end new.unheard.bytes × HearsWell at old new
-EndsAt Keeps at old new (Ok (Err fault)) = (at.session.ended ≡ None) × BreaksOff Keeps at old new fault
-EndsAt Keeps at old new (Err failure) = (at.session.ended ≡ None) × Says at.session old new
+EndsAt Keeps at old new (Ok (Err fault)) = (at.session.ended ≡ None) × BreaksOffSession Keeps at old new fault
+EndsAt Keeps at old new (Err failure) = (at.session.ended ≡ None) × HasReplied at.session old new
     × ((next : Session) × TakesOne Keeps at next new (Err failure)) × HearsWell at old new
 
 -- a session of a plan: frames were read and answered, each state that they changed was kept before its reply was written, and it ended

@@ -66,7 +66,7 @@ IsFound bytes many new after (Ok frame) = IsFrame (content frame) × (bytes ≡ 
 IsFound bytes many new after (Err fault) = IsLost bytes many after fault
 
 -- the bytes that were read for it
-pub record Finds {A : Type 0} (old new : Stream) (before after : Option (List ℕ)) (answer : Result (Frame A) ReplyFault) : Type 0 where
+pub record FindsFrame {A : Type 0} (old new : Stream) (before after : Option (List ℕ)) (answer : Result (Frame A) ReplyFault) : Type 0 where
   pub bytes : List ℕ
   pub consumed : Consumes before after bytes
   pub found : IsFound (pending old ++ bytes) (old.count + length bytes) new after answer

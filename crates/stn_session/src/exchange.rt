@@ -4,7 +4,7 @@ ghost use Rattle.stn_device.specs.{Bytes.AppendsPart, Counted.{counted_device, f
 ghost use Rattle.stn_lift.specs.PlanSource.{PlanSource};
 ghost use Rattle.stn_records.specs.Content.{Content};
 ghost use Rattle.stn_wire.specs.{Frame.{content, same, records, text}, Stream.{unread, pending, IsReading}};
-ghost use Rattle.stn_session.specs.{Exchange.{request_bytes, at_stage, greeting, handing, telling, failed, greeted_by, handed, told_by, unexpected, IsReceived, seen}, Turns.{Finds, Came, Leads}, declared.exchange.ReplyFault.TheVariants.{Read, Memory}, Failures.reply_failure};
+ghost use Rattle.stn_session.specs.{Exchange.{request_bytes, at_stage, greeting, handing, telling, failed, greeted_by, handed, reception_of, unexpected, IsReceived, seen_value}, Turns.{FindsFrame, Came, Leads}, declared.exchange.ReplyFault.TheVariants.{Read, Memory}, Failures.reply_failure};
 
 use crate::replies::append_state;
 use std::alloc::{AllocError, Allocator};
@@ -107,7 +107,7 @@ pub fn receive_replies<R: Read, A: Allocator + Copy, C: SiteCopy<A>>(
 
     // The bytes that were read are frames and a rest; the answer and the site's state are what these come to.
     ensures received { IsReceived (C.held copy.old).source (C.held copy.old).state (R.remaining (counted_device reader.old))
-        (R.remaining (counted_device reader.new)) (C.held copy.new).state (seen (λ bytes. bytes.items) result) }
+        (R.remaining (counted_device reader.new)) (C.held copy.new).state (seen_value (λ bytes. bytes.items) result) }
     ensures source { (C.held copy.new).source ≡ (C.held copy.old).source }
     ensures site { (C.held copy.new).site ≡ (C.held copy.old).site }
     ensures read { IsErrOf result Read → failure_count reader.old < failure_count reader.new }
@@ -125,7 +125,7 @@ fn take_replies<R: Read, A: Allocator + Copy, C: SiteCopy<A>>(
 ) -> Result<Vec<u8, A>, ReplyFault>
     requires { frames.old ≡ unread }
     ensures received { IsReceived (C.held copy.old).source (C.held copy.old).state (R.remaining (counted_device reader.old))
-        (R.remaining (counted_device reader.new)) (C.held copy.new).state (seen (λ bytes. bytes.items) result) }
+        (R.remaining (counted_device reader.new)) (C.held copy.new).state (seen_value (λ bytes. bytes.items) result) }
     ensures source { (C.held copy.new).source ≡ (C.held copy.old).source }
     ensures site { (C.held copy.new).site ≡ (C.held copy.old).site }
     ensures read { IsErrOf result Read → CountsFailure reader.old reader.new }
@@ -184,7 +184,7 @@ fn take_text<R: Read, A: Allocator + Copy>(
     requires { IsReading frames.old }
     ensures received { (source : PlanSource) → (first : Content) → (before : Option (List ℕ)) → (state : Content)
         → Came source first before (R.remaining (counted_device reader.old)) (pending frames.old) frames.old.count telling state
-        → IsReceived source first before (R.remaining (counted_device reader.new)) state (seen (λ bytes. bytes.items) result) }
+        → IsReceived source first before (R.remaining (counted_device reader.new)) state (seen_value (λ bytes. bytes.items) result) }
     ensures read { IsErrOf result Read → CountsFailure reader.old reader.new }
     ensures kept { result ≢ Err Read → KeepsCount reader.old reader.new }
 {
@@ -198,7 +198,7 @@ fn next_reply<R: Read, A: Allocator + Copy>(
     reader: &mut Counted<R>,
 ) -> Result<Frame<A>, ReplyFault>
     requires { IsReading frames.old }
-    ensures finds { Finds frames.old frames.new (R.remaining (counted_device reader.old)) (R.remaining (counted_device reader.new)) result }
+    ensures finds { FindsFrame frames.old frames.new (R.remaining (counted_device reader.old)) (R.remaining (counted_device reader.new)) result }
     ensures read { IsErrOf result Read → CountsFailure reader.old reader.new }
     ensures kept { result ≢ Err Read → KeepsCount reader.old reader.new }
 {
@@ -255,7 +255,7 @@ fn records_of<A: Allocator>(frame: Frame<A>) -> Result<Records<A>, ReplyFault>
 // The bytes of TEXT, or why another frame is refused.
 fn text_of<A: Allocator>(frame: Frame<A>) -> Result<Vec<u8, A>, ReplyFault>
     ensures text { IfOk result (λ bytes. content frame ≡ text bytes.items) }
-    ensures refused { IfErr result (λ fault. (state : Content) → told_by state (content frame) ≡ at_stage (failed fault) state) }
+    ensures refused { IfErr result (λ fault. (state : Content) → reception_of state (content frame) ≡ at_stage (failed fault) state) }
     ensures read { result ≢ Err Read }
 {
     match frame {

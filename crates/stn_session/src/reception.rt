@@ -1,4 +1,4 @@
-ghost use Rattle.std.specs.Prelude.{◌≡◌, ℕ, List, Option, Some, Result};
+ghost use Rattle.std.specs.{Prelude.{◌≡◌, ◌<◌, ◌^◌, ℕ, List, Option, Some, Result}, List.AllByRecursion};
 ghost use Rattle.stn_lift.specs.PlanSource.{PlanSource};
 ghost use Rattle.stn_records.specs.Content.{Content};
 ghost use Rattle.stn_session.specs.{Exchange.IsReceived, Reception.SaysReplies, declared.exchange.ReplyFault.ReplyFault};
@@ -16,3 +16,11 @@ pub fn one_reception()
     one_front();
     one_spelling();
 }
+
+/// The law that no reader's bytes are without a reception: it cannot be that they are received in no way that they alone decide, where no
+/// read fails and memory lasts.
+pub fn some_reception()
+    ensures { (source : PlanSource) → (first : Content) → (input : List ℕ) → AllByRecursion (λ byte. byte < 2 ^ 8) input
+        → ¬ ((after : Option (List ℕ)) → (answer : Result (List ℕ) ReplyFault) → (state : Content)
+        → SaysReplies answer → ¬ IsReceived source first (Some input) after state answer) }
+{}

@@ -1,7 +1,7 @@
 use Rattle.std.specs.{Prelude.{◌≡◌, ℕ, ℤ, zero, suc, ◌+◌, Bool, ◌==◌, ◌&&◌, ◌⊎◌, List, [], ◌++◌, length, map, codes}, List.{list_any, flat_map, range_with_len}}
 use Rattle.stn_net.specs.{Difference.Difference, Schedule.HasSchedule, Windows.Window.IsWindow}
 use Rattle.stn_lift.specs.PlanSource.{PlanSource, steps_of, events_of, base_bounds}
-use Rattle.stn_records.specs.{declared.record.Record.Record, Record.is_done as marks_done, Content.{Content, live_of, replaced_count}, Id.SiteCounter}
+use Rattle.stn_records.specs.{declared.record.Record.Record, Record.is_done_mark as marks_done, Content.{Content, live_of, replaced_count}, Id.SiteCounter}
 use Rattle.stn_conflict.specs.{declared.links.Link.Link, Arcs.{weight_of, IsNegativeCycle}, Named.IsNamedCycle}
 use Rattle.stn_site.specs.{Bounds.{all_bounds, live_bounds}, Names.live_ids, Lines.{line, plan_line, records_line, window_line, conflict_line, link_line}}
 

@@ -1,6 +1,6 @@
 ghost use Rattle.std.specs.Prelude.{◌≡◌, ℕ, ◌≤◌, false, length, slice_index_or};
 ghost use Rattle.stn_net.specs.Event.{most_events};
-ghost use Rattle.stn_records.specs.{Record.is_done as marks_done, Content.AllProper};
+ghost use Rattle.stn_records.specs.{Record.is_done_mark as marks_done, Content.AllProper};
 ghost use Rattle.stn_site.specs.Report.{is_done};
 
 use crate::site_plan::SitePlan;
@@ -28,14 +28,14 @@ fn done_flags<A: Allocator + Copy>(records: &Records<A>) -> [bool; EVENT_FLAGS]
 {
     let mut flags = [false; EVENT_FLAGS];
     for (_, record) in records.live_records() {
-        if is_done_mark(record.mark) {
+        if is_done(record.mark) {
             flags[usize::from(record.bound.to().number())] = true;
         }
     }
     flags
 }
 
-fn is_done_mark(mark: Mark) -> bool
+fn is_done(mark: Mark) -> bool
     ensures { result ≡ marks_done mark }
 {
     mark == Mark::Done

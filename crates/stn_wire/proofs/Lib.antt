@@ -9,3 +9,4 @@ pub mod OldSides
 pub mod OneFeeding
 pub mod Streams
 pub mod Cuts
+pub mod SaidBounds

@@ -35,14 +35,14 @@ IsReading stream = stream.broken ≡ None
 
 -- what stands in front of some bytes: a frame, and the bytes after it are pending; a fault; the end between two frames, or
 -- within one. Read and Bound come where no frame was left, Bound with a byte beyond the limit
-abbrev pub IsNext : {A : Type 0} → List ℕ → Stream → Result (Next A) ReadFault → Type 0
-IsNext bytes new (Ok (frame given)) = IsFrame (content given) × (bytes ≡ spelling (content given) ++ pending new) × IsReading new
-IsNext bytes new (Ok (Faulty fault)) = IsFront bytes (faulty (wire_fault fault))
-IsNext bytes new (Ok Closed) = bytes ≡ []
-IsNext bytes new (Ok Cut) = IsFront bytes unfinished × (0 < length bytes)
-IsNext bytes new (Err Read) = IsFront bytes unfinished
-IsNext bytes new (Err Bound) = (left : List ℕ) × (byte : ℕ) × (bytes ≡ left ++ byte ∷ []) × IsFront left unfinished
-IsNext bytes new (Err Memory) = ⊤
+abbrev pub IsNextFrame : {A : Type 0} → List ℕ → Stream → Result (Next A) ReadFault → Type 0
+IsNextFrame bytes new (Ok (frame given)) = IsFrame (content given) × (bytes ≡ spelling (content given) ++ pending new) × IsReading new
+IsNextFrame bytes new (Ok (Faulty fault)) = IsFront bytes (faulty (wire_fault fault))
+IsNextFrame bytes new (Ok Closed) = bytes ≡ []
+IsNextFrame bytes new (Ok Cut) = IsFront bytes unfinished × (0 < length bytes)
+IsNextFrame bytes new (Err Read) = IsFront bytes unfinished
+IsNextFrame bytes new (Err Bound) = (left : List ℕ) × (byte : ℕ) × (bytes ≡ left ++ byte ∷ []) × IsFront left unfinished
+IsNextFrame bytes new (Err Memory) = ⊤
 
 -- how many bytes were read where this is the answer: Bound comes with the first byte beyond the limit
 abbrev pub IsCounted : {A : Type 0} → ℕ → Stream → Result (Next A) ReadFault → Type 0
@@ -54,5 +54,5 @@ IsCounted count new (Err other) = count ≤ most_bytes
 pub record GivesNext {A : Type 0} (old new : Stream) (before after : Option (List ℕ)) (answer : Result (Next A) ReadFault) : Type 0 where
   pub bytes : List ℕ
   pub consumed : Consumes before after bytes
-  pub next : IsNext (pending old ++ bytes) new answer
+  pub next : IsNextFrame (pending old ++ bytes) new answer
   pub counted : IsCounted (old.count + length bytes) new answer

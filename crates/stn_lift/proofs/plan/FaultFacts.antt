@@ -2,7 +2,7 @@
 use Rattle.std.{proofs.{Common.{◌≡◌, ℕ, ℤ, Bool, true, false, cond, nat_lt, ◌≤◌, ◌||◌, length, List, [], ◌∷◌, ◌++◌, Option, Some, None, Result, Ok, Err, IsOk, refl, subst, ap, ◌∙◌}, lemmas.List.Elements.{All-nil, All-cons}}, specs.{Int.is_negative, Option.{option_to_list, option_map_or}}}
 use Rattle.stn_time.specs.{declared.reading.TimeFault.TimeFault, TimeOf.time_of}
 use Rattle.stn_text.specs.Faults.{◌>>=◌, Fails}
-use Rattle.stn_lift.specs.{declared.plan.{bytes.Mark.TheVariants.{Colon, Open, Close, OpenSquare, CloseSquare}, fault.PlanFault.{PlanFault, TheVariants.{TooLong, Syntax, Number, Negative, TooManySteps, Memory}}}, Plan.{Tokens.{Lexeme, Word, Sign, tokens_of}, Lines.lines_of, Faults.{NamesLine, IsFirstLineFault, IsPlanCause}, Steps.{PlannedStep, Form, args_of, duration_form, form_of, or_number, time_at, duration_of, step_at, timed_step, step_of, line_step, most_text, steps_of, plan_of, is_memory}}}
+use Rattle.stn_lift.specs.{declared.plan.{bytes.Mark.TheVariants.{Colon, Open, Close, OpenSquare, CloseSquare}, fault.PlanFault.{PlanFault, TheVariants.{TooLong, Syntax, Number, Negative, TooManySteps, Memory}}}, Plan.{Tokens.{Lexeme, Word, Sign, tokens_of}, Lines.lines_of, Faults.{NamesLine, IsFirstLineFault, IsPlanCause}, Steps.{PlannedStep, Form, args_of, duration_form, form_of, or_number, time_at, duration_of, step_at, timed_step, step_of, line_step, most_text, steps_of, plan_of, is_plan_memory}}}
 
 -- the fault that is given is the one that is found
 its : {A : Type 0} (line : ℕ) (given fault : PlanFault) → NamesLine line given → ◌≡◌ {A = Result A PlanFault} (Err given) (Err fault) → NamesLine line fault
@@ -120,7 +120,7 @@ steps_of-first [] fault e = cc
 steps_of-first (line ∷ lines) fault e = first_of_lines line lines fault (line_step line) refl e (steps_of-first lines fault)
 
 -- a fault of the lines of a text that is short enough has its cause
-pub lines_fault : (fault : PlanFault) (text : List ℕ) → length text ≤ most_text → Fails is_memory fault (steps_of (lines_of text)) → IsPlanCause text fault
+pub lines_fault : (fault : PlanFault) (text : List ℕ) → length text ≤ most_text → Fails is_plan_memory fault (steps_of (lines_of text)) → IsPlanCause text fault
 lines_fault TooLong text short e = absurd (steps_of-first (lines_of text) TooLong e).its_number
 lines_fault (Syntax line) text short e = (short, steps_of-first (lines_of text) (Syntax line) e)
 lines_fault (Number line) text short e = (short, steps_of-first (lines_of text) (Number line) e)
@@ -129,7 +129,7 @@ lines_fault TooManySteps text short e = absurd (steps_of-first (lines_of text) T
 lines_fault Memory text short e = tt
 
 -- a fault of the lines is the fault of a text that is short enough
-pub plan_fault : (fault : PlanFault) (text : List ℕ) → nat_lt most_text (length text) ≡ false → Fails is_memory fault (steps_of (lines_of text)) → Fails is_memory fault (plan_of text)
+pub plan_fault : (fault : PlanFault) (text : List ℕ) → nat_lt most_text (length text) ≡ false → Fails is_plan_memory fault (steps_of (lines_of text)) → Fails is_plan_memory fault (plan_of text)
 unfolding plan_of
 plan_fault TooLong text fits e = rw (fits, e) refl
 plan_fault (Syntax line) text fits e = rw (fits, e) refl

@@ -97,9 +97,9 @@ unfoldable pub plan_of : List ℕ → Result (List PlannedStep) PlanFault
 plan_of text = if nat_lt most_text (length text) then Err TooLong else (steps_of (lines_of text) >>= limited)
 
 -- memory ran out
-abbrev pub is_memory : PlanFault → Bool
-is_memory Memory = true
-is_memory fault = false
+abbrev pub is_plan_memory : PlanFault → Bool
+is_plan_memory Memory = true
+is_plan_memory fault = false
 
 -- the step's time is not below 0, nor is its duration
 pub record IsTimely (step : PlannedStep) : Type 0 where

@@ -3,7 +3,7 @@
 ghost use Rattle.std.specs.{Prelude.◌≡◌, Option.option_map};
 ghost use Rattle.std.specs.Int as int;
 ghost use Rattle.stn_text.specs.Faults.{Returns};
-ghost use Rattle.stn_lift.specs.Plan.{Tokens.tokens_of, Steps.{is_memory, args_of, duration_form, form_of, time_at, duration_of, timed_step, step_of}, Views.{names_of, word_of, form_in, planned_step}};
+ghost use Rattle.stn_lift.specs.Plan.{Tokens.tokens_of, Steps.{is_plan_memory, args_of, duration_form, form_of, time_at, duration_of, timed_step, step_of}, Views.{names_of, word_of, form_in, planned_step}};
 
 use crate::plan::bytes::Mark;
 use crate::plan::fault::PlanFault;
@@ -42,7 +42,7 @@ fn read_args<'a, A: Allocator + Copy>(
     line: u32,
     tokens: &mut Tokens<'a>,
 ) -> Result<Vec<&'a [u8], A>, PlanFault>
-    ensures { Returns is_memory (λ args. (names_of args, tokens.new)) result (args_of line tokens.old) }
+    ensures { Returns is_plan_memory (λ args. (names_of args, tokens.new)) result (args_of line tokens.old) }
 {
     let mut args = Vec::new(alloc);
     loop {
@@ -57,7 +57,7 @@ fn read_args<'a, A: Allocator + Copy>(
 /// Takes all tokens that are left: none, or a word in square brackets.
 #[tactic(auto, unfolding(crate::specs::Plan::Steps::duration_form))]
 fn read_duration<'a>(line: u32, tokens: &mut Tokens<'a>) -> Result<Option<&'a [u8]>, PlanFault>
-    ensures { Returns is_memory (option_map word_of) result (duration_form line tokens.old) }
+    ensures { Returns is_plan_memory (option_map word_of) result (duration_form line tokens.old) }
 {
     let syntax = PlanFault::Syntax(line);
     match tokens.next_token() {
@@ -84,7 +84,7 @@ fn read_words<'a, A: Allocator + Copy>(
     line: u32,
     tokens: &mut Tokens<'a>,
 ) -> Result<Words<'a, A>, PlanFault>
-    ensures { Returns is_memory form_in result (form_of line tokens.old) }
+    ensures { Returns is_plan_memory form_in result (form_of line tokens.old) }
 {
     let syntax = PlanFault::Syntax(line);
     let Some(Token::Word(time)) = tokens.next_token() else {
@@ -119,7 +119,7 @@ fn is_negative(time: Ms) -> bool
 /// The time that a word spells.
 #[tactic(auto, unfolding(crate::specs::Plan::Steps::time_at))]
 fn read_time(line: u32, word: &[u8]) -> Result<Ms, PlanFault>
-    ensures { Returns is_memory (λ time. time) result (time_at line word.now) }
+    ensures { Returns is_plan_memory (λ time. time) result (time_at line word.now) }
 {
     Ms::read(word).map_err(|_| PlanFault::Number(line))
 }
@@ -127,7 +127,7 @@ fn read_time(line: u32, word: &[u8]) -> Result<Ms, PlanFault>
 /// The time that the word of a duration spells, where there is one.
 #[tactic(auto, unfolding(crate::specs::Plan::Steps::duration_of))]
 fn read_duration_time(line: u32, word: Option<&[u8]>) -> Result<Option<Ms>, PlanFault>
-    ensures { Returns is_memory (λ duration. duration) result (duration_of line (option_map word_of word.entry)) }
+    ensures { Returns is_plan_memory (λ duration. duration) result (duration_of line (option_map word_of word.entry)) }
 {
     match word {
         Some(word) => Ok(Some(read_time(line, word)?)),
@@ -138,7 +138,7 @@ fn read_duration_time(line: u32, word: Option<&[u8]>) -> Result<Option<Ms>, Plan
 /// The step of the words of a line.
 #[tactic(auto, unfolding(crate::specs::Plan::Steps::timed_step, crate::specs::Plan::Steps::step_at))]
 fn timed<'a, A: Allocator>(line: u32, words: Words<'a, A>) -> Result<Step<'a, A>, PlanFault>
-    ensures { Returns is_memory planned_step result (timed_step line (form_in words.entry)) }
+    ensures { Returns is_plan_memory planned_step result (timed_step line (form_in words.entry)) }
 {
     let Words {
         time,
@@ -167,7 +167,7 @@ pub fn read_step<'a, A: Allocator + Copy>(
     line: u32,
     bytes: &'a [u8],
 ) -> Result<Option<Step<'a, A>>, PlanFault>
-    ensures { Returns is_memory (option_map planned_step) result (step_of line (tokens_of bytes.now)) }
+    ensures { Returns is_plan_memory (option_map planned_step) result (step_of line (tokens_of bytes.now)) }
 {
     let mut tokens = Tokens::new(bytes);
     if tokens.is_empty() {

@@ -1,5 +1,5 @@
 use Rattle.std.{proofs.{Common.{subst, sym, ◌∙◌}, lemmas.Bool.false≢true}, specs.List.Contains}
-use Rattle.stn_conflict.{specs.{declared.outgoing.Look.Look, Relaxation.IsRow, Named.IsStep, Search.{across, IsFirstStepTo}}, proofs.{Steps.{first_in_row, none_in_row, passed_more}, Rows.in_row}}
+use Rattle.stn_conflict.{specs.{declared.outgoing.Look.Look, Relaxation.IsRow, Named.IsLevelStep, Search.{across, IsFirstStepTo}}, proofs.{Steps.{first_in_row, none_in_row, passed_more}, Rows.in_row}}
 use Rattle.stn_conflict.proofs.levels.first_step.Goals as goal
 
 pub returns-then-is_step : goal.returns-then-is_step
@@ -12,7 +12,7 @@ returns-then-is_step g c =
     let is : IsRow searched c.args.event looks = subst (λ x. IsRow searched x looks) place c.row-look-items.ensures in
     let look : Look = c.look-item.result in
     let into = c.across-into.ensures in
-    let step : IsStep searched.bounds start (across look.link) = subst (IsStep searched.bounds start) into (c.is_step.ensures.0 c.if-is_step.true) in
+    let step : IsLevelStep searched.bounds start (across look.link) = subst (IsLevelStep searched.bounds start) into (c.is_step.ensures.0 c.if-is_step.true) in
     subst (IsFirstStepTo searched.bounds start c.args.event) (sym into) (first_in_row searched start c.args.event index looks is look c.loop-look-test.true (sym c.look-item.is) c.loop-look.invariant step)
 
 pub is_step-requires-clause-there : goal.is_step-requires-clause-there
@@ -27,7 +27,7 @@ loop-look-preserved g c =
     let searched = c.args.graph.now in
     let into = c.across-into.ensures in
     passed_more searched.bounds c.args.start c.loop-look.look-index c.row-look-items.result.now c.look-item.result c.loop-look-test.true (sym c.look-item.is)
-    (λ step. false≢true (sym c.if-is_step.false ∙ c.is_step.ensures.1 (subst (IsStep searched.bounds c.args.start) (sym into) step))) c.loop-look.invariant
+    (λ step. false≢true (sym c.if-is_step.false ∙ c.is_step.ensures.1 (subst (IsLevelStep searched.bounds c.args.start) (sym into) step))) c.loop-look.invariant
 
 pub returns : goal.returns
 returns g c =

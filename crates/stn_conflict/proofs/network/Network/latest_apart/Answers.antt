@@ -1,6 +1,6 @@
 use Rattle.std.proofs.{Common.{◌≡◌, ◌+◌, pos, true, get_or, length, replicate, refl, rules, ap, subst, ◌∙◌, arith}, lemmas.{Int.ints, List.{get_or_default, length-replicate}}}
 use Rattle.stn_net.specs.Schedule.{times_of}
-use Rattle.stn_conflict.{specs.{Listing.Listing, Relaxation.{AreDistances, AreFirstRows, IsSearch}}, proofs.Relaxing.{all_fresh, among_events, distances_relaxed, distances_taken}}
+use Rattle.stn_conflict.{specs.{Listing.ListedBounds, Relaxation.{AreDistances, AreFirstRows, IsSearch}}, proofs.Relaxing.{all_fresh, among_events, distances_relaxed, distances_taken}}
 use Rattle.stn_conflict.proofs.network.Network.latest_apart.Goals as goal
 
 pub invariant_of-self-then-not-branch : goal.invariant_of-self-then-not-branch
@@ -45,11 +45,11 @@ pub returns-clause-taken : goal.returns-clause-taken
 returns-clause-taken g c =
     let far = c.extend.new.latest.far.items in
     let bounds = c.args.self.now.bounds in
-    let whole : c.deref.result.now ≡ bounds = c.deref.ensures.value ∙ ap (λ (l : Listing). l.bounds) c.self.view_is in
+    let whole : c.deref.result.now ≡ bounds = c.deref.ensures.value ∙ ap (λ (l : ListedBounds). l.bounds) c.self.view_is in
     let exact : AreDistances bounds 0 far = subst (λ l. AreDistances l 0 far) whole (c.in_ok-extend.ensures.distances c.if-not-branch.false) in
     let taken = distances_taken bounds 0 far c.args.from c.args.to exact in
     let long : length far ≡ c.self.inside.events + 1 = c.extend.ensures.late.tables.far in
-    let events = ap (λ (l : Listing). l.events) c.self.view_is in
+    let events = ap (λ (l : ListedBounds). l.events) c.self.view_is in
     let end : c.get-end.result ≡ times_of far c.args.to =
     c.get-end.ensures.value ∙ c.index.ensures ∙ ap (λ k. get_or far k c.index.result.now) (c.from.ensures ∙ c.number.ensures.value)
     ∙ get_or_default far c.args.to c.index.result.now (pos 0) (omega (arith, long, events, c.requires.to)) in

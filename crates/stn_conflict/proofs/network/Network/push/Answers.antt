@@ -1,6 +1,6 @@
 use Rattle.std.proofs.{Common.{◌≡◌, ◌+◌, [], ◌∷◌, ◌++◌, true, set, sym, subst, ◌∙◌, arith}, lemmas.List.length-set}
 use Rattle.stn_net.specs.Difference.{NamesEvents}
-use Rattle.stn_conflict.{specs.{Listing.Listing, Relaxation.IsRelaxedBut}, proofs.{Relaxing.{network_more, estimates_push, relaxed_push}, Rows.rows_longer}}
+use Rattle.stn_conflict.{specs.{Listing.ListedBounds, Relaxation.IsRelaxedBut}, proofs.{Relaxing.{network_more, estimates_push, relaxed_push}, Rows.rows_longer}}
 use Rattle.stn_conflict.proofs.network.Network.push.Goals as goal
 
 pub invariant_of-self-2 : goal.invariant_of-self-2
@@ -10,7 +10,7 @@ invariant_of-self-2 g c =
     let bounds = is.bounds.items in
     let fresh = is.latest.fresh.items in
     let bound = c.args.bound in
-    let named : NamesEvents is.events bound = subst (λ (l : Listing). NamesEvents l.events bound) (sym c.self.view_is) c.requires in
+    let named : NamesEvents is.events bound = subst (λ (l : ListedBounds). NamesEvents l.events bound) (sym c.self.view_is) c.requires in
     let from : c.from-2.result ≡ bound.from = c.from-2.ensures ∙ c.number.ensures.value ∙ c.from.ensures.value in
     let to : c.from-3.result ≡ bound.to = c.from-3.ensures ∙ c.number-2.ensures.value ∙ c.to.ensures.value in
     let relaxed : IsRelaxedBut (bounds ++ bound ∷ []) is.latest.far.items (set (set fresh bound.from true) bound.to true) =

@@ -1,11 +1,11 @@
-use Rattle.std.proofs.{Common.{◌≡◌, ◌+◌, [], ◌∷◌, ◌++◌, true, set, sym, subst, ap, length, take, ◌∙◌, arith}, Math.Seq.take-append_seam, lemmas.List.length-set}
-use Rattle.stn_net.specs.Difference.{NamesEvents}
-use Rattle.stn_conflict.{specs.{Listing.Listing, Relaxation.{AreDistances, AreFirstRows, HasTables, IsRelaxedBut, IsSearch}}, proofs.{Relaxing.{distances_relaxed, estimates_push, network_more, relaxed_push}, Rows.rows_longer, network.Network.take.{Given.Over, Goals.After-deref}}}
+use Rattle.std.proofs.{Common.{◌≡◌, ◌+◌, [], ◌∷◌, ◌++◌, true, set, refl, sym, subst, ap, length, take, ◌∙◌, arith}, Math.Seq.take-append_seam, lemmas.List.length-set}
+use Rattle.stn_net.specs.{Difference.NamesEvents, Schedule.HasSchedule}
+use Rattle.stn_conflict.{specs.{Listing.ListedBounds, Relaxation.{AreDistances, AreFirstRows, HasTables, IsRelaxedBut, IsSearch}}, proofs.{Relaxing.{distances_relaxed, estimates_push, network_more, relaxed_push}, Rows.rows_longer, network.Network.take.{Given.Over, Goals.After-deref}}}
 use Rattle.stn_conflict.proofs.network.Network.take.Goals as goal
 
 -- the bound is about the events
 named : (g : Over) (c : After-deref g) → NamesEvents c.self.inside.events c.args.bound
-named g c = subst (λ (l : Listing). NamesEvents l.events c.args.bound) (sym c.self.view_is) c.requires
+named g c = subst (λ (l : ListedBounds). NamesEvents l.events c.args.bound) (sym c.self.view_is) c.requires
 
 -- the bounds, and it after them
 longer : (g : Over) (c : After-deref g) → c.deref.result.now ≡ c.self.inside.bounds.items ++ c.args.bound ∷ []
@@ -90,3 +90,9 @@ invariant_of-self-2 g c =
       relaxed = rw (again.far, again.fresh, c.copy_from.ensures.far, c.copy_from.ensures.fresh) old.relaxed;
       tables = kept;
     })
+
+pub returns-in-Ok-true-clause-possible : goal.returns-in-Ok-true-clause-possible
+returns-in-Ok-true-clause-possible g c =
+    let place = (goal.at.returns-in-Ok-true-clause-possible g c).After-deref in
+    let fits = subst HasSchedule (longer g place) (c.in-Ok-true.ensures.possible.0 c.in-Ok-true.field-0-test) in
+    ((λ yes. subst (λ (l : ListedBounds). HasSchedule (l.bounds ++ c.args.bound ∷ [])) c.self.view_is fits), (λ has. refl))

@@ -1,6 +1,6 @@
 use Rattle.std.proofs.{Common.{◌≡◌, ◌<◌, ◌≤◌, length, map, Ok, refl, sym, arith}, lemmas.{Bool.{ltb-true, Decides.nat_tests}, List.length-map, Result.err_from_is_err_and}}
 use Rattle.stn_text.specs.Faults.{Fails}
-use Rattle.stn_lift.{specs.Plan.{Lines.lines_of, Steps.{most_steps, is_memory, steps_of, plan_of}, Views.planned_step}, proofs.{StepFacts.{is_plan, plan_of-many}, plan.FaultFacts.{lines_fault, plan_fault}}}
+use Rattle.stn_lift.{specs.Plan.{Lines.lines_of, Steps.{most_steps, is_plan_memory, steps_of, plan_of}, Views.planned_step}, proofs.{StepFacts.{is_plan, plan_of-many}, plan.FaultFacts.{lines_fault, plan_fault}}}
 use Rattle.stn_lift.proofs.plan.Plan.read.Goals as goal
 
 pub returns-then-is_too_long : goal.returns-then-is_too_long
@@ -12,7 +12,7 @@ returns-then-is_too_long g c =
 pub returns-in_err-steps : goal.returns-in_err-steps
 returns-in_err-steps g c =
     let text = c.args.text.now in
-    let fails : Fails is_memory c.in_err-steps.field-0.0 (steps_of (lines_of text)) = rw (← c.new.ensures) c.in_err-steps.ensures in
+    let fails : Fails is_plan_memory c.in_err-steps.field-0.0 (steps_of (lines_of text)) = rw (← c.new.ensures) c.in_err-steps.ensures in
     let returned = err_from_is_err_and c.from_residual.result c.from_residual.ensures.1 in
     rw (returned.1, returned.2) (record {
       given = plan_fault c.in_err-steps.field-0.0 text (sym c.if-is_too_long.ensures) fails;

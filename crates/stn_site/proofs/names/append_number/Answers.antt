@@ -1,0 +1,9 @@
+use Rattle.std.proofs.{Common.arith, lemmas.Grind.common_steps}
+use Rattle.std.proofs.Common.{rules}
+use Rattle.stn_site.proofs.names.append_number.Goals as goal
+
+pub returns-clause-short : goal.returns-clause-short
+returns-clause-short g c = search rules
+
+pub returns-clause-text : goal.returns-clause-text
+returns-clause-text g c = grind (arith, common_steps)
