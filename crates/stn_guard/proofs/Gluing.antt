@@ -2,7 +2,7 @@ use Rattle.std.{proofs.{Common.{◌≡◌, ℕ, ℤ, pos, true, cond, eqb, List,
 use Rattle.stn_replica.proofs.Live.{All-passing, All-filter_passing}
 use Rattle.stn_time.proofs.Each.{All-left, All-right}
 use Rattle.stn_net.specs.{Difference.Difference, Schedule.{Meets, IsSchedule, HasSchedule}, Windows.Window.IsInWindow}
-use Rattle.stn_guard.{specs.{Owners.{is_at, is_own, own_bounds}, Guard.Guards}, proofs.Owned.{all_pieces, at_cases, at_owner}}
+use Rattle.stn_guard.{specs.{Owners.{is_at, is_owned, own_bounds}, Guard.Guards}, proofs.Owned.{all_pieces, at_cases, at_owner}}
 
 -- each event takes the time that its owner gives it
 abbrev glued : (ℕ → ℕ) → (ℕ → ℕ → ℤ) → ℕ → ℤ
@@ -22,7 +22,7 @@ glued_at owner times site event origin at = elim (at_cases owner site event at) 
 ]
 
 -- so they meet what the site's times meet of the site's own bounds
-glued_meets : (owner : ℕ → ℕ) (times : ℕ → ℕ → ℤ) (site : ℕ) (bound : Difference) → times site 0 ≡ pos 0 → is_own owner site bound ≡ true
+glued_meets : (owner : ℕ → ℕ) (times : ℕ → ℕ → ℤ) (site : ℕ) (bound : Difference) → times site 0 ≡ pos 0 → is_owned owner site bound ≡ true
     → Meets (times site) bound → Meets (glued owner times) bound
 glued_meets owner times site bound origin own met =
     let at = and_parts (is_at owner site bound.from) (is_at owner site bound.to) own in
@@ -30,17 +30,17 @@ glued_meets owner times site bound origin own met =
 
 -- times that meet the site's own bounds
 pub own_met : (owner : ℕ → ℕ) (site : ℕ) (bounds : List Difference) (time : ℕ → ℤ) → IsSchedule (own_bounds owner site bounds) time
-    → All (λ bound. is_own owner site bound ≡ true → Meets time bound) bounds
-own_met owner site bounds time schedule = All-passing (is_own owner site) (Meets time) bounds schedule.met
+    → All (λ bound. is_owned owner site bound ≡ true → Meets time bound) bounds
+own_met owner site bounds time schedule = All-passing (is_owned owner site) (Meets time) bounds schedule.met
 
 pub own_schedule : (owner : ℕ → ℕ) (site : ℕ) (bounds : List Difference) (time : ℕ → ℤ) → time 0 ≡ pos 0
-    → All (λ bound. is_own owner site bound ≡ true → Meets time bound) bounds → IsSchedule (own_bounds owner site bounds) time
-own_schedule owner site bounds time origin met = record { origin = origin; met = All-filter_passing (is_own owner site) (Meets time) bounds met }
+    → All (λ bound. is_owned owner site bound ≡ true → Meets time bound) bounds → IsSchedule (own_bounds owner site bounds) time
+own_schedule owner site bounds time origin met = record { origin = origin; met = All-filter_passing (is_owned owner site) (Meets time) bounds met }
 
 glued_met : (owner : ℕ → ℕ) (times : ℕ → ℕ → ℤ) (site : ℕ) (bounds : List Difference) → IsSchedule (own_bounds owner site bounds) (times site)
-    → All (λ bound. is_own owner site bound ≡ true → Meets (glued owner times) bound) bounds
+    → All (λ bound. is_owned owner site bound ≡ true → Meets (glued owner times) bound) bounds
 glued_met owner times site bounds schedule =
-    All-weaker (λ bound. is_own owner site bound ≡ true → Meets (times site) bound) (λ bound. is_own owner site bound ≡ true → Meets (glued owner times) bound)
+    All-weaker (λ bound. is_owned owner site bound ≡ true → Meets (times site) bound) (λ bound. is_owned owner site bound ≡ true → Meets (glued owner times) bound)
     (λ bound met own. glued_meets owner times site bound schedule.origin own (met own)) bounds (own_met owner site bounds (times site) schedule)
 
 -- where each site's times meet its own bounds of the guarded ones, all of them together are a schedule
@@ -52,18 +52,18 @@ glued_schedule owner bounds guard times guards each = guards.enough (glued owner
 own_front : (owner : ℕ → ℕ) (site : ℕ) (bounds more : List Difference) (time : ℕ → ℤ) → IsSchedule (own_bounds owner site (bounds ++ more)) time
     → IsSchedule (own_bounds owner site bounds) time
 own_front owner site bounds more time schedule = own_schedule owner site bounds time schedule.origin
-    (All-left (λ bound. is_own owner site bound ≡ true → Meets time bound) bounds more (own_met owner site (bounds ++ more) time schedule))
+    (All-left (λ bound. is_owned owner site bound ≡ true → Meets time bound) bounds more (own_met owner site (bounds ++ more) time schedule))
 
 -- sites that keep to bounds of their own have a schedule together
 pub glue : (owner : ℕ → ℕ) (bounds guard : List Difference) (added : ℕ → List Difference) (sites : List ℕ) → Guards owner bounds guard
-    → ((site : ℕ) → All (λ bound. is_own owner site bound ≡ true) (added site))
+    → ((site : ℕ) → All (λ bound. is_owned owner site bound ≡ true) (added site))
     → ((site : ℕ) → HasSchedule (own_bounds owner site ((bounds ++ guard) ++ added site)))
     → HasSchedule ((bounds ++ guard) ++ flat_map added sites)
 glue owner bounds guard added sites guards own each =
     let times : ℕ → ℕ → ℤ = λ site. (each site).0 in
     let whole = glued_schedule owner bounds guard times guards (λ site. own_front owner site (bounds ++ guard) (added site) (times site) (each site).1) in
     let here : (site : ℕ) → All (Meets (glued owner times)) (added site) = (λ site k d h.
-    All-right (λ bound. is_own owner site bound ≡ true → Meets (glued owner times) bound) (bounds ++ guard) (added site)
+    All-right (λ bound. is_owned owner site bound ≡ true → Meets (glued owner times) bound) (bounds ++ guard) (added site)
     (glued_met owner times site ((bounds ++ guard) ++ added site) (each site).1) k d h (own site k d h)) in (
       glued owner times,
       record {
@@ -83,14 +83,14 @@ chosen_schedule owner bounds one other site which mine whole = elim (eqb_tells w
   | inl same ↦ subst (λ t. IsSchedule (own_bounds owner which bounds) (cond t one other)) (sym same.0)
       (subst (λ s. IsSchedule (own_bounds owner s bounds) one) (sym same.1) mine)
   | inr differs ↦ subst (λ t. IsSchedule (own_bounds owner which bounds) (cond t one other)) (sym differs.0)
-      (record { origin = whole.origin; met = All-filter (is_own owner which) (Meets other) bounds whole.met })
+      (record { origin = whole.origin; met = All-filter (is_owned owner which) (Meets other) bounds whole.met })
 ]
 
 -- an event's window is its window by its owner's own bounds alone
 pub own_windows : (owner : ℕ → ℕ) (bounds guard : List Difference) → Guards owner bounds guard → (event : ℕ) (time : ℤ)
     → (IsInWindow (bounds ++ guard) event time ↔ IsInWindow (own_bounds owner (owner event) (bounds ++ guard)) event time)
 own_windows owner bounds guard guards event time = (
-  (λ whole. (whole.0, record { origin = whole.1.origin; met = All-filter (is_own owner (owner event)) (Meets whole.0) (bounds ++ guard) whole.1.met }, whole.2)),
+  (λ whole. (whole.0, record { origin = whole.1.origin; met = All-filter (is_owned owner (owner event)) (Meets whole.0) (bounds ++ guard) whole.1.met }, whole.2)),
   (λ own.
       let times : ℕ → ℕ → ℤ = chosen own.0 guards.possible.0 (owner event) in
       let each : (site : ℕ) → IsSchedule (own_bounds owner site (bounds ++ guard)) (times site) =

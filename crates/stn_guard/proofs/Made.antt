@@ -3,7 +3,7 @@ use Rattle.std.{proofs.{Common.{◌≡◌, ◌≢◌, ℕ, zero, suc, ◌+◌, �
 use Rattle.stn_replica.proofs.Live.{All-passing, All-filter_passing}
 use Rattle.stn_time.{proofs.Each.{All-left, All-right}, specs.Time.horizon}
 use Rattle.stn_net.specs.{Difference.{Difference, NamesEvents}, Horizon.{horizon_bound, horizon_bounds}, Schedule.{Meets, IsSchedule, HasSchedule}, Windows.Window.IsInWindow}
-use Rattle.stn_guard.{specs.{declared.splitting.Arc.Arc, Owners.{is_own, own_bounds, is_shared}, Guard.Guards, Making.{arcs_of, shared_arcs, window_bound, is_named, says_more, AreWindows, IsGuardOf}}, proofs.{Owned.{all_pieces, all_of_pieces, at_owner, at_origin, own_or_shared, shared_parts}, Gluing.own_met, Split.{Implies, IsApart, AreLeft, are_left}}}
+use Rattle.stn_guard.{specs.{declared.splitting.Arc.Arc, Owners.{is_owned, own_bounds, is_shared}, Guard.Guards, Making.{arcs_of, shared_arcs, window_bound, names_event, says_more, AreSharedWindows, IsGuardOf}}, proofs.{Owned.{all_pieces, all_of_pieces, at_owner, at_origin, own_or_shared, shared_parts}, Gluing.own_met, Split.{Implies, IsApart, AreLeft, are_left}}}
 
 -- each horizon bound is one of them
 pub all_horizon : (P : Difference → Type 0) (events : ℕ) → All P (horizon_bounds events) → (event : ℕ) → 0 < event → event ≤ events → P (horizon_bound event)
@@ -29,7 +29,7 @@ arcs_implied owner bounds =
         (All-cons (Implies bounds) lower [] (λ time schedule. (let m = met time schedule in omega (arith, ints, m.0))) (All-nil (Implies bounds)))
 
 -- a shared bound names its events
-named_ends : (owner : ℕ → ℕ) (bounds : List Difference) → All (λ b. is_shared owner b ≡ true → (is_named owner bounds b.from ≡ true) × (is_named owner bounds b.to ≡ true)) bounds
+named_ends : (owner : ℕ → ℕ) (bounds : List Difference) → All (λ b. is_shared owner b ≡ true → (names_event owner bounds b.from ≡ true) × (names_event owner bounds b.to ≡ true)) bounds
 named_ends owner bounds = λ k d h shared.
     let b = get_or bounds k d in (
       list_any_at (λ bound. is_shared owner bound && (eqb bound.from b.from || eqb bound.to b.from)) bounds k d h
@@ -42,15 +42,15 @@ named_ends owner bounds = λ k d h shared.
 says_less : (b : Difference) → says_more b ≡ false → (b.lo ≤ℤ pos 0) × (horizon ≤ℤ b.hi)
 says_less b less = (grind (arith, ints), grind (arith, ints))
 
-module _ (owner : ℕ → ℕ) (events : ℕ) (bounds within windows : List Difference) (are : AreWindows owner events bounds within windows) where
+module _ (owner : ℕ → ℕ) (events : ℕ) (bounds within windows : List Difference) (are : AreSharedWindows owner events bounds within windows) where
   abbrev told : Difference → Bool
-  told bound = is_named owner bounds bound.to && says_more bound
+  told bound = names_event owner bounds bound.to && says_more bound
 
   abbrev window_at : ℕ → Difference
   window_at event = window_bound event (are.ends event)
 
   -- what holds of all windows holds of that of an event
-  windows_have : (P : Difference → Type 0) → All P windows → (event : ℕ) → 0 < event → event ≤ events → is_named owner bounds event ≡ true
+  windows_have : (P : Difference → Type 0) → All P windows → (event : ℕ) → 0 < event → event ≤ events → names_event owner bounds event ≡ true
       → says_more (window_at event) ≡ true → P (window_at event)
   windows_have P all event after most named more =
       let passing = All-passing told P (map window_at (range_with_len 1 events)) (subst (All P) are.windows_are all) in
@@ -67,7 +67,7 @@ module _ (owner : ℕ → ℕ) (events : ℕ) (bounds within windows : List Diff
 
   -- times that meet the windows and the horizon come within them
   times_within : (time : ℕ → ℤ) → time 0 ≡ pos 0 → All (Meets time) windows → ((event : ℕ) → 0 < event → event ≤ events → Meets time (horizon_bound event))
-      → (event : ℕ) → 0 < event → event ≤ events → is_named owner bounds event ≡ true → IsInWindow within event (time event)
+      → (event : ℕ) → 0 < event → event ≤ events → names_event owner bounds event ≡ true → IsInWindow within event (time event)
   times_within time origin met far event after most named = by (says_more (window_at event)) refl
     where
       by : (test : Bool) → says_more (window_at event) ≡ test → IsInWindow within event (time event)
@@ -165,16 +165,16 @@ module _ (owner : ℕ → ℕ) (events : ℕ) (bounds guard : List Difference) (
   guard_met time each = λ k d h.
       let b = get_or guard k d in
       let single = windows_all owner events bounds split guard is.made.windows (λ b. b.from ≡ 0) (λ event after most. refl) k d h in
-      All-right (λ b. is_own owner (owner (get_or guard k d).to) b ≡ true → Meets time b) bounds guard (own_met owner (owner b.to) (bounds ++ guard) time (each (owner b.to))) k d h
+      All-right (λ b. is_owned owner (owner (get_or guard k d).to) b ≡ true → Meets time b) bounds guard (own_met owner (owner b.to) (bounds ++ guard) time (each (owner b.to))) k d h
       (and_from _ _ (at_origin owner (owner b.to) b.from single) (at_owner owner b.to))
 
   enough : (time : ℕ → ℤ) → ((site : ℕ) → IsSchedule (own_bounds owner site (bounds ++ guard)) time) → IsSchedule (bounds ++ guard) time
   enough time each =
       let origin = (each 0).origin in
-      let own : (site : ℕ) → All (λ b. is_own owner site b ≡ true → Meets time b) bounds = (λ site.
-      All-left (λ b. is_own owner site b ≡ true → Meets time b) bounds guard (own_met owner site (bounds ++ guard) time (each site))) in
+      let own : (site : ℕ) → All (λ b. is_owned owner site b ≡ true → Meets time b) bounds = (λ site.
+      All-left (λ b. is_owned owner site b ≡ true → Meets time b) bounds guard (own_met owner site (bounds ++ guard) time (each site))) in
       let far : (event : ℕ) → 0 < event → event ≤ events → Meets time (horizon_bound event) = (λ event after most.
-      horizon_met (λ b. is_own owner (owner event) b ≡ true → Meets time b) (own (owner event)) event after most
+      horizon_met (λ b. is_owned owner (owner event) b ≡ true → Meets time b) (own (owner event)) event after most
       (and_from _ _ (at_origin owner (owner event) 0 refl) (at_owner owner event))) in
       let guarded = guard_met time each in
       let shared = shared_met time origin guarded far in
@@ -193,7 +193,7 @@ module _ (owner : ℕ → ℕ) (events : ℕ) (bounds guard : List Difference) (
     enough = enough;
   }
 
-  pub made_windows : AreWindows owner events bounds (bounds ++ guard) guard
+  pub made_windows : AreSharedWindows owner events bounds (bounds ++ guard) guard
   made_windows = record {
     ends = is.made.windows.ends;
     true_ends = λ event most time.

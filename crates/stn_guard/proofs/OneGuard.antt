@@ -1,7 +1,7 @@
 -- One guard is made of bounds and owners.
 use Rattle.std.{proofs.{Common.{◌≡◌, ℕ, ◌+◌, ◌<◌, ℤ, List, [], ◌∷◌, ◌++◌, map, refl, sym, ap, subst, ◌∙◌, arith}, lemmas.List.{same_lists, FromFn.{length-map-range_with_len, get_or-map-range_with_len}, Elements.{All-head, All-tail, All-weaker}}}, specs.{Prelude.{All, filter, ◌&&◌}, List.range_with_len}}
 use Rattle.stn_net.{specs.{Difference.Difference, Schedule.HasSchedule, Windows.Window.IsWindow}, proofs.WindowEnds.one_window}
-use Rattle.stn_guard.{specs.{declared.splitting.Arc.Arc, Making.{shared_arcs, window_bound, split_of, is_named, says_more, IsSplit, AreSplit, AreWindows, IsGuardOf}}, proofs.{Split.{Implies, split_left, are_left}, Made.arcs_implied}}
+use Rattle.stn_guard.{specs.{declared.splitting.Arc.Arc, Making.{shared_arcs, window_bound, split_of, names_event, says_more, IsSplit, AreSplit, AreSharedWindows, IsGuardOf}}, proofs.{Split.{Implies, split_left, are_left}, Made.arcs_implied}}
 
 pub one_pair : (bounds : List Difference) (event : ℕ) (one other : ℤ × ℤ) → HasSchedule bounds → IsWindow bounds event one.0 one.1 → IsWindow bounds event other.0 other.1 → one ≡ other
 one_pair bounds event one other possible these those =
@@ -25,9 +25,9 @@ one_end (arc ∷ arcs) bounds one other possible implied these those =
     one_end arcs next one other first.possible still (subst (λ n. AreSplit n arcs one) same these.2) those.2
 
 one_list : (owner : ℕ → ℕ) (events : ℕ) (bounds within one other : List Difference) → HasSchedule within
-    → AreWindows owner events bounds within one → AreWindows owner events bounds within other → one ≡ other
+    → AreSharedWindows owner events bounds within one → AreSharedWindows owner events bounds within other → one ≡ other
 one_list owner events bounds within one other possible these those =
-    these.windows_are ∙ ap (filter (λ bound. is_named owner bounds bound.to && says_more bound)) (same_lists (map first (range_with_len 1 events)) (map second (range_with_len 1 events))
+    these.windows_are ∙ ap (filter (λ bound. names_event owner bounds bound.to && says_more bound)) (same_lists (map first (range_with_len 1 events)) (map second (range_with_len 1 events))
     (length-map-range_with_len first 1 events ∙ sym (length-map-range_with_len second 1 events))
     (λ k d h.
     let few : k < events = omega (arith, length-map-range_with_len first 1 events) in
@@ -48,4 +48,4 @@ one_made owner events bounds one other possible these those =
     let implied = arcs_implied owner bounds in
     let same : these.split ≡ those.split = one_end (shared_arcs owner bounds) bounds these.split those.split possible implied these.are_split those.are_split in
     let left = are_left bounds (shared_arcs owner bounds) those.split those.are_split possible implied in
-    one_list owner events bounds those.split one other left.possible (subst (λ s. AreWindows owner events bounds s one) same these.windows) those.windows
+    one_list owner events bounds those.split one other left.possible (subst (λ s. AreSharedWindows owner events bounds s one) same these.windows) those.windows

@@ -1,7 +1,7 @@
 use Rattle.std.{proofs.{Common.{◌≡◌, ℕ, true, not, ◌&&◌, ◌||◌, eqb, List, [], ◌∷◌, inl, inr, refl, sym, ap, subst, ◌∙◌}, lemmas.{Bool.{false≢true, and_parts, and_from, Decides.eqb_tells}, List.Elements.{All-nil, All-cons, All-head, All-tail, All-append}}}, specs.Prelude.{◌⊎◌, ◌≢◌, All, flat_map}}
 use Rattle.stn_time.proofs.Each.{All-left, All-right}
 use Rattle.stn_net.specs.Difference.{Difference}
-use Rattle.stn_guard.specs.Owners.{is_at, is_own, is_shared}
+use Rattle.stn_guard.specs.Owners.{is_at, is_owned, is_shared}
 
 -- what holds of all of the pieces, one after the other
 pub all_pieces : {X Y : Type 0} (f : X → List Y) (P : Y → Type 0) (xs : List X) → All (λ x. All P (f x)) xs → All P (flat_map f xs)
@@ -44,7 +44,7 @@ at_origin owner site event e = elim (eqb_tells event 0) [
 ]
 
 -- a bound is its events' owner's own, or shared
-pub own_or_shared : (owner : ℕ → ℕ) (bound : Difference) → ((site : ℕ) × (is_own owner site bound ≡ true)) ⊎ (is_shared owner bound ≡ true)
+pub own_or_shared : (owner : ℕ → ℕ) (bound : Difference) → ((site : ℕ) × (is_owned owner site bound ≡ true)) ⊎ (is_shared owner bound ≡ true)
 own_or_shared owner bound = elim (eqb_tells bound.from 0) [
   | inl origin ↦ inl (owner bound.to, and_from _ _ (at_origin owner (owner bound.to) bound.from origin.1) (at_owner owner bound.to))
   | inr from ↦ elim (eqb_tells bound.to 0) [
@@ -70,7 +70,7 @@ shared_parts owner bound shared =
     ]
 
 -- a shared bound is no site's own
-pub shared_not_own : (owner : ℕ → ℕ) (bound : Difference) (site : ℕ) → is_shared owner bound ≡ true → is_own owner site bound ≡ true → ⊥
+pub shared_not_own : (owner : ℕ → ℕ) (bound : Difference) (site : ℕ) → is_shared owner bound ≡ true → is_owned owner site bound ≡ true → ⊥
 shared_not_own owner bound site shared own =
     let parts = shared_parts owner bound shared in
     let at = and_parts (is_at owner site bound.from) (is_at owner site bound.to) own in

@@ -6,7 +6,7 @@ use Rattle.stn_net.specs.{Difference.Difference, Schedule.Meets}
 use Rattle.stn_lift.specs.PlanSource.{PlanSource, base_bounds}
 use Rattle.stn_records.{specs.{Id.SiteCounter, declared.record.Record.Record, ContentLaws.contents_join, Content.{Content, HasItem, IsPart, join_contents, is_known, is_live, next_counter, with_record, plain}}, proofs.Counters.next_is_new}
 use Rattle.stn_site.{specs.{Bounds.{live_bounds, all_bounds}, Held.Held, Calls.{added, took, Leaves, AllLeave}}, proofs.Items.addition_items}
-use Rattle.stn_guard.specs.{Owners.is_own, Guard.Guards, Adding.AddsEach, Putting.{AllPut, PutsEach}}
+use Rattle.stn_guard.specs.{Owners.is_owned, Guard.Guards, Adding.AddsEach, Putting.{AllPut, PutsEach}}
 
 abbrev pub Numbered : Type 0
 Numbered = SiteCounter × Difference
@@ -118,9 +118,9 @@ guards_held owner site base old records new put guards = record {
       let whole = guards.enough time (λ at.
       let its = own at in record {
         origin = its.origin;
-        met = All-filter_passing (is_own owner at) (Meets time) ((base ++ live_bounds old) ++ bounds_in records)
-            (all_before (λ bound. is_own owner at bound ≡ true → Meets time bound) site base old records new put
-            (All-passing (is_own owner at) (Meets time) ((base ++ live_bounds new) ++ []) its.met));
+        met = All-filter_passing (is_owned owner at) (Meets time) ((base ++ live_bounds old) ++ bounds_in records)
+            (all_before (λ bound. is_owned owner at bound ≡ true → Meets time bound) site base old records new put
+            (All-passing (is_owned owner at) (Meets time) ((base ++ live_bounds new) ++ []) its.met));
       }) in
       record { origin = whole.origin; met = all_after (Meets time) site base old records new put whole.met };
 }

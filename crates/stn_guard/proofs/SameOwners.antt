@@ -2,17 +2,17 @@
 use Rattle.std.{proofs.{Common.{◌≡◌, ℕ, ◌+◌, ◌<◌, ◌≤◌, Bool, not, ◌&&◌, ◌||◌, eqb, List, [], ◌∷◌, ◌++◌, get_or, map, inl, inr, refl, sym, ap, subst, ◌∙◌, arith}, lemmas.{Bool.Decides.eqb_tells, List.{FromFn.{length-map-range_with_len, get_or-map-range_with_len}, Elements.{All-head, All-tail, All-append}}}, Math.Nat.pos_of_ne-zero}, specs.{Prelude.{All, flat_map}, List.{list_any, range_with_len}}}
 use Rattle.stn_replica.proofs.Live.{All-filter_passing}
 use Rattle.stn_net.specs.{Difference.{Difference, NamesEvents}, Schedule.IsSchedule}
-use Rattle.stn_guard.{specs.{Owners.{is_at, is_own, own_bounds, is_shared}, Guard.Guards, Making.{arcs_of, shared_arcs, window_bound, is_named, says_more, AreSplit, AreWindows, IsGuardOf}}, proofs.Whole.filter_same}
+use Rattle.stn_guard.{specs.{Owners.{is_at, is_owned, own_bounds, is_shared}, Guard.Guards, Making.{arcs_of, shared_arcs, window_bound, names_event, says_more, AreSplit, AreSharedWindows, IsGuardOf}}, proofs.Whole.filter_same}
 
 any_same : {X : Type 0} (p q : X → Bool) (xs : List X) → All (λ x. p x ≡ q x) xs → list_any p xs ≡ list_any q xs
 any_same p q [] same = refl
 any_same p q (x ∷ xs) same = λ i. All-head (λ y. p y ≡ q y) x xs same i || any_same p q xs (All-tail (λ y. p y ≡ q y) x xs same) i
 
 -- a guard names the events
-pub guard_named : (owner : ℕ → ℕ) (events : ℕ) (bounds within guard : List Difference) → AreWindows owner events bounds within guard → All (NamesEvents events) guard
+pub guard_named : (owner : ℕ → ℕ) (events : ℕ) (bounds within guard : List Difference) → AreSharedWindows owner events bounds within guard → All (NamesEvents events) guard
 guard_named owner events bounds within guard windows =
     subst (All (NamesEvents events)) (sym windows.windows_are)
-    (All-filter_passing (λ bound. is_named owner bounds bound.to && says_more bound) (NamesEvents events) (map at (range_with_len 1 events))
+    (All-filter_passing (λ bound. names_event owner bounds bound.to && says_more bound) (NamesEvents events) (map at (range_with_len 1 events))
     (λ k d h passes.
     let few : k < events = omega (arith, length-map-range_with_len at 1 events) in
     subst (NamesEvents events) (sym (get_or-map-range_with_len at 1 events k (1 + k) d few refl)) (record { from = omega arith; to = omega arith })))
@@ -27,7 +27,7 @@ module _ (one other : ℕ → ℕ) (events : ℕ) (same : (event : ℕ) → 0 < 
     | inr beside ↦ ap (λ n. eqb event 0 || eqb n site) (same event (pos_of_ne-zero beside.1) within)
   ]
 
-  same_own : (site : ℕ) (bound : Difference) → NamesEvents events bound → is_own one site bound ≡ is_own other site bound
+  same_own : (site : ℕ) (bound : Difference) → NamesEvents events bound → is_owned one site bound ≡ is_owned other site bound
   same_own site bound named = λ i. same_at site bound.from named.from i && same_at site bound.to named.to i
 
   same_shared : (bound : Difference) → NamesEvents events bound → is_shared one bound ≡ is_shared other bound
@@ -46,7 +46,7 @@ module _ (one other : ℕ → ℕ) (events : ℕ) (same : (event : ℕ) → 0 < 
     same_arcs : shared_arcs one bounds ≡ shared_arcs other bounds
     same_arcs = ap (flat_map arcs_of) (filter_same (is_shared one) (is_shared other) bounds (λ k d h. same_shared _ (named k d h)))
 
-    same_named : (event : ℕ) → is_named one bounds event ≡ is_named other bounds event
+    same_named : (event : ℕ) → names_event one bounds event ≡ names_event other bounds event
     same_named event = any_same (λ bound. is_shared one bound && (eqb bound.from event || eqb bound.to event)) (λ bound. is_shared other bound && (eqb bound.from event || eqb bound.to event)) bounds
         (λ k d h. ap (λ t. t && (eqb (get_or bounds k d).from event || eqb (get_or bounds k d).to event)) (same_shared (get_or bounds k d) (named k d h)))
 
@@ -61,7 +61,7 @@ module _ (one other : ℕ → ℕ) (events : ℕ) (same : (event : ℕ) → 0 < 
         ends = is.windows.ends;
         true_ends = is.windows.true_ends;
         windows_are = is.windows.windows_are
-            ∙ filter_same (λ bound. is_named one bounds bound.to && says_more bound) (λ bound. is_named other bounds bound.to && says_more bound) (windows is)
+            ∙ filter_same (λ bound. names_event one bounds bound.to && says_more bound) (λ bound. names_event other bounds bound.to && says_more bound) (windows is)
             (λ k d h. ap (λ t. t && says_more (get_or (windows is) k d)) (same_named (get_or (windows is) k d).to));
       };
     }
@@ -74,5 +74,5 @@ module _ (one other : ℕ → ℕ) (events : ℕ) (same : (event : ℕ) → 0 < 
   }
     where
       own_same : (site : ℕ) → own_bounds one site (bounds ++ guard) ≡ own_bounds other site (bounds ++ guard)
-      own_same site = filter_same (is_own one site) (is_own other site) (bounds ++ guard)
+      own_same site = filter_same (is_owned one site) (is_owned other site) (bounds ++ guard)
           (λ k d h. same_own site _ (All-append (NamesEvents events) bounds guard named guard_are k d h))

@@ -1,14 +1,14 @@
 -- The guard of what a site holds, from the owners of its steps.
-use Rattle.std.{proofs.{Common.{◌≡◌, ◌⊎◌, inl, inr, ℕ, ◌+◌, ◌<◌, ◌≤◌, List, ◌++◌, map, Option, Some, None, unwrap_or, ap, subst, ◌∙◌, arith}, lemmas.List.FromFn.get_or-map-range_with_len}, specs.{Prelude.All, List.range_with_len}}
+use Rattle.std.{proofs.{Common.{◌≡◌, ◌⊎◌, inl, inr, ℕ, ◌+◌, ◌<◌, ◌≤◌, List, ◌++◌, map, Option, Some, None, Result, Ok, Err, unwrap_or, refl, ap, subst, ◌∙◌, arith}, lemmas.List.FromFn.get_or-map-range_with_len}, specs.{Prelude.{Vec, All, IsNone, IfOk, IfSome, MatchOption, ◌↔◌}, List.range_with_len}}
 use Rattle.stn_net.specs.{Difference.{Difference, NamesEvents}, Schedule.HasSchedule}
 use Rattle.stn_lift.specs.PlanSource.{events_of, base_bounds}
 use Rattle.stn_site.specs.{declared.faults.ReplicaFault.{ReplicaFault, TheVariants.Memory}, Bounds.{live_bounds, all_bounds}, Held.Held}
-use Rattle.stn_guard.{specs.{declared.owners.OwnedSteps.OwnedSteps, Owners.owner_of, Guard.Guards, Making.{AreWindows, IsGuardOf}, Adding.owner_by, Putting.MakesGuard}, proofs.SameOwners.{guard_named, same_guard, same_guards}}
+use Rattle.stn_guard.{specs.{declared.owners.OwnedSteps.OwnedSteps, Owners.owner_of, Guard.Guards, Making.{AreSharedWindows, IsGuardOf}, Adding.owner_by, Putting.MakesGuard}, proofs.{Gluing.guarded_possible, SameOwners.{guard_named, same_guard, same_guards}}}
 
 -- what was made of these bounds, with the owners as a list
 pub record IsMadeOf (owners : List ℕ) (events : ℕ) (bounds guard : List Difference) : Type 0 where
   pub guards : Guards (owner_of owners) bounds guard
-  pub windows : AreWindows (owner_of owners) events bounds (bounds ++ guard) guard
+  pub windows : AreSharedWindows (owner_of owners) events bounds (bounds ++ guard) guard
   pub made : IsGuardOf (owner_of owners) events bounds guard
 
 pub made_here : (owned : List OwnedSteps) (held : Held) (owners : List ℕ) (base extra guard : List Difference) (events : ℕ) → events ≡ events_of held.source
@@ -28,6 +28,21 @@ made_here owned held owners base extra guard events many list base_is extra_is p
       guards = same_guards (owner_of owners) (owner_by held.site owned) (events_of held.source) same bounds guard named are here.guards;
       named = are;
     }
+
+-- what was found for these bounds
+module _ {A E : Type 0} (owned : List OwnedSteps) (held : Held) (owners : List ℕ) (base extra : List Difference) (events : ℕ) (many : events ≡ events_of held.source)
+    (list : owners ≡ map (owner_by held.site owned) (range_with_len 0 (events_of held.source + 1))) (base_is : base ≡ base_bounds held.source) (extra_is : extra ≡ live_bounds held.state)
+    (named : All (NamesEvents (events_of held.source)) (all_bounds held.source held.state)) where
+  pub guard_found : (r : Result (Option (Vec Difference A)) E) → IfOk r (λ found. IsNone found ↔ ¬ HasSchedule (base ++ extra))
+      → IfOk r (λ found. IfSome found (λ guard. Guards (owner_of owners) (base ++ extra) guard.items))
+      → IfOk r (λ found. IfSome found (λ guard. AreSharedWindows (owner_of owners) events (base ++ extra) ((base ++ extra) ++ guard.items) guard.items))
+      → IfOk r (λ found. IfSome found (λ guard. IsGuardOf (owner_of owners) events (base ++ extra) guard.items))
+      → IfOk r (λ found. MatchOption found (¬ HasSchedule (all_bounds held.source held.state)) (λ guard. MakesGuard owned held guard.items))
+  guard_found (Ok (Some guard)) none guards windows made =
+      made_here owned held owners base extra guard.items events many list base_is extra_is (subst HasSchedule (λ i. base_is i ++ extra_is i) (guarded_possible (owner_of owners) (base ++ extra) guard.items guards))
+      named (record { guards = guards; windows = windows; made = made })
+  guard_found (Ok None) none guards windows made = subst (λ (bounds : List Difference). ¬ HasSchedule bounds) (λ i. base_is i ++ extra_is i) (none.0 refl)
+  guard_found (Err e) none guards windows made = tt
 
 -- a fault is a cause that was given, or lack of memory
 pub cause_or_memory : (cause : Option ReplicaFault) (fault : ReplicaFault) → fault ≡ unwrap_or cause Memory → (fault ≡ Memory) ⊎ (Some fault ≡ cause)

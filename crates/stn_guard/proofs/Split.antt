@@ -3,7 +3,7 @@ use Rattle.std.{proofs.{Common.{◌≡◌, ℕ, ℤ, pos, negsuc, ◌+ℤ◌, �
 use Rattle.stn_replica.proofs.Schedules.{schedule_before}
 use Rattle.stn_time.proofs.Each.{All-right}
 use Rattle.stn_net.{specs.{Difference.Difference, Schedule.{Meets, IsSchedule, HasSchedule}, Windows.Window.{IsInWindow, IsWindow}}, proofs.WindowEnds.lesser_schedule}
-use Rattle.stn_guard.specs.{declared.splitting.Arc.Arc, Making.{window_bound, is_implied, split_time, IsSplit, AreSplit}, Splitting.{LeavesTime, MeetsArc}}
+use Rattle.stn_guard.specs.{declared.splitting.Arc.Arc, Making.{window_bound, is_implied, split_time, IsSplit, AreSplit}, Narrowing.MeetsArc, Splitting.LeavesTime}
 
 -- half of a number, rounded down
 pub half_of : (z : ℤ) → ((int_div_euclid z (pos 2) +ℤ int_div_euclid z (pos 2)) ≤ℤ z) × (z ≤ℤ ((int_div_euclid z (pos 2) +ℤ int_div_euclid z (pos 2)) +ℤ pos 1))

@@ -1,9 +1,9 @@
--- The windows of a matrix in which all shared bounds were split are the guard.
-use Rattle.std.{proofs.{Common.{◌≡◌, ℕ, take, replicate, ◌+◌, ◌<◌, ◌≤◌, ℤ, Bool, false, cond, ◌&&◌, ◌||◌, eqb, List, [], ◌∷◌, ◌++◌, length, get_or, map, refl, sym, ap, subst, ◌∙◌, arith}, lemmas.List.{length-take, take-append-le, Folds.list_any-append, FromFn.{length-map-range_with_len, get_or-map-range_with_len}, Elements.{All-head, All-tail, All-weaker}}}, specs.{Prelude.{All, filter}, List.range_with_len}}
+-- The windows once all shared bounds were split are the guard.
+use Rattle.std.{proofs.{Common.{◌≡◌, ℕ, take, replicate, ◌+◌, ◌<◌, ◌≤◌, ℤ, Bool, false, cond, ◌&&◌, ◌||◌, eqb, List, [], ◌∷◌, ◌++◌, length, get_or, map, refl, sym, ap, subst, ◌∙◌, arith}, lemmas.{Option.MatchOption-at_some, List.{length-take, take-append-le, Folds.list_any-append, FromFn.{length-map-range_with_len, get_or-map-range_with_len}, Elements.{All-head, All-tail, All-weaker}}}}, specs.{Prelude.{All, Option, Some, MatchOption, filter}, List.range_with_len}}
 use Rattle.stn_site.proofs.Flags.{get_or-replicate_same}
 use Rattle.stn_time.proofs.Each.{All-left, All-right}
-use Rattle.stn_net.{specs.{Difference.{Difference, NamesEvents}, Horizon.horizon_bounds, Matrix.{Table.{Table, far_of}, Tightest.IsExact}}, proofs.{Horizons.length-horizon_bounds, WindowEnds.window_of_exact}}
-use Rattle.stn_guard.{specs.{declared.splitting.Arc.Arc, Owners.is_shared, Making.{shared_arcs, window_bound, is_named, says_more, IsGuardOf}, Splitting.{HasOwners, CanSplit, Splits, ends_of, is_kept, windows_of}}, proofs.Steps.{some_front, some_behind, splits_on, can_shared, arcs_append}}
+use Rattle.stn_net.{specs.{Difference.{Difference, NamesEvents}, Schedule.HasSchedule, Horizon.horizon_bounds}, proofs.Horizons.length-horizon_bounds}
+use Rattle.stn_guard.{specs.{declared.{splitting.Arc.Arc, windows.Windows.Windows}, Owners.is_shared, Making.{shared_arcs, window_bound, names_event, says_more, IsGuardOf}, Narrowing.{AreToldBy, ends_of}, Splitting.{HasOwners, CanSplit, Splits, is_kept, windows_of}}, proofs.{Steps.{some_front, some_behind, splits_on, can_shared, arcs_append}, Told.window_told}}
 
 -- tests that agree on the elements of a list keep the same ones
 pub filter_same : {X : Type 0} (p q : X → Bool) (xs : List X) → All (λ x. p x ≡ q x) xs → filter p xs ≡ filter q xs
@@ -14,44 +14,44 @@ filter_same p q (x ∷ xs) same =
 
 -- these are the events that a shared bound names
 abbrev pub AreNamed : (ℕ → ℕ) → List Difference → List Bool → Type 0
-AreNamed owner bounds named = (event : ℕ) → event < length named → get_or named event false ≡ is_named owner bounds event
+AreNamed owner bounds named = (event : ℕ) → event < length named → get_or named event false ≡ names_event owner bounds event
 
 pub named_both : (owner : ℕ → ℕ) (base extra : List Difference) (first second : List Bool) → length second ≡ length first → AreNamed owner base first
-    → ((event : ℕ) → event < length first → get_or second event false ≡ (get_or first event false || is_named owner extra event)) → AreNamed owner (base ++ extra) second
+    → ((event : ℕ) → event < length first → get_or second event false ≡ (get_or first event false || names_event owner extra event)) → AreNamed owner (base ++ extra) second
 named_both owner base extra first second long these more = λ event within.
     let there : event < length first = omega (arith, long) in
-    more event there ∙ ap (λ t. t || is_named owner extra event) (these event there)
+    more event there ∙ ap (λ t. t || names_event owner extra event) (these event there)
     ∙ sym (list_any-append (λ bound. is_shared owner bound && ((eqb bound.from event) || (eqb bound.to event))) base extra)
 
-pub windows_named : (owner : ℕ → ℕ) (bounds : List Difference) (named : List Bool) (far : ℕ → ℕ → ℤ) (events : ℕ) → length named ≡ events + 1 → AreNamed owner bounds named
-    → windows_of named far events ≡ filter (λ bound. is_named owner bounds bound.to && says_more bound) (map (λ event. window_bound event (ends_of far event)) (range_with_len 1 events))
-windows_named owner bounds named far events long are =
-    filter_same (is_kept named) (λ bound. is_named owner bounds bound.to && says_more bound) (map at (range_with_len 1 events))
+pub windows_named : (owner : ℕ → ℕ) (bounds : List Difference) (named : List Bool) (ends : ℕ → ℤ × ℤ) (events : ℕ) → length named ≡ events + 1 → AreNamed owner bounds named
+    → windows_of named ends events ≡ filter (λ bound. names_event owner bounds bound.to && says_more bound) (map (λ event. window_bound event (ends event)) (range_with_len 1 events))
+windows_named owner bounds named ends events long are =
+    filter_same (is_kept named) (λ bound. names_event owner bounds bound.to && says_more bound) (map at (range_with_len 1 events))
     (λ k d h.
     let few : k < events = omega (arith, length-map-range_with_len at 1 events) in
-    subst (λ bound. is_kept named bound ≡ (is_named owner bounds bound.to && says_more bound))
+    subst (λ bound. is_kept named bound ≡ (names_event owner bounds bound.to && says_more bound))
     (sym (get_or-map-range_with_len at 1 events k (1 + k) d few refl))
     (ap (λ t. t && says_more (at (1 + k))) (are (1 + k) (omega (arith, long)))))
   where
     at : ℕ → Difference
-    at event = window_bound event (ends_of far event)
+    at event = window_bound event (ends event)
 
-pub whole_guard : (owner : ℕ → ℕ) (base extra : List Difference) (old middle new : Table) (named : List Bool) (guard : List Difference) → IsExact (base ++ extra) old
+pub whole_guard : {A : Type 0} (owner : ℕ → ℕ) (base extra : List Difference) (old middle new : Windows A) (named : List Bool) (guard : List Difference) → AreToldBy (base ++ extra) old
     → Splits (shared_arcs owner base) old middle → middle.events ≡ old.events → Splits (shared_arcs owner extra) middle new → new.events ≡ old.events
-    → length named ≡ new.events + 1 → AreNamed owner (base ++ extra) named → guard ≡ windows_of named (far_of new) new.events
+    → length named ≡ new.events + 1 → AreNamed owner (base ++ extra) named → guard ≡ windows_of named (ends_of new) new.events
     → IsGuardOf owner old.events (base ++ extra) guard
-whole_guard owner base extra old middle new named guard exact first middle_same second new_same long are guard_is =
+whole_guard owner base extra old middle new named guard told first middle_same second new_same long are guard_is =
     let bounds = base ++ extra in
     let splits : Splits (shared_arcs owner bounds) old new =
     subst (λ arcs. Splits arcs old new) (sym (arcs_append owner base extra)) (splits_on (shared_arcs owner base) (shared_arcs owner extra) old middle new first middle_same second) in
-    let done = splits bounds (can_shared owner bounds old exact) in
+    let done = splits bounds (can_shared owner bounds old told) in
     subst (λ events. IsGuardOf owner events bounds guard) new_same (record {
       split = done.0;
       are_split = done.1;
       windows = record {
-        ends = ends_of (far_of new);
-        true_ends = λ event most. window_of_exact done.0 new event done.2 most;
-        windows_are = guard_is ∙ windows_named owner bounds named (far_of new) new.events long are;
+        ends = ends_of new;
+        true_ends = λ event most. window_told done.0 new event done.2 most;
+        windows_are = guard_is ∙ windows_named owner bounds named (ends_of new) new.events long are;
       };
     })
 
@@ -67,31 +67,31 @@ pub owned_behind : (owners : List ℕ) (events : ℕ) (base extra : List Differe
 owned_behind owners events base extra long named = owned owners events extra long (All-right (NamesEvents events) base extra named)
 
 -- the sides of both parts can be split
-can_both : (owner : ℕ → ℕ) (base extra : List Difference) (table : Table) → IsExact (base ++ extra) table
-    → (known : List Difference) × CanSplit known (shared_arcs owner base ++ shared_arcs owner extra) table
-can_both owner base extra table exact =
-    (base ++ extra, subst (λ arcs. CanSplit (base ++ extra) arcs table) (arcs_append owner base extra) (can_shared owner (base ++ extra) table exact))
+can_both : {A : Type 0} (owner : ℕ → ℕ) (base extra : List Difference) (windows : Windows A) → AreToldBy (base ++ extra) windows
+    → (known : List Difference) × CanSplit known (shared_arcs owner base ++ shared_arcs owner extra) windows
+can_both owner base extra windows told =
+    (base ++ extra, subst (λ arcs. CanSplit (base ++ extra) arcs windows) (arcs_append owner base extra) (can_shared owner (base ++ extra) windows told))
 
-pub can_first : (owner : ℕ → ℕ) (base extra : List Difference) (table : Table) → IsExact (base ++ extra) table → (known : List Difference) × CanSplit known (shared_arcs owner base) table
-can_first owner base extra table exact = some_front (shared_arcs owner base) (shared_arcs owner extra) table (can_both owner base extra table exact)
+pub can_first : {A : Type 0} (owner : ℕ → ℕ) (base extra : List Difference) (windows : Windows A) → AreToldBy (base ++ extra) windows → (known : List Difference) × CanSplit known (shared_arcs owner base) windows
+can_first owner base extra windows told = some_front (shared_arcs owner base) (shared_arcs owner extra) windows (can_both owner base extra windows told)
 
-pub can_second : (owner : ℕ → ℕ) (base extra : List Difference) (old new : Table) → IsExact (base ++ extra) old → Splits (shared_arcs owner base) old new → new.events ≡ old.events
+pub can_second : {A : Type 0} (owner : ℕ → ℕ) (base extra : List Difference) (old new : Windows A) → AreToldBy (base ++ extra) old → Splits (shared_arcs owner base) old new → new.events ≡ old.events
     → (known : List Difference) × CanSplit known (shared_arcs owner extra) new
-can_second owner base extra old new exact splits same = some_behind (shared_arcs owner base) (shared_arcs owner extra) old new (can_both owner base extra old exact) splits same
+can_second owner base extra old new told splits same = some_behind (shared_arcs owner base) (shared_arcs owner extra) old new (can_both owner base extra old told) splits same
 
--- then the matrix is exact for some bounds
-pub exact_after : (arcs : List Arc) (old new : Table) → (known : List Difference) × CanSplit known arcs old → Splits arcs old new → (known : List Difference) × IsExact known new
-exact_after arcs old new can splits = let done = splits can.0 can.1 in (done.0, done.2)
+-- then the windows are those of some bounds
+pub told_in_the_end : {A : Type 0} (arcs : List Arc) (old new : Windows A) → (known : List Difference) × CanSplit known arcs old → Splits arcs old new → (known : List Difference) × AreToldBy known new
+told_in_the_end arcs old new can splits = let done = splits can.0 can.1 in (done.0, done.2)
 
 -- what is noted of both parts, in a list that was false
 pub noted : (owner : ℕ → ℕ) (base extra : List Difference) (n : ℕ) (items none first again second last : List Bool) → items ≡ replicate n false → none ≡ items
-    → length first ≡ length none → ((event : ℕ) → event < length none → get_or first event false ≡ (get_or none event false || is_named owner base event))
+    → length first ≡ length none → ((event : ℕ) → event < length none → get_or first event false ≡ (get_or none event false || names_event owner base event))
     → again ≡ first
-    → length second ≡ length again → ((event : ℕ) → event < length again → get_or second event false ≡ (get_or again event false || is_named owner extra event))
+    → length second ≡ length again → ((event : ℕ) → event < length again → get_or second event false ≡ (get_or again event false || names_event owner extra event))
     → last ≡ second → AreNamed owner (base ++ extra) last
 noted owner base extra n items none first again second last filled is long these same still those end =
     let at_first : AreNamed owner base first = (λ event within.
-    these event (omega (arith, long)) ∙ ap (λ t. t || is_named owner base event) (ap (λ xs. get_or xs event false) (is ∙ filled) ∙ get_or-replicate_same n false event)) in
+    these event (omega (arith, long)) ∙ ap (λ t. t || names_event owner base event) (ap (λ xs. get_or xs event false) (is ∙ filled) ∙ get_or-replicate_same n false event)) in
     let then : AreNamed owner base again = subst (AreNamed owner base) (sym same) at_first in
     subst (AreNamed owner (base ++ extra)) (sym end) (named_both owner base extra again second still then those)
 
@@ -100,3 +100,8 @@ pub begins_both : (events : ℕ) (base extra : List Difference) → take events 
 begins_both events base extra begins =
     let within : events ≤ length base = omega (arith, ap length begins, length-take events base, length-horizon_bounds events) in
     take-append-le events base extra within ∙ begins
+
+-- windows that were found
+pub told_at : {A : Type 0} (found : Option (Windows A)) (windows : Windows A) (bounds : List Difference) (events : ℕ) → found ≡ Some windows
+    → MatchOption found (¬ HasSchedule bounds) (λ w. (w.events ≡ events) × AreToldBy bounds w) → (windows.events ≡ events) × AreToldBy bounds windows
+told_at found windows bounds events is told = MatchOption-at_some (¬ HasSchedule bounds) (λ w. (w.events ≡ events) × AreToldBy bounds w) windows is told

@@ -46,8 +46,8 @@ AreSplit bounds [] split = split ≡ bounds
 AreSplit bounds (arc ∷ arcs) split = (next : List Difference) × IsSplit bounds arc next × AreSplit next arcs split
 
 -- a shared bound names the event
-abbrev pub is_named : (ℕ → ℕ) → List Difference → ℕ → Bool
-is_named owner bounds event = list_any (λ bound. is_shared owner bound && ((bound.from == event) || (bound.to == event))) bounds
+abbrev pub names_event : (ℕ → ℕ) → List Difference → ℕ → Bool
+names_event owner bounds event = list_any (λ bound. is_shared owner bound && ((bound.from == event) || (bound.to == event))) bounds
 
 -- the bound says more of an event than the horizon does
 abbrev pub says_more : Difference → Bool
@@ -55,14 +55,14 @@ says_more bound = int_lt (pos 0) bound.lo || int_lt bound.hi horizon
 
 -- for each event that a shared bound names, in the order of the events, its window in the list `within`; those are left
 -- out that say no more than the horizon
-pub record AreWindows (owner : ℕ → ℕ) (events : ℕ) (bounds within windows : List Difference) : Type 0 where
+pub record AreSharedWindows (owner : ℕ → ℕ) (events : ℕ) (bounds within windows : List Difference) : Type 0 where
   pub ends : ℕ → ℤ × ℤ
   pub true_ends : (event : ℕ) → event ≤ events → IsWindow within event (ends event).0 (ends event).1
-  pub windows_are : windows ≡ filter (λ bound. is_named owner bounds bound.to && says_more bound)
+  pub windows_are : windows ≡ filter (λ bound. names_event owner bounds bound.to && says_more bound)
       (map (λ event. window_bound event (ends event)) (range_with_len 1 events))
 
 -- the guard of the bounds: the windows of the events that shared bounds name, once each side of these was split
 pub record IsGuardOf (owner : ℕ → ℕ) (events : ℕ) (bounds guard : List Difference) : Type 0 where
   pub split : List Difference
   pub are_split : AreSplit bounds (shared_arcs owner bounds) split
-  pub windows : AreWindows owner events bounds split guard
+  pub windows : AreSharedWindows owner events bounds split guard

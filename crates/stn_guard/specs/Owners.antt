@@ -11,12 +11,12 @@ abbrev pub is_at : (ℕ → ℕ) → ℕ → ℕ → Bool
 is_at owner site event = (event == 0) || (owner event == site)
 
 -- the bound is the site's own: each of its events is the origin or the site's
-abbrev pub is_own : (ℕ → ℕ) → ℕ → Difference → Bool
-is_own owner site bound = is_at owner site bound.from && is_at owner site bound.to
+abbrev pub is_owned : (ℕ → ℕ) → ℕ → Difference → Bool
+is_owned owner site bound = is_at owner site bound.from && is_at owner site bound.to
 
 -- the site's own bounds
 abbrev pub own_bounds : (ℕ → ℕ) → ℕ → List Difference → List Difference
-own_bounds owner site bounds = filter (is_own owner site) bounds
+own_bounds owner site bounds = filter (is_owned owner site) bounds
 
 -- the bound is shared: neither of its events is the origin, and they have different owners; so it is no site's own
 abbrev pub is_shared : (ℕ → ℕ) → Difference → Bool

@@ -10,7 +10,6 @@ use crate::owners::{OwnedSteps, are_within, owners_of};
 use std::alloc::Allocator;
 use stn_net::{Bound, BoundFault};
 use stn_records::{Id, MOST_KNOWN, Mark, Records, Site};
-use stn_replica::matrix_of;
 use stn_site::{ReplicaFault, SitePlan};
 use stn_time::Memory;
 
@@ -57,17 +56,11 @@ fn guard_of<A: Allocator + Copy>(
     ensures { IfOk result (λ found. MatchOption found (¬ HasSchedule (all_bounds plan.now.source plan.now.state))
         (λ guard. MakesGuard owned.now plan.now guard.items)) }
 {
-    match matrix_of(plan)? {
-        Some(matrix) => {
-            let alloc = plan.alloc();
-            let base = plan.base();
-            let live = plan.live_bounds()?;
-            let owners = owners_of(alloc, plan.site(), owned, base.events())?;
-            let bounds = guard(alloc, &matrix, base.bounds(), &live, &owners)?;
-            Ok(Some(bounds))
-        }
-        None => Ok(None),
-    }
+    let alloc = plan.alloc();
+    let base = plan.base();
+    let live = plan.live_bounds()?;
+    let owners = owners_of(alloc, plan.site(), owned, base.events())?;
+    guard(alloc, base.events(), base.bounds(), &live, &owners)
 }
 
 // Adds a plain record of each bound, under the site's next ids, which are returned: all of them or none.

@@ -1,10 +1,11 @@
-ghost use Rattle.std.specs.Prelude.{◌≡◌, ◌≢◌, ◌+◌, ◌<◌, ◌≤◌, ◌++◌, ◌&&◌, ◌||◌, false, ℕ, List, length, take, slice_index_or, All, IfOk, OnOk};
-ghost use Rattle.stn_net.specs.{Difference.Difference, Horizon.horizon_bounds, Matrix.{Table.far_of, Tightest.IsExact}};
-ghost use Rattle.stn_guard.specs.{Owners.owner_of, Guard.Guards, Making.{is_named, says_more, window_bound, AreWindows, IsGuardOf}, Splitting.{HasOwners, ends_of, is_kept, kept, windows_of}};
+ghost use Rattle.std.specs.Prelude.{◌≡◌, ◌≢◌, ◌+◌, ◌<◌, ◌≤◌, ◌↔◌, ◌++◌, ◌&&◌, ◌||◌, false, ℕ, List, length, take, slice_index_or, All, IsNone, IfOk, IfSome, OnOk};
+ghost use Rattle.stn_net.specs.{Event.most_events, Difference.{Difference, NamesEvents}, Schedule.HasSchedule, Horizon.horizon_bounds};
+ghost use Rattle.stn_guard.specs.{Owners.owner_of, Guard.Guards, Making.{names_event, says_more, window_bound, AreSharedWindows, IsGuardOf}, Narrowing.{AreToldBy, ends_of}, Splitting.{HasOwners, is_kept, kept, windows_of}};
 
 use crate::splitting::{is_shared, split_shared, window_bound};
+use crate::windows::Windows;
 use std::alloc::Allocator;
-use stn_net::{Bound, Event, Matrix, window};
+use stn_net::{Bound, Event};
 use stn_records::Site;
 use stn_time::{HORIZON, Memory};
 
@@ -13,32 +14,37 @@ use stn_time::{HORIZON, Memory};
 /// origin.
 ///
 /// There is one bound for each event that a shared bound names, in the order of the events: its window in the bounds
-/// with the guard. A window that says no more than the horizon is left out. The matrix is that of the bounds, and `base`
-/// begins with the horizon bounds of its events. `owners` has a site for each event, the origin's first; that one counts
-/// for nothing. It fails only if memory runs out.
+/// with the guard. A window that says no more than the horizon is left out. None exactly where the bounds have no
+/// schedule. There are so many `events` beside the origin, `base` begins with their horizon bounds, and all bounds are
+/// about them. `owners` has a site for each event, the origin's first; that one counts for nothing. It fails only if
+/// memory runs out.
 pub fn guard<A: Allocator + Copy>(
     alloc: A,
-    matrix: &Matrix<A>,
+    events: u16,
     base: &[Bound],
     extra: &[Bound],
     owners: &[Site],
-) -> Result<Vec<Bound, A>, Memory>
-    requires one_each { length owners.now ≡ matrix.now.events + 1 }
-    requires begins { take matrix.now.events base.now ≡ horizon_bounds matrix.now.events }
-    requires exact { IsExact (base.now ++ extra.now) matrix.now }
-    ensures guards { IfOk result (λ guard. Guards (owner_of owners.now) (base.now ++ extra.now) guard.items) }
-    ensures windows { IfOk result (λ guard. AreWindows (owner_of owners.now) matrix.now.events (base.now ++ extra.now)
-        ((base.now ++ extra.now) ++ guard.items) guard.items) }
-    ensures made { IfOk result (λ guard. IsGuardOf (owner_of owners.now) matrix.now.events (base.now ++ extra.now) guard.items) }
+) -> Result<Option<Vec<Bound, A>>, Memory>
+    requires few { events ≤ most_events }
+    requires one_each { length owners.now ≡ events + 1 }
+    requires begins { take events base.now ≡ horizon_bounds events }
+    requires base_named { All (NamesEvents events) base.now }
+    requires extra_named { All (NamesEvents events) extra.now }
+    ensures none { IfOk result (λ found. IsNone found ↔ ¬ HasSchedule (base.now ++ extra.now)) }
+    ensures guards { IfOk result (λ found. IfSome found (λ guard. Guards (owner_of owners.now) (base.now ++ extra.now) guard.items)) }
+    ensures windows { IfOk result (λ found. IfSome found (λ guard. AreSharedWindows (owner_of owners.now) events (base.now ++ extra.now)
+        ((base.now ++ extra.now) ++ guard.items) guard.items)) }
+    ensures made { IfOk result (λ found. IfSome found (λ guard. IsGuardOf (owner_of owners.now) events (base.now ++ extra.now) guard.items)) }
 {
-    let mut split = Matrix::bare(alloc, matrix.events())?;
-    split.copy_from(matrix);
-    split_shared(&mut split, base, owners);
-    split_shared(&mut split, extra, owners);
+    let Some(mut windows) = Windows::of(alloc, events, base, extra)? else {
+        return Ok(None);
+    };
+    split_shared(&mut windows, base, owners);
+    split_shared(&mut windows, extra, owners);
     let mut named = vec![in alloc; false; owners.len()]?;
     note_named(&mut named, base, owners);
     note_named(&mut named, extra, owners);
-    windows(alloc, &split, &named)
+    Ok(Some(named_windows(alloc, &windows, &named)?))
 }
 
 // Notes the events that a shared bound names.
@@ -47,7 +53,7 @@ fn note_named(named: &mut [bool], bounds: &[Bound], owners: &[Site])
     requires owned { All (HasOwners owners.now) bounds.now }
     ensures one_each { length named.new ≡ length named.old }
     ensures named { (event : ℕ) → event < length named.old → slice_index_or named.new event false
-        ≡ (slice_index_or named.old event false || is_named (owner_of owners.now) bounds.now event) }
+        ≡ (slice_index_or named.old event false || names_event (owner_of owners.now) bounds.now event) }
 {
     for bound in bounds {
         if is_shared(bound, owners) {
@@ -58,21 +64,22 @@ fn note_named(named: &mut [bool], bounds: &[Bound], owners: &[Site])
 }
 
 // The windows of the events that are named; those that say no more than the horizon are left out.
-fn windows<A: Allocator + Copy>(
+fn named_windows<A: Allocator + Copy>(
     alloc: A,
-    matrix: &Matrix<A>,
+    windows: &Windows<A>,
     named: &[bool],
 ) -> Result<Vec<Bound, A>, Memory>
-    requires one_each { length named.now ≡ matrix.now.events + 1 }
-    requires exact { (known : List Difference) × IsExact known matrix.now }
-    ensures { IfOk result (λ windows. windows.items ≡ windows_of named.now (far_of matrix.now) matrix.now.events) }
+    requires few { windows.now.events ≤ most_events }
+    requires one_each { length named.now ≡ windows.now.events + 1 }
+    requires told { (known : List Difference) × AreToldBy known windows.now }
+    ensures { IfOk result (λ found. found.items ≡ windows_of named.now (ends_of windows.now) windows.now.events) }
 {
-    let mut windows = Vec::new(alloc);
-    for number in 1..matrix.events() + 1 {
+    let mut found = Vec::new(alloc);
+    for number in 1..windows.events + 1 {
         let event = Event::new(number).unwrap();
-        keep(&mut windows, named, window_of(matrix, event))?;
+        keep(&mut found, named, window_of(windows, event))?;
     }
-    Ok(windows)
+    Ok(found)
 }
 
 // Appends the window, if its event is named and it says more than the horizon; if memory runs out, it appends nothing.
@@ -100,14 +107,14 @@ fn is_kept(named: &[bool], window: &Bound) -> bool
 }
 
 // The window of an event as a bound.
-fn window_of<A: Allocator>(matrix: &Matrix<A>, event: Event) -> Bound
+fn window_of<A: Allocator + Copy>(windows: &Windows<A>, event: Event) -> Bound
     requires beside { event ≢ 0 }
-    requires within { event ≤ matrix.now.events }
-    requires exact { (known : List Difference) × IsExact known matrix.now }
-    ensures { result ≡ window_bound event (ends_of (far_of matrix.now) event) }
+    requires within { event ≤ windows.now.events }
+    requires told { (known : List Difference) × AreToldBy known windows.now }
+    ensures { result ≡ window_bound event (ends_of windows.now event) }
 {
-    let (earliest, latest) = window(matrix, event);
-    window_bound(matrix.events(), event, earliest, latest)
+    let (earliest, latest) = windows.window(event);
+    window_bound(windows.events, event, earliest, latest)
 }
 
 // Whether the bound says more of an event than the horizon does.

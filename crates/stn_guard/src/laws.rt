@@ -3,14 +3,14 @@ ghost use Rattle.stn_net.specs.{Difference.{Difference, NamesEvents}, Schedule.H
 ghost use Rattle.stn_lift.specs.PlanSource.{PlanSource, events_of};
 ghost use Rattle.stn_records.specs.Content.{Content, CountsSame};
 ghost use Rattle.stn_site.specs.Bounds.{all_bounds};
-ghost use Rattle.stn_guard.specs.{Owners.{is_own, own_bounds, is_shared}, Guard.Guards, Making.{AreWindows, IsGuardOf}};
+ghost use Rattle.stn_guard.specs.{Owners.{is_owned, own_bounds, is_shared}, Guard.Guards, Making.{AreSharedWindows, IsGuardOf}};
 
 /// The law of gluing: if each site adds bounds of its own to bounds that are guarded, and its own bounds have a schedule
 /// then, all of them together have one.
 pub fn guards_glue()
     ensures { (owner : ℕ → ℕ) → (bounds guard : List Difference) → (added : ℕ → List Difference) → (sites : List ℕ)
         → Guards owner bounds guard
-        → ((site : ℕ) → All (λ bound. is_own owner site bound ≡ true) (added site))
+        → ((site : ℕ) → All (λ bound. is_owned owner site bound ≡ true) (added site))
         → ((site : ℕ) → HasSchedule (own_bounds owner site ((bounds ++ guard) ++ added site)))
         → HasSchedule ((bounds ++ guard) ++ flat_map added sites) }
 {}
@@ -29,7 +29,7 @@ pub fn guard_needs_schedule()
 /// The law that a bound is shared if and only if it is no site's own.
 pub fn shared_is_no_sites_own()
     ensures { (owner : ℕ → ℕ) → (bound : Difference)
-        → ((is_shared owner bound ≡ true) ↔ ((site : ℕ) → is_own owner site bound ≡ false)) }
+        → ((is_shared owner bound ≡ true) ↔ ((site : ℕ) → is_owned owner site bound ≡ false)) }
 {}
 
 /// The law that the guard that is made of bounds guards them, and that its bounds are windows in the bounds with the
@@ -40,7 +40,7 @@ pub fn made_guards()
         → IsGuardOf owner events bounds guard → Guards owner bounds guard }
     ensures windows { (owner : ℕ → ℕ) → (events : ℕ) → (bounds guard : List Difference) → HasSchedule bounds
         → All (NamesEvents events) bounds → take events bounds ≡ horizon_bounds events
-        → IsGuardOf owner events bounds guard → AreWindows owner events bounds (bounds ++ guard) guard }
+        → IsGuardOf owner events bounds guard → AreSharedWindows owner events bounds (bounds ++ guard) guard }
 {}
 
 /// The law that one guard is made of bounds and owners.

@@ -13,6 +13,8 @@ pub use owners::OwnedSteps;
 
 mod adding;
 mod guarding;
+mod latest;
 mod laws;
 mod owners;
 mod splitting;
+mod windows;

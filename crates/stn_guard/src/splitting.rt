@@ -1,10 +1,11 @@
-ghost use Rattle.std.specs.Prelude.{◌≡◌, ◌≢◌, ◌≤◌, ◌-ℤ◌, ◌≤ℤ◌, List, [], ◌∷◌, ◌++◌, All};
-ghost use Rattle.stn_net.specs.{Difference.{Difference, NamesEvents}, Schedule.HasSchedule, Matrix.Tightest.IsExact};
+ghost use Rattle.std.specs.Prelude.{◌≡◌, ◌≢◌, ◌≤◌, ◌-ℤ◌, ◌≤ℤ◌, List, [], ◌∷◌, All};
+ghost use Rattle.stn_net.specs.Difference.{Difference, NamesEvents};
 ghost use Rattle.stn_time.specs.Time.{IsWithinHorizon};
 ghost use Rattle.stn_guard.specs.{Owners.{owner_of, is_shared}, Making.{arcs_of, shared_arcs, split_time, window_bound}, Splitting.{CanSplit, HasOwners, LeavesTime, Splits}};
 
+use crate::windows::Windows;
 use std::alloc::Allocator;
-use stn_net::{Bound, Event, Matrix, window};
+use stn_net::{Bound, Event};
 use stn_records::Site;
 use stn_time::Ms;
 
@@ -17,28 +18,32 @@ pub(crate) struct Arc {
 }
 
 // Splits each side of the shared bounds, one after the other.
-pub(crate) fn split_shared<A: Allocator>(matrix: &mut Matrix<A>, bounds: &[Bound], owners: &[Site])
+pub(crate) fn split_shared<A: Allocator + Copy>(
+    windows: &mut Windows<A>,
+    bounds: &[Bound],
+    owners: &[Site],
+)
     requires owned { All (HasOwners owners.now) bounds.now }
-    requires can { (known : List Difference) × CanSplit known (shared_arcs (owner_of owners.now) bounds.now) matrix.old }
-    ensures splits { Splits (shared_arcs (owner_of owners.now) bounds.now) matrix.old matrix.new }
-    ensures events { matrix.new.events ≡ matrix.old.events }
+    requires can { (known : List Difference) × CanSplit known (shared_arcs (owner_of owners.now) bounds.now) windows.old }
+    ensures splits { Splits (shared_arcs (owner_of owners.now) bounds.now) windows.old windows.new }
+    ensures events { windows.new.events ≡ windows.old.events }
 {
     for bound in bounds {
-        split_bound(matrix, bound, owners);
+        split_bound(windows, bound, owners);
     }
 }
 
 // Splits each side of the bound, where it is shared.
-fn split_bound<A: Allocator>(matrix: &mut Matrix<A>, bound: &Bound, owners: &[Site])
+fn split_bound<A: Allocator + Copy>(windows: &mut Windows<A>, bound: &Bound, owners: &[Site])
     requires owned { HasOwners owners.now bound.now }
-    requires can { (known : List Difference) × CanSplit known (shared_arcs (owner_of owners.now) (bound.now ∷ [])) matrix.old }
-    ensures splits { Splits (shared_arcs (owner_of owners.now) (bound.now ∷ [])) matrix.old matrix.new }
-    ensures events { matrix.new.events ≡ matrix.old.events }
+    requires can { (known : List Difference) × CanSplit known (shared_arcs (owner_of owners.now) (bound.now ∷ [])) windows.old }
+    ensures splits { Splits (shared_arcs (owner_of owners.now) (bound.now ∷ [])) windows.old windows.new }
+    ensures events { windows.new.events ≡ windows.old.events }
 {
     if !is_shared(bound, owners) {
         return;
     }
-    split_sides(matrix, bound);
+    split_sides(windows, bound);
 }
 
 // Whether the bound is no site's own.
@@ -52,10 +57,10 @@ pub(crate) fn is_shared(bound: &Bound, owners: &[Site]) -> bool
 }
 
 // Splits both sides of the bound, the upper first.
-fn split_sides<A: Allocator>(matrix: &mut Matrix<A>, bound: &Bound)
-    requires can { (known : List Difference) × CanSplit known (arcs_of bound.now) matrix.old }
-    ensures splits { Splits (arcs_of bound.now) matrix.old matrix.new }
-    ensures events { matrix.new.events ≡ matrix.old.events }
+fn split_sides<A: Allocator + Copy>(windows: &mut Windows<A>, bound: &Bound)
+    requires can { (known : List Difference) × CanSplit known (arcs_of bound.now) windows.old }
+    ensures splits { Splits (arcs_of bound.now) windows.old windows.new }
+    ensures events { windows.new.events ≡ windows.old.events }
 {
     let upper = Arc {
         from: bound.from(),
@@ -67,25 +72,25 @@ fn split_sides<A: Allocator>(matrix: &mut Matrix<A>, bound: &Bound)
         to: bound.from(),
         weight: -bound.lo(),
     };
-    split(matrix, upper);
-    split(matrix, lower);
+    split(windows, upper);
+    split(windows, lower);
 }
 
 // Takes what splits the arc: nothing where the windows of its events imply it; else that `to` comes by a time in the
 // middle, and `from` no earlier than `weight` before that.
-fn split<A: Allocator>(matrix: &mut Matrix<A>, arc: Arc)
-    requires can { (known : List Difference) × CanSplit known (arc ∷ []) matrix.old }
-    ensures splits { Splits (arc ∷ []) matrix.old matrix.new }
-    ensures events { matrix.new.events ≡ matrix.old.events }
+fn split<A: Allocator + Copy>(windows: &mut Windows<A>, arc: Arc)
+    requires can { (known : List Difference) × CanSplit known (arc ∷ []) windows.old }
+    ensures splits { Splits (arc ∷ []) windows.old windows.new }
+    ensures events { windows.new.events ≡ windows.old.events }
 {
-    let from = window(matrix, arc.from);
-    let to = window(matrix, arc.to);
+    let from = windows.window(arc.from);
+    let to = windows.window(arc.to);
     if to.1.get() - from.0.get() <= arc.weight.get() {
         return;
     }
     let (latest, earliest) = middle(&arc, &from, &to);
-    restrict(matrix, arc.to, to.0, latest);
-    restrict(matrix, arc.from, earliest, from.1);
+    windows.narrow(arc.to, to.0, latest);
+    windows.narrow(arc.from, earliest, from.1);
 }
 
 // The time in the middle of those by which `to` may come, rounded down, and the time `weight` before it.
@@ -111,20 +116,6 @@ fn split_time(arc: &Arc, from: &(Ms, Ms), to: &(Ms, Ms)) -> i64
     let least = to.0.get().max(from.0.get() + weight);
     let greatest = to.1.get().min(from.1.get() + weight);
     (least + greatest).div_euclid(2)
-}
-
-// Takes the bound that the event comes from the one time to the other.
-fn restrict<A: Allocator>(matrix: &mut Matrix<A>, event: Event, earliest: Ms, latest: Ms)
-    requires beside { event ≢ 0 }
-    requires within { event ≤ matrix.old.events }
-    requires ordered { earliest ≤ℤ latest }
-    ensures exact { (bounds : List Difference) → IsExact bounds matrix.old
-        → HasSchedule (bounds ++ window_bound event (earliest, latest) ∷ [])
-        → IsExact (bounds ++ window_bound event (earliest, latest) ∷ []) matrix.new }
-    ensures events { matrix.new.events ≡ matrix.old.events }
-{
-    let bound = window_bound(matrix.events(), event, earliest, latest);
-    let _fits = matrix.tighten(bound);
 }
 
 // The bound that the event comes from the one time to the other.

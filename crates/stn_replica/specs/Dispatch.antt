@@ -2,7 +2,7 @@
 use Rattle.std.specs.Prelude.{◌≡◌, ℕ, ℤ, true, Bool, List, All}
 use Rattle.stn_net.specs.{Schedule.IsSchedule, Windows.{Dispatch.CanWaitUntil, Rehearsal.{IsRehearsal, NeverFalls, RunsEachOnce}}}
 use Rattle.stn_lift.specs.PlanSource.{PlanSource}
-use Rattle.stn_records.specs.{Record.is_done as marks_done, Content.{Content, live_of}}
+use Rattle.stn_records.specs.{Record.is_done_mark as marks_done, Content.{Content, live_of}}
 use Rattle.stn_site.specs.{Bounds.all_bounds, Report.done_events}
 
 -- the times have each event that a live record says is done at its recorded time

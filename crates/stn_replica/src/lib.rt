@@ -3,7 +3,6 @@
 
 pub use own::{Own, StepRange, flags_among, flags_of};
 pub use replica::Replica;
-pub use site_matrix::matrix_of;
 pub use stn_site::{BoundName, ReplicaFault};
 
 mod closest;
@@ -15,4 +14,3 @@ mod replica;
 mod report;
 mod risen;
 mod site_copy;
-mod site_matrix;

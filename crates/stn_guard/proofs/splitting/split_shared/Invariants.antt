@@ -4,6 +4,6 @@ use Rattle.stn_guard.proofs.splitting.split_shared.Given as goal
 
 abbrev pub invariant-loop-bound : goal.invariant-loop-bound
 invariant-loop-bound g l = record {
-  splits : Splits (shared_arcs (owner_of l.owners) (take l.bound-index l.bounds)) l.fn.matrix l.matrix;
-  events : l.matrix.events ≡ l.fn.matrix.events;
+  splits : Splits (shared_arcs (owner_of l.owners) (take l.bound-index l.bounds)) l.fn.windows l.windows;
+  events : l.windows.events ≡ l.fn.windows.events;
 }

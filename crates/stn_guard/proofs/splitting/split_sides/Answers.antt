@@ -19,17 +19,17 @@ pub split-requires : goal.split-requires
 split-requires g c =
     let b = c.args.bound.now in
     let same : arc_with c.from.result c.to.result c.hi.result ≡ upper b = same_arc c.from.result c.to.result b.from b.to c.hi.result b.hi c.from.ensures.value c.to.ensures.value c.hi.ensures.value in
-    record { can = subst (λ (arc : Arc). (known : List Difference) × CanSplit known (arc ∷ []) c.args.matrix.now) (sym same) (some_front (upper b ∷ []) (lower b ∷ []) c.args.matrix.now c.requires.can) }
+    record { can = subst (λ (arc : Arc). (known : List Difference) × CanSplit known (arc ∷ []) c.args.windows.now) (sym same) (some_front (upper b ∷ []) (lower b ∷ []) c.args.windows.now c.requires.can) }
 
 pub split-requires-2 : goal.split-requires-2
 split-requires-2 g c =
     let b = c.args.bound.now in
     let same : arc_with c.from.result c.to.result c.hi.result ≡ upper b = same_arc c.from.result c.to.result b.from b.to c.hi.result b.hi c.from.ensures.value c.to.ensures.value c.hi.ensures.value in
     let other : arc_with c.to-2.result c.from-2.result c.neg.result ≡ lower b = same_arc c.to-2.result c.from-2.result b.to b.from c.neg.result (neg_ℤ b.lo) c.to-2.ensures.value c.from-2.ensures.value (c.neg.ensures ∙ ap neg_ℤ c.lo.ensures.value) in
-    let first : Splits (upper b ∷ []) c.args.matrix.now c.split.new.matrix = subst (λ (arc : Arc). Splits (arc ∷ []) c.args.matrix.now c.split.new.matrix) same c.split.ensures.splits in
+    let first : Splits (upper b ∷ []) c.args.windows.now c.split.new.windows = subst (λ (arc : Arc). Splits (arc ∷ []) c.args.windows.now c.split.new.windows) same c.split.ensures.splits in
     record {
-      can = subst (λ (arc : Arc). (known : List Difference) × CanSplit known (arc ∷ []) c.split.new.matrix) (sym other)
-          (some_behind (upper b ∷ []) (lower b ∷ []) c.args.matrix.now c.split.new.matrix c.requires.can first c.split.ensures.events);
+      can = subst (λ (arc : Arc). (known : List Difference) × CanSplit known (arc ∷ []) c.split.new.windows) (sym other)
+          (some_behind (upper b ∷ []) (lower b ∷ []) c.args.windows.now c.split.new.windows c.requires.can first c.split.ensures.events);
     }
 
 pub returns-clause-splits : goal.returns-clause-splits
@@ -37,6 +37,6 @@ returns-clause-splits g c =
     let b = c.args.bound.now in
     let same : arc_with c.from.result c.to.result c.hi.result ≡ upper b = same_arc c.from.result c.to.result b.from b.to c.hi.result b.hi c.from.ensures.value c.to.ensures.value c.hi.ensures.value in
     let other : arc_with c.to-2.result c.from-2.result c.neg.result ≡ lower b = same_arc c.to-2.result c.from-2.result b.to b.from c.neg.result (neg_ℤ b.lo) c.to-2.ensures.value c.from-2.ensures.value (c.neg.ensures ∙ ap neg_ℤ c.lo.ensures.value) in
-    let first : Splits (upper b ∷ []) c.args.matrix.now c.split.new.matrix = subst (λ (arc : Arc). Splits (arc ∷ []) c.args.matrix.now c.split.new.matrix) same c.split.ensures.splits in
-    let second : Splits (lower b ∷ []) c.split.new.matrix c.split-2.new.matrix = subst (λ (arc : Arc). Splits (arc ∷ []) c.split.new.matrix c.split-2.new.matrix) other c.split-2.ensures.splits in
-    splits_on (upper b ∷ []) (lower b ∷ []) c.args.matrix.now c.split.new.matrix c.split-2.new.matrix first c.split.ensures.events second
+    let first : Splits (upper b ∷ []) c.args.windows.now c.split.new.windows = subst (λ (arc : Arc). Splits (arc ∷ []) c.args.windows.now c.split.new.windows) same c.split.ensures.splits in
+    let second : Splits (lower b ∷ []) c.split.new.windows c.split-2.new.windows = subst (λ (arc : Arc). Splits (arc ∷ []) c.split.new.windows c.split-2.new.windows) other c.split-2.ensures.splits in
+    splits_on (upper b ∷ []) (lower b ∷ []) c.args.windows.now c.split.new.windows c.split-2.new.windows first c.split.ensures.events second
