@@ -4,11 +4,11 @@ use Rattle.stn_net.specs.Schedule.{times_of}
 use Rattle.stn_refusal.specs.declared.code.Code.TheVariants as code
 use Rattle.stn_refusal.specs.{declared.{refusal.Refusal.Refusal, failure.Failure.TheVariants.Refused}, Refusals.{refusal, refusal_at, refusal_of}}
 use Rattle.stn_lift.specs.PlanSource.{PlanSource, events_of, steps_of}
-use Rattle.stn_site.specs.{Held.Held, Lines.line, Names.broken_bound, Report.is_done}
+use Rattle.stn_site.specs.{Held.Held, SoundSite.IsSoundSite, Lines.line, Names.broken_bound, Report.is_done}
 use Rattle.stn_questions.{specs.{declared.asked.Question.{Question, TheVariants.{Records, Steps, Bounds, Why, WhyApart}}, Answer.{AsksOfNoEvent, AsksOfSameEvent}, Steps.{source_names, names_text, plan_names}}, proofs.{SomeReport.{IsSoundState, some_report}, SomeAnswer.some_answer, SomeDispatch.{possible_or_none, some_next, some_rest, some_ready}}}
 use Rattle.stn_guard.specs.Adding.{are_within}
 use Rattle.stn_picture.specs.Chart.{Look}
-use Rattle.stn_command.{specs.{declared.queries.Outlook.Outlook, Named.{IsNamed, Shown, listed, pictured}, Dispatch.{Choice, is_chosen, done_or_not_chosen, check_text, next_text, runs_text}, Query.{Query, report, check, foresee, ask, repairs, draw, IsSoundSite, IsForeseen, IsSaid, IsOutlookRefusal, has_steps, IsQueryRefusal}}, proofs.{OneSaid.one_refusal, SomeRepairs.some_repairs_text, SomePicture.some_picture}}
+use Rattle.stn_command.{specs.{declared.queries.Outlook.Outlook, Named.{IsNamed, Shown, listed, pictured}, Dispatch.{Choice, is_chosen, done_or_not_chosen, check_text, next_text, runs_text}, Query.{Query, report, check, foresee, ask, repairs, draw, IsForeseen, IsSaid, IsOutlookRefusal, has_steps, IsQueryRefusal}}, proofs.{OneSaid.one_refusal, SomeRepairs.some_repairs_text, SomePicture.some_picture}}
 use Rattle.stn_command.specs.declared.queries.Outlook.TheVariants as outlook
 
 -- something is said to the query, which nothing refuses, or a cause refuses it

@@ -45,7 +45,7 @@ next_text AllDone = line (codes "all done")
 next_text (Overdue event) = line (codes "overdue " ++ event_text event)
 
 -- all bounds have no schedule, and the text is `conflict`
-pub record SaysConflict (source : PlanSource) (state : Content) (text : List ℕ) : Type 0 where
+pub record SaysPlanConflict (source : PlanSource) (state : Content) (text : List ℕ) : Type 0 where
   pub conflict : ¬ HasSchedule (all_bounds source state)
   pub said : text ≡ line (codes "conflict")
 
@@ -58,7 +58,7 @@ pub record SaysNext (source : PlanSource) (state : Content) (done : List Bool) (
 
 -- the text that `next` prints, where these events count as done
 abbrev pub IsNextText : PlanSource → Content → List Bool → ℤ → List ℕ → Type 0
-IsNextText source state done now text = SaysNext source state done now text ⊎ SaysConflict source state text
+IsNextText source state done now text = SaysNext source state done now text ⊎ SaysPlanConflict source state text
 
 -- a line for each run, and `all done`
 abbrev pub runs_text : List (ℤ × ℕ) → List ℕ
@@ -72,7 +72,7 @@ pub record SaysRuns (source : PlanSource) (state : Content) (done : List Bool) (
 
 -- the text is the rest of the plan from now on, or `conflict`
 abbrev pub IsRestText : PlanSource → Content → List Bool → ℤ → List ℕ → Type 0
-IsRestText source state done now text = SaysRuns source state done now text ⊎ SaysConflict source state text
+IsRestText source state done now text = SaysRuns source state done now text ⊎ SaysPlanConflict source state text
 
 -- all bounds have a schedule, and the event is the one that is overdue
 pub record IsOverdueAt (source : PlanSource) (state : Content) (done : List Bool) (now : ℤ) (event : ℕ) : Type 0 where

@@ -1,11 +1,10 @@
 -- What a site is asked about its plan and what it holds, what is said of it, and why that is refused.
-use Rattle.std.specs.{Prelude.{◌≡◌, ◌≢◌, ◌⊎◌, ℕ, ℤ, pos, Bool, true, false, List, [], ◌∷◌, length, All, if◌then◌else◌, Vec, Option, Some, None, option_map, unwrap_or, Result, Ok, Err}, List.list_all}
+use Rattle.std.specs.{Prelude.{◌≡◌, ◌≢◌, ◌⊎◌, ℕ, ℤ, pos, Bool, true, false, List, [], ◌∷◌, length, if◌then◌else◌, Vec, Option, Some, None, option_map, unwrap_or, Result, Ok, Err}, List.list_all}
 use Rattle.stn_refusal.specs.declared.code.Code.TheVariants as code
 use Rattle.stn_refusal.specs.{declared.failure.Failure.Failure, Refusals.{refused_of, out_of_memory}}
-use Rattle.stn_net.specs.{Failures.bound_failure, Difference.IsBoundWithin, Schedule.times_of, declared.bound.BoundFault.TheVariants.{NoEvent, SameEvent}}
-use Rattle.stn_lift.specs.PlanSource.{events_of, steps_of, IsSoundSource}
-use Rattle.stn_records.specs.Content.{AllProper}
-use Rattle.stn_site.specs.{Bounds.{all_bounds, live_bounds}, Held.Held, Names.broken_bound, Report.IsReport}
+use Rattle.stn_net.specs.{Failures.bound_failure, Schedule.times_of, declared.bound.BoundFault.TheVariants.{NoEvent, SameEvent}}
+use Rattle.stn_lift.specs.PlanSource.{events_of, steps_of}
+use Rattle.stn_site.specs.{Bounds.all_bounds, Held.Held, Names.broken_bound, Report.IsReport}
 use Rattle.stn_replica.specs.Own.{is_within}
 use Rattle.stn_guard.specs.Adding.{are_within}
 use Rattle.stn_questions.specs.{declared.asked.Question.Question, Answer.{IsAnswer, AsksOfNoEvent, AsksOfSameEvent}, Ready.IsReadyWith, Steps.source_names, Repair.Text.IsRepairsText}
@@ -36,13 +35,6 @@ seen_query (asked.Foresee outlook now choice) = foresee outlook now (seen_choice
 seen_query (asked.Ask question) = ask question
 seen_query asked.Repairs = repairs
 seen_query (asked.Draw look) = draw (seen_look look)
-
--- what is true of each site: its plan has a base, its live records are of bounds of the plan, and each record that says that an event was
--- executed fixes its time
-pub record IsSoundSite (held : Held) : Type 0 where
-  pub based : IsSoundSource held.source
-  pub live : All (IsBoundWithin (events_of held.source)) (live_bounds held.state)
-  pub proper : AllProper held.state.additions
 
 -- what is said of the events that are left from now on, where these events count as done
 abbrev pub IsForeseen : Outlook → Held → List Bool → ℤ → List ℕ → Type 0

@@ -1,9 +1,9 @@
 ghost use Rattle.std.specs.Prelude.{◌≡◌, ◌⊎◌, ℕ, None, Some, List, Option};
 ghost use Rattle.stn_refusal.specs.declared.{refusal.Refusal.Refusal, failure.Failure.{Failure, TheVariants.Refused}};
-ghost use Rattle.stn_site.specs.{Held.Held, Report.done_events};
+ghost use Rattle.stn_site.specs.{Held.Held, Report.done_events, SoundSite.IsSoundSite};
 ghost use Rattle.stn_lift.specs.PlanSource.{PlanSource};
 ghost use Rattle.stn_records.specs.Content.{Content};
-ghost use Rattle.stn_command.specs.{Dispatch.{every_event, done_or_not_chosen}, Named.{IsNamed, Shown}, Query.{Query, IsSoundSite, IsSaid, IsQueryRefusal}};
+ghost use Rattle.stn_command.specs.{Dispatch.{every_event, done_or_not_chosen}, Named.{IsNamed, Shown}, Query.{Query, IsSaid, IsQueryRefusal}};
 
 use stn_picture::one_picture;
 use stn_questions::{one_answer, one_repairs_text};

@@ -6,11 +6,11 @@ use Rattle.stn_site.specs.Held.{Held, holding_state}
 use Rattle.stn_world.{specs.{declared.faults.WorldFault.WorldFault, Failures.world_failure, World.{World, HasSite, has_site, content_at, next_id_at}, Steps.{Step, sent, step_refusal, send_refusal, after, IsStep, IsSending}}, proofs.Accepted.site_decides}
 use Rattle.stn_world.specs.declared.faults.WorldFault.TheVariants as world_fault
 use Rattle.stn_command.{specs.{declared.changes.{Change.Change, Made.Made}, Change.made_by, Query.{Query, IsSaid, IsQueryRefusal}}, proofs.Alike.{said_alike, refused_alike}}
-use Rattle.stn_exec.specs.{declared.answer.Answer.Answer, Answer.answer_text, Command.{Action, sites_command}, Output.{IsAnswerText, Declines}, Saying.{IsEffect, IsDone, call_answer, sent_answer}, Effect.{Effect, said, declined, refusing, answered, called, sending, change_step, changing, telling, action_effect, command_effect}}
+use Rattle.stn_exec.specs.{declared.answer.Answer.Answer, Answer.answer_text, Command.{Action, sites_command}, Output.{IsAnswerText, Declines}, Saying.{IsEffect, IsDone, call_answer, sent_answer}, Effect.{CommandEffect, said, declined, refusing, answered, called, sending, change_step, changing, telling, action_effect, command_effect}}
 use Rattle.stn_exec.specs.declared.answer.Answer.TheVariants as answer
 
 -- a call that was refused: its fault is what refuses the call, or lack of memory
-refused_answer : (old new next : World) (made : Answer) (refused_for : Option WorldFault) (fault : WorldFault) (failure : Failure) (effect : Effect)
+refused_answer : (old new next : World) (made : Answer) (refused_for : Option WorldFault) (fault : WorldFault) (failure : Failure) (effect : CommandEffect)
     → fault ≡ unwrap_or refused_for world_fault.Memory → new ≡ old → failure ≡ world_failure fault
     → answered old next made refused_for ≡ effect → IsEffect (Err failure) new effect
 refused_answer old new next made refused_for fault failure effect is kept gives seen = by_cause refused_for is seen
@@ -22,19 +22,19 @@ refused_answer old new next made refused_for fault failure effect is kept gives 
         ∙ (ap (λ (cause : Failure). record { world = old; reply = declined cause }) (gives ∙ ap world_failure e) ∙ same))
 
 -- what a step answers that was refused
-pub refused_call : (T : Type 0) (old new : World) (step : Step) (made : Answer) (fault : WorldFault) (failure : Failure) (effect : Effect)
+pub refused_call : (T : Type 0) (old new : World) (step : Step) (made : Answer) (fault : WorldFault) (failure : Failure) (effect : CommandEffect)
     → IsStep {T = T} old step (Err fault) new → failure ≡ world_failure fault → called old step made ≡ effect → IsEffect (Err failure) new effect
 refused_call T old new step made fault failure effect is gives seen =
     refused_answer old new (after old step) made (step_refusal old step) fault failure effect is.0 is.1 gives seen
 
 -- what a step answers that was accepted
-pub accepted_call : (T : Type 0) (value : T) (old new : World) (step : Step) (made : Answer) (effect : Effect)
+pub accepted_call : (T : Type 0) (value : T) (old new : World) (step : Step) (made : Answer) (effect : CommandEffect)
     → IsStep old step (Ok value) new → called old step made ≡ effect → record { world = new; reply = said made } ≡ effect
 accepted_call T value old new step made effect is seen =
     ap (λ (w : World). record { world = w; reply = said made }) is.1 ∙ (sym (ap (answered old (after old step) made) is.0) ∙ seen)
 
 -- what a step answers that makes nothing
-pub call_effect : (old new : World) (step : Step) (made : Answer) (call : Result (Unit {0}) WorldFault) (outcome : Result Answer Failure) (effect : Effect)
+pub call_effect : (old new : World) (step : Step) (made : Answer) (call : Result (Unit {0}) WorldFault) (outcome : Result Answer Failure) (effect : CommandEffect)
     → IsStep old step call new → outcome ≡ call_answer call made → called old step made ≡ effect → IsEffect outcome new effect
 call_effect old new step made (Ok done) outcome effect is same seen =
     subst (λ (o : Result Answer Failure). IsEffect o new effect) (sym same) (accepted_call (Unit {0}) done old new step made effect is seen)
@@ -91,13 +91,13 @@ not_there (Some replica) none Missing There is tested found = absurd (false≢tr
 
 -- ---- what was appended
 -- a refusal
-pub refused_done : (world : World) (old : List ℕ) (effect : Effect) (cause : Failure) → record { world = world; reply = declined cause } ≡ effect
+pub refused_done : (world : World) (old : List ℕ) (effect : CommandEffect) (cause : Failure) → record { world = world; reply = declined cause } ≡ effect
     → IsDone world old old effect (Err cause)
 refused_done world old effect cause is =
-    inr (ap (λ (e : Effect). e.world) is, subst (λ (e : Effect). Declines e.reply cause) is refl, refl)
+    inr (ap (λ (e : CommandEffect). e.world) is, subst (λ (e : CommandEffect). Declines e.reply cause) is refl, refl)
 
 -- a call that gave no answer, and one that did
-pub undone : (world : World) (old : List ℕ) (effect : Effect) (outcome : Result Answer Failure) (cause failure : Failure) → outcome ≡ Err cause → failure ≡ cause
+pub undone : (world : World) (old : List ℕ) (effect : CommandEffect) (outcome : Result Answer Failure) (cause failure : Failure) → outcome ≡ Err cause → failure ≡ cause
     → IsEffect outcome world effect → IsDone world old old effect (Err failure)
 undone world old effect outcome cause failure failed same is = by (subst (λ (o : Result Answer Failure). IsEffect o world effect) failed is)
   where
@@ -105,11 +105,11 @@ undone world old effect outcome cause failure failed same is = by (subst (λ (o 
     by (inl lack) = inl (same ∙ lack)
     by (inr reply) = refused_done world old effect failure (ap (λ (given : Failure). record { world = world; reply = declined given }) same ∙ reply)
 
-pub answer_done : (world : World) (old new : List ℕ) (effect : Effect) (outcome : Result Answer Failure) (one : Answer) → outcome ≡ Ok one
+pub answer_done : (world : World) (old new : List ℕ) (effect : CommandEffect) (outcome : Result Answer Failure) (one : Answer) → outcome ≡ Ok one
     → new ≡ old ++ answer_text one → IsEffect outcome world effect → IsDone world old new effect (Ok tt)
 answer_done world old new effect outcome one given appended is =
     let reply = subst (λ (o : Result Answer Failure). IsEffect o world effect) given is in
-    (ap (λ (e : Effect). e.world) reply, (answer_text one, subst (λ (e : Effect). IsAnswerText e.reply (answer_text one)) reply refl, appended))
+    (ap (λ (e : CommandEffect). e.world) reply, (answer_text one, subst (λ (e : CommandEffect). IsAnswerText e.reply (answer_text one)) reply refl, appended))
 
 -- a query whose words can't be read, and one that was read
 pub untold : (world : World) (site : ℕ) (old : List ℕ) (read : Result Query Failure) (cause failure : Failure) → Err cause ≡ read → failure ≡ cause

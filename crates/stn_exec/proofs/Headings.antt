@@ -5,7 +5,7 @@ use Rattle.stn_refusal.specs.{declared.failure.Failure.Failure, Refusals.{refuse
 use Rattle.stn_records.specs.Id.{most_sites}
 use Rattle.stn_lift.specs.{declared.fault.BaseFault.BaseFault, PlanSource.{PlanSource, bare, files, base_of, IsSoundSource}}
 use Rattle.stn_command.specs.Words.{and_then}
-use Rattle.stn_exec.{specs.{Blocks.{Block, is_alone, block_from}, Script.{Found, Based, Start, next_line, heading_number, part_with, part_of, sites_of, refusing_fault, with_base, bare_part, ended_block, block_at, named_block, files_part, first_part, based, with_sites, heading_of}}, proofs.{Told.{IsTold, told}, Based.{IsBasedOrTold, based_or_told}}}
+use Rattle.stn_exec.{specs.{Blocks.{Block, is_alone, block_from}, Script.{Found, Based, Start, next_line, heading_number, part_with, heading_part, sites_of, refusing_fault, with_base, bare_part, ended_block, block_at, named_block, files_part, first_part, based, with_sites, heading_of}}, proofs.{Told.{IsTold, told}, Based.{IsBasedOrTold, based_or_told}}}
 
 -- what is read has the property, or the failure is a refusal
 abbrev pub IsFitOrTold : {X : Type 0} → (X → Type 0) → Result X Failure → Type 0
@@ -31,7 +31,7 @@ part_fit : (found : Found) (value : Option ℕ) → IsFitOrTold Any (part_with f
 part_fit found None = told (refusal_at code.Line found.number)
 part_fit found (Some value) = tt
 
-part_found : (last : ℕ) (name : List ℕ) (found : Option Found) → IsFitOrTold Any (part_of last name found)
+part_found : (last : ℕ) (name : List ℕ) (found : Option Found) → IsFitOrTold Any (heading_part last name found)
 part_found last name None = told (refusal_at code.Line last)
 part_found last name (Some found) = part_fit found (heading_number name found.words)
 
@@ -86,6 +86,6 @@ pub heading_fit : (last : ℕ) (lines : List (List ℕ)) → IsFitOrTold IsSound
 unfolding based with_sites
 heading_fit last lines =
     then_fit IsSoundBase IsSoundStart (based last lines) (with_sites last) (first_fit last (next_line 1 lines))
-    (λ base sound. then_fit Any IsSoundStart (part_of last (codes "sites") (next_line base.number base.lines)) _
+    (λ base sound. then_fit Any IsSoundStart (heading_part last (codes "sites") (next_line base.number base.lines)) _
     (part_found last (codes "sites") (next_line base.number base.lines))
     (λ sites any. then_fit Any IsSoundStart (sites_of sites.value) _ (sites_fit sites.value) (λ count any. sound)))

@@ -3,24 +3,24 @@ use Rattle.std.{proofs.{Common.{◌≡◌, inl, inr, ℕ, ◌+◌, ◌≤◌, Bo
 use Rattle.stn_refusal.specs.declared.failure.Failure.{Failure, TheVariants.{Refused, Failed}}
 use Rattle.stn_site.specs.Held.{Held, holding_state}
 use Rattle.stn_command.{specs.Query.{Query, IsSaid}, proofs.OneSaid.one_refusal as one_cause}
-use Rattle.stn_exec.specs.{Effect.{Reply, said, declined, told}, Output.{IsAnswerText, Declines, IsFailureText, IsReplyText, IsOutput, IsRefusal, CountsRefusals}}
+use Rattle.stn_exec.specs.{Effect.{CommandReply, said, declined, told}, Output.{IsAnswerText, Declines, IsFailureText, IsReplyText, IsOutput, IsRefusal, CountsRefusals}}
 
 -- what another law says of answers to queries
 abbrev pub OneSaid : Type 0
 OneSaid = (query : Query) (held : Held) (text other : List ℕ) → IsSaid query held text → IsSaid query held other → text ≡ other
 
 -- a reply that is an answer is no refusal
-pub not_both : (reply : Reply) (text : List ℕ) (cause : Failure) → IsAnswerText reply text → ¬ Declines reply cause
+pub not_both : (reply : CommandReply) (text : List ℕ) (cause : Failure) → IsAnswerText reply text → ¬ Declines reply cause
 not_both (said answer) text cause is other = other
 not_both (declined given) text cause is other = is
 not_both (told source state query) text cause is other = none-some cause (one_cause query (holding_state source state) None (Some cause) is.0 other)
 
-same_answer : OneSaid → (reply : Reply) (text other : List ℕ) → IsAnswerText reply text → IsAnswerText reply other → text ≡ other
+same_answer : OneSaid → (reply : CommandReply) (text other : List ℕ) → IsAnswerText reply text → IsAnswerText reply other → text ≡ other
 same_answer one (said answer) text other p q = p ∙ sym q
 same_answer one (declined given) text other p q = absurd p
 same_answer one (told source state query) text other p q = one query (holding_state source state) text other p.1 q.1
 
-same_cause : (reply : Reply) (cause other : Failure) → Declines reply cause → Declines reply other → cause ≡ other
+same_cause : (reply : CommandReply) (cause other : Failure) → Declines reply cause → Declines reply other → cause ≡ other
 same_cause (said answer) cause other p q = absurd p
 same_cause (declined given) cause other p q = p ∙ sym q
 same_cause (told source state query) cause other p q =
@@ -31,14 +31,14 @@ same_line (Refused refusal) text other p q = p ∙ sym q
 same_line (Failed fault) text other p q = absurd p
 
 -- a reply has one text
-one_text : OneSaid → (reply : Reply) (text other : List ℕ) → IsReplyText reply text → IsReplyText reply other → text ≡ other
+one_text : OneSaid → (reply : CommandReply) (text other : List ℕ) → IsReplyText reply text → IsReplyText reply other → text ≡ other
 one_text one reply text other (inl p) (inl q) = same_answer one reply text other p q
 one_text one reply text other (inl p) (inr q) = absurd (not_both reply text q.0 p q.1)
 one_text one reply text other (inr p) (inl q) = absurd (not_both reply other p.0 q p.1)
 one_text one reply text other (inr p) (inr q) =
     same_line q.0 text other (subst (λ (cause : Failure). IsFailureText cause text) (same_cause reply p.0 q.0 p.1 q.1) p.2) q.2
 
-pub one_output : OneSaid → (replies : List Reply) (text other : List ℕ) → IsOutput replies text → IsOutput replies other → text ≡ other
+pub one_output : OneSaid → (replies : List CommandReply) (text other : List ℕ) → IsOutput replies text → IsOutput replies other → text ≡ other
 one_output one [] text other p q = p ∙ sym q
 one_output one (reply ∷ replies) text other p q =
     p.4 ∙ (ap (λ (l : List ℕ). l ++ p.1) (one_text one reply p.0 q.0 p.2 q.2) ∙ (ap (λ (l : List ℕ). q.0 ++ l) (one_output one replies p.1 q.1 p.3 q.3) ∙ sym q.4))
@@ -47,7 +47,7 @@ one_output one (reply ∷ replies) text other p q =
 abbrev counted : Bool → ℕ → ℕ
 counted refused others = cond refused 1 0 + others
 
-pub one_count : (replies : List Reply) (count other : ℕ) → CountsRefusals replies count → CountsRefusals replies other → count ≡ other
+pub one_count : (replies : List CommandReply) (count other : ℕ) → CountsRefusals replies count → CountsRefusals replies other → count ≡ other
 one_count [] count other p q = p ∙ sym q
 one_count (reply ∷ replies) count other p q =
     p.4 ∙ (ap (λ b. counted b p.1) (same_from_decides p.0 q.0 p.2 q.2) ∙ (ap (counted q.0) (one_count replies p.1 q.1 p.3 q.3) ∙ sym q.4))
@@ -56,13 +56,13 @@ one_count (reply ∷ replies) count other p q =
 pub count_none : CountsRefusals [] 0
 count_none = refl
 
-pub count_one : (reply : Reply) (refused : Bool) (count : ℕ) → count ≡ cond refused 1 0 → Decides refused (IsRefusal reply) → CountsRefusals (reply ∷ []) count
+pub count_one : (reply : CommandReply) (refused : Bool) (count : ℕ) → count ≡ cond refused 1 0 → Decides refused (IsRefusal reply) → CountsRefusals (reply ∷ []) count
 count_one reply refused count is decides = (refused, 0, decides, refl, is ∙ none (cond refused 1 0))
   where
     none : (n : ℕ) → n ≡ n + 0
     none n = omega arith
 
-pub counts_join : (first later : List Reply) (a b : ℕ) → CountsRefusals first a → CountsRefusals later b → CountsRefusals (first ++ later) (a + b)
+pub counts_join : (first later : List CommandReply) (a b : ℕ) → CountsRefusals first a → CountsRefusals later b → CountsRefusals (first ++ later) (a + b)
 counts_join [] later a b p q = subst (CountsRefusals later) (same p) q
   where
     same : a ≡ 0 → b ≡ a + b
@@ -73,7 +73,7 @@ counts_join (reply ∷ first) later a b p q = (p.0, p.1 + b, p.2, counts_join fi
     sums n e = omega (arith, e)
 
 -- one reply is at most one refusal
-pub one_refusal : (reply : Reply) (count : ℕ) → CountsRefusals (reply ∷ []) count → count ≤ 1
+pub one_refusal : (reply : CommandReply) (count : ℕ) → CountsRefusals (reply ∷ []) count → count ≤ 1
 one_refusal reply count p = most p.0 (p.4 ∙ ap (counted p.0) p.3)
   where
     most : (b : Bool) → count ≡ counted b 0 → count ≤ 1

@@ -4,7 +4,7 @@ use Rattle.std.specs.FinMap as map
 use Rattle.stn_text.{specs.Lines.{is_gap, is_word, words_of}, proofs.Digits.own}
 use Rattle.stn_time.{specs.{Time.{horizon, IsWithinHorizon}, Text.{printed, whole_text, three_digits}, TimeOf.time_of, declared.reading.TimeFault.TheVariants.Malformed}, proofs.Prints.{time_of-printed, decimal-whole_text}}
 use Rattle.stn_net.specs.{Difference.Difference, Event.event_text}
-use Rattle.stn_records.specs.{Id.{SiteCounter, IsId, id_text}, Record.is_done, declared.record.Record.Record, Content.Content}
+use Rattle.stn_records.specs.{Id.{SiteCounter, IsId, id_text}, Record.is_done_mark, declared.record.Record.Record, Content.Content}
 use Rattle.stn_site.specs.{declared.names.BoundName.BoundName, Lines.{line, done_text}, Names.name_text}
 use Rattle.stn_site.specs.declared.names.BoundName.TheVariants as kind
 use Rattle.stn_questions.specs.{Bounds.{lower_text, upper_text, bound_text, named_line}, Records.{held_text, amends_text, word_where, is_amended, record_line}}
@@ -266,12 +266,12 @@ where_apart false word e = refl
 -- what stands behind the bound of a record
 abbrev behind : Content → SiteCounter → Record → List ℕ
 behind state id one =
-    done_text (is_done one.mark) ++ (amends_text (map.get state.replacements id)
+    done_text (is_done_mark one.mark) ++ (amends_text (map.get state.replacements id)
     ++ (word_where (map.contains_key state.tombstones id) (codes " withdrawn") ++ word_where (is_amended state id) (codes " replaced")))
 
 behind_apart : (state : Content) (id : SiteCounter) (one : Record) → is_apart (behind state id one) ≡ true
 behind_apart state id one =
-    apart-append (done_text (is_done one.mark)) _ (done_apart (is_done one.mark)) (apart-append (amends_text (map.get state.replacements id)) _ (amends_apart (map.get state.replacements id))
+    apart-append (done_text (is_done_mark one.mark)) _ (done_apart (is_done_mark one.mark)) (apart-append (amends_text (map.get state.replacements id)) _ (amends_apart (map.get state.replacements id))
     (apart-append (word_where (map.contains_key state.tombstones id) (codes " withdrawn")) _ (where_apart (map.contains_key state.tombstones id) (codes " withdrawn") refl) (where_apart (is_amended state id) (codes " replaced") refl)))
 
 record_shape : (state : Content) (id : SiteCounter) (one : Record) (held : Option Record) → held ≡ Some one

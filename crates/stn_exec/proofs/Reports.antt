@@ -12,7 +12,7 @@ use Rattle.stn_questions.specs.{declared.asked.Question.Question, Answer.IsAnswe
 use Rattle.stn_command.{specs.{declared.changes.Change.{Change, TheVariants.{Add, Amend, Withdraw, Done}}, Words.{and_then, spelled}, Query.{Query, IsSaid, IsQueryRefusal}, Dispatch.{every_event, done_or_not_chosen}}, proofs.OneSaid.one_refusal}
 use Rattle.stn_command.specs.Query as asked
 use Rattle.stn_command.specs.declared.queries.Outlook.TheVariants as outlook
-use Rattle.stn_exec.{specs.{Command.{QueryWords, report, ready, ask, Action, change, merge, send_all, send, deliver, query, Command, sites_command, command_of}, Effect.{Effect, Reply, told, refusing, sending, sent_step, change_read, query_read, change_step, changing, telling, action_effect, command_effect, action_step, step_of}, Script.{Outcome, Start, is_skipped, form_effect, line_outcome, lines_outcome, heading_of, last_line, script_outcome}, Output.{IsReplyText, IsOutput}, Reports.{line_steps, steps_of_lines, LineOf, first_world, steps_before, world_at, ReportsSite, AsksSite, AsksReady, PrintsAt}}, proofs.{Effects.there_effect, Scripts.{line_outcome-skipped, line_outcome-run, line_effect-is, script_outcome-is}}}
+use Rattle.stn_exec.{specs.{Command.{QueryWords, report, ready, ask, Action, change, merge, send_all, send, deliver, query, Command, sites_command, command_of}, Effect.{CommandEffect, CommandReply, told, refusing, sending, sent_step, change_read, query_read, change_step, changing, telling, action_effect, command_effect, action_step, command_step}, Script.{Outcome, Start, is_skipped, form_effect, line_outcome, lines_outcome, heading_of, last_line, script_outcome}, Output.{IsReplyText, IsOutput}, Reports.{line_steps, steps_of_lines, LineOf, first_world, steps_before, world_at, ReportsSite, AsksSite, AsksReady, PrintsAt}}, proofs.{Effects.there_effect, Scripts.{line_outcome-skipped, line_outcome-run, line_effect-is, script_outcome-is}}}
 
 -- ---- what a command leaves is what its step leaves
 changing_run : (world : World) (site : ℕ) (read : Result Change Failure)
@@ -76,7 +76,7 @@ effect_run world site action coherent = tested (has_site world site) refl
     tested true e = there_run world site action ((site_decides world site).0 e) coherent
     tested false e = sym (missing_run world site action (λ there. false≢true (sym e ∙ (site_decides world site).1 there)))
 
-form_run : (number : ℕ) (world : World) (command : Option Command) → IsCoherent world → (form_effect number world command).world ≡ run world (option_to_list (option_and_then (step_of world) command))
+form_run : (number : ℕ) (world : World) (command : Option Command) → IsCoherent world → (form_effect number world command).world ≡ run world (option_to_list (option_and_then (command_step world) command))
 form_run number world None coherent = refl
 form_run number world (Some command) coherent = effect_run world command.site command.action coherent
 
@@ -84,13 +84,13 @@ pub line_run : (number : ℕ) (world : World) (words : List (List ℕ)) → IsCo
 line_run number world words coherent = tested (is_skipped words) refl
   where
     steps : Bool → List Step
-    steps b = cond b [] (option_to_list (option_and_then (step_of world) (command_of (events_of world.source) words)))
+    steps b = cond b [] (option_to_list (option_and_then (command_step world) (command_of (events_of world.source) words)))
 
     tested : (b : Bool) → is_skipped words ≡ b → (line_outcome number world words).world ≡ run world (line_steps world words)
     tested true e = ap (λ (o : Outcome). o.world) (line_outcome-skipped number world words e) ∙ ap (λ b. run world (steps b)) (sym e)
     tested false e =
         ap (λ (o : Outcome). o.world) (line_outcome-run number world words e)
-        ∙ (ap (λ (f : Effect). f.world) (sym (line_effect-is number world words (command_of (events_of world.source) words) refl))
+        ∙ (ap (λ (f : CommandEffect). f.world) (sym (line_effect-is number world words (command_of (events_of world.source) words) refl))
         ∙ (form_run number world (command_of (events_of world.source) words) coherent ∙ ap (λ b. run world (steps b)) (sym e)))
 
 pub lines_run : (number : ℕ) (world : World) (lines : List (List ℕ)) → IsCoherent world → (lines_outcome number world lines).world ≡ run world (steps_of_lines world lines)
@@ -112,7 +112,7 @@ unfolding lines_outcome
 lines_split number world [] rest = ap (λ (n : ℕ). (lines_outcome n world rest).replies) (omega arith)
 lines_split number world (line ∷ before) rest =
     let first = line_outcome number world (words_of line) in
-    ap (λ (l : List Reply). first.replies ++ l)
+    ap (λ (l : List CommandReply). first.replies ++ l)
     (lines_split (number + 1) first.world before rest
     ∙ ap (λ (n : ℕ). (lines_outcome (number + 1) first.world before).replies ++ (lines_outcome n (lines_outcome (number + 1) first.world before).world rest).replies) (omega arith))
     ∙ sym (append_assoc first.replies (lines_outcome (number + 1) first.world before).replies _)
@@ -124,7 +124,7 @@ unfolding lines_outcome
 line_first number world line behind = refl
 
 -- the output of replies and others falls into both outputs
-outputs_split : (first later : List Reply) (text : List ℕ) → IsOutput (first ++ later) text → (a : List ℕ) × (b : List ℕ) × IsOutput first a × IsOutput later b × (text ≡ a ++ b)
+outputs_split : (first later : List CommandReply) (text : List ℕ) → IsOutput (first ++ later) text → (a : List ℕ) × (b : List ℕ) × IsOutput first a × IsOutput later b × (text ≡ a ++ b)
 outputs_split [] later text all = ([], text, refl, all, refl)
 outputs_split (reply ∷ first) later text all =
     let rest = outputs_split first later all.1 all.3 in
@@ -151,8 +151,8 @@ prints script output at all =
     ap (λ (o : Outcome). o.replies) (script_started script at.start at.heading)
     ∙ (ap (λ (l : List (List ℕ)). (lines_outcome at.start.number (first_world at) l).replies) at.lines
     ∙ (lines_split at.start.number (first_world at) at.before (at.line ∷ at.behind)
-    ∙ ap (λ (l : List Reply). (lines_outcome at.start.number (first_world at) at.before).replies ++ l) (line_first here (world_at at) at.line at.behind))) in
-    let two = outputs_split _ _ output (subst (λ (l : List Reply). IsOutput l output) parts all) in
+    ∙ ap (λ (l : List CommandReply). (lines_outcome at.start.number (first_world at) at.before).replies ++ l) (line_first here (world_at at) at.line at.behind))) in
+    let two = outputs_split _ _ output (subst (λ (l : List CommandReply). IsOutput l output) parts all) in
     let three = outputs_split _ _ two.1 two.3 in
     (three.0, record { first = two.0; last = three.1; before = two.2; here = three.2; behind = three.3; whole = two.4 ∙ ap (λ (l : List ℕ). two.0 ++ l) three.4 })
 
@@ -172,13 +172,13 @@ replies_at script at site action kept is there =
     let command : Some (sites_command site action) ≡ command_of (events_of world.source) (words_of at.line) =
     sym (ap (λ (s : PlanSource). command_of (events_of s) (words_of at.line)) (source_at script at) ∙ is) in
     ap (λ (o : Outcome). o.replies) (line_outcome-run number world (words_of at.line) kept)
-    ∙ (ap (λ (e : Effect). e.reply ∷ []) (sym (line_effect-is number world (words_of at.line) (Some (sites_command site action)) command))
-    ∙ ap (λ (e : Effect). e.reply ∷ []) (sym (there_effect world site action (stays_there script at site there))))
+    ∙ (ap (λ (e : CommandEffect). e.reply ∷ []) (sym (line_effect-is number world (words_of at.line) (Some (sites_command site action)) command))
+    ∙ ap (λ (e : CommandEffect). e.reply ∷ []) (sym (there_effect world site action (stays_there script at site there))))
 
 -- the output of one reply is its text
-one_reply : (replies : List Reply) (reply : Reply) (text : List ℕ) → replies ≡ reply ∷ [] → IsOutput replies text → IsReplyText reply text
+one_reply : (replies : List CommandReply) (reply : CommandReply) (text : List ℕ) → replies ≡ reply ∷ [] → IsOutput replies text → IsReplyText reply text
 one_reply replies reply text is all =
-    let one = subst (λ (l : List Reply). IsOutput l text) is all in
+    let one = subst (λ (l : List CommandReply). IsOutput l text) is all in
     subst (IsReplyText reply) (sym (one.4 ∙ (ap (λ (l : List ℕ). one.0 ++ l) one.3 ∙ append-nil one.0))) one.2
 
 -- ---- what is said to a query at a line

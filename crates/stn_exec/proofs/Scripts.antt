@@ -3,7 +3,7 @@ use Rattle.std.proofs.{Common.{◌≡◌, ℕ, ⊎_elim, ◌+◌, ◌<◌, ◌�
 use Rattle.stn_device.specs.Bytes.{AppendsPart}
 use Rattle.stn_text.specs.Lines.{lines_of, words_of}
 use Rattle.stn_refusal.specs.{declared.{code.Code.TheVariants.NoSite, refusal.Refusal.Refusal, failure.Failure.{Failure, TheVariants.Refused}}, Printed.refusal_text, Refusals.refused}
-use Rattle.stn_exec.{specs.{Heading.IsHeadingFailure, Effect.{Reply, Effect}, Command.{Command, command_of}, Output.{IsReplyText, IsOutput, CountsRefusals, WritesOutput, WritesOutputPart}, Running.IsReplied, Saying.IsDone, Script.{Outcome, nothing_run, followed_by, form_effect, is_skipped, line_effect, effect_outcome, line_outcome, lines_outcome, next_line, Part, part_of, sites_of, Based, Start, based, with_sites, heading_of, started, last_line, script_outcome}}, proofs.Outputs.{not_both, counts_join, one_refusal}}
+use Rattle.stn_exec.{specs.{Heading.IsHeadingFailure, Effect.{CommandReply, CommandEffect}, Command.{Command, command_of}, Output.{IsReplyText, IsOutput, CountsRefusals, WritesOutput, WritesOutputPart}, Running.IsReplied, Saying.IsDone, Script.{Outcome, nothing_run, followed_by, form_effect, is_skipped, line_effect, effect_outcome, line_outcome, lines_outcome, next_line, Part, heading_part, sites_of, Based, Start, based, with_sites, heading_of, started, last_line, script_outcome}}, proofs.Outputs.{not_both, counts_join, one_refusal}}
 use Rattle.stn_command.specs.Words.{and_then}
 use Rattle.stn_lift.specs.PlanSource.{events_of}
 use Rattle.stn_records.specs.Id.{IsSite}
@@ -56,17 +56,17 @@ heading-refused wanted refusal (inl lack) = absurd (cc)
 heading-refused wanted refusal (inr is) = is
 
 pub heading-fault : (last : ℕ) (lines : List (List ℕ)) (base : Based) (cause : Failure) → based last lines ≡ Ok base
-    → part_of last (codes "sites") (next_line base.number base.lines) ≡ Err cause → heading_of last lines ≡ Err cause
+    → heading_part last (codes "sites") (next_line base.number base.lines) ≡ Err cause → heading_of last lines ≡ Err cause
 unfolding with_sites
 heading-fault last lines base cause e f = ap (λ r. and_then r (with_sites last)) e ∙ rw f refl
 
 heading-none : (last : ℕ) (lines : List (List ℕ)) (base : Based) (sites : Part) → based last lines ≡ Ok base
-    → part_of last (codes "sites") (next_line base.number base.lines) ≡ Ok sites → sites_of sites.value ≡ Err (refused NoSite) → heading_of last lines ≡ Err (refused NoSite)
+    → heading_part last (codes "sites") (next_line base.number base.lines) ≡ Ok sites → sites_of sites.value ≡ Err (refused NoSite) → heading_of last lines ≡ Err (refused NoSite)
 unfolding with_sites
 heading-none last lines base sites e f none = ap (λ r. and_then r (with_sites last)) e ∙ rw f (rw none refl)
 
 pub heading-unopened : (last : ℕ) (lines : List (List ℕ)) (base : Based) (sites : Part) (count : ℕ) (fault : WorldFault) (failure : Failure) → based last lines ≡ Ok base
-    → part_of last (codes "sites") (next_line base.number base.lines) ≡ Ok sites → (1 ≤ sites.value → sites.value ≤ 64 → IsSite count) → IsOpeningFault count fault
+    → heading_part last (codes "sites") (next_line base.number base.lines) ≡ Ok sites → (1 ≤ sites.value → sites.value ≤ 64 → IsSite count) → IsOpeningFault count fault
     → failure ≡ world_failure fault → IsHeadingFailure (heading_of last lines) failure
 heading-unopened last lines base sites count world_fault.Memory failure e f site none gives = inl gives
 heading-unopened last lines base sites count world_fault.TooManyPackets failure e f site none gives = absurd none
@@ -76,7 +76,7 @@ heading-unopened last lines base sites count world_fault.NoSite failure e f site
     inr (heading-none last lines base sites e f (sites_of-none sites.value (λ least most. none (site least most))) ∙ ap Err (sym gives))
 
 pub heading-made : (last : ℕ) (lines : List (List ℕ)) (base : Based) (sites : Part) → based last lines ≡ Ok base
-    → part_of last (codes "sites") (next_line base.number base.lines) ≡ Ok sites → sites_of sites.value ≡ Ok sites.value
+    → heading_part last (codes "sites") (next_line base.number base.lines) ≡ Ok sites → sites_of sites.value ≡ Ok sites.value
     → heading_of last lines ≡ Ok (record { source = base.source; sites = sites.value; number = sites.found.number + 1; lines = sites.found.behind })
 unfolding with_sites
 heading-made last lines base sites e f some = ap (λ r. and_then r (with_sites last)) e ∙ rw f (rw some refl)
@@ -120,12 +120,12 @@ lines_outcome-more number world next text line behind e is =
     ap (lines_outcome number world) e ∙ ap (λ p. followed_by (line_outcome number world (words_of line)) (lines_outcome (number + 1) p (lines_of behind))) (sym is)
 
 -- the outputs of replies, one after the other
-pub outputs_join : (first later : List Reply) (text more : List ℕ) → IsOutput first text → IsOutput later more → IsOutput (first ++ later) (text ++ more)
+pub outputs_join : (first later : List CommandReply) (text more : List ℕ) → IsOutput first text → IsOutput later more → IsOutput (first ++ later) (text ++ more)
 outputs_join [] later text more e p = subst (λ (l : List ℕ). IsOutput later (l ++ more)) (sym e) p
 outputs_join (reply ∷ first) later text more e p =
     (e.0, e.1 ++ more, e.2, outputs_join first later e.1 more e.3 p, ap (λ (l : List ℕ). l ++ more) e.4 ∙ append_assoc e.0 e.1 more)
 
-pub output_one : (reply : Reply) (text : List ℕ) → IsReplyText reply text → IsOutput (reply ∷ []) text
+pub output_one : (reply : CommandReply) (text : List ℕ) → IsReplyText reply text → IsOutput (reply ∷ []) text
 output_one reply text is = (text, [], is, refl, sym (append_nil text))
   where
     append_nil : (l : List ℕ) → l ++ [] ≡ l
@@ -133,8 +133,8 @@ output_one reply text is = (text, [], is, refl, sym (append_nil text))
     append_nil (x ∷ l) = ap (λ (k : List ℕ). x ∷ k) (append_nil l)
 
 -- what was written so far, and then one line more
-pub texts-more : (a b c : Option (List ℕ)) (whole done first later now : List Reply) → WritesOutput a b done → WritesOutput b c first → whole ≡ done ++ now → now ≡ first ++ later
-    → (m n : ℕ) → CountsRefusals done m → CountsRefusals first n → (more : List Reply) × WritesOutput a c more × (whole ≡ more ++ later) × CountsRefusals more (m + n)
+pub texts-more : (a b c : Option (List ℕ)) (whole done first later now : List CommandReply) → WritesOutput a b done → WritesOutput b c first → whole ≡ done ++ now → now ≡ first ++ later
+    → (m n : ℕ) → CountsRefusals done m → CountsRefusals first n → (more : List CommandReply) × WritesOutput a c more × (whole ≡ more ++ later) × CountsRefusals more (m + n)
 texts-more a b c whole done first later now p q e f m n counts last = (
   done ++ first,
   (p.0 ++ q.0, outputs_join done first p.0 q.0 p.1 q.1, Appends-trans a b c p.0 q.0 p.2 q.2),
@@ -143,7 +143,7 @@ texts-more a b c whole done first later now p q e f m n counts last = (
 )
 
 -- what was written so far, and then a part of one line
-pub texts-part : (a b c : Option (List ℕ)) (whole done first later now : List Reply) → WritesOutput a b done → WritesOutputPart b c first → whole ≡ done ++ now → now ≡ first ++ later
+pub texts-part : (a b c : Option (List ℕ)) (whole done first later now : List CommandReply) → WritesOutput a b done → WritesOutputPart b c first → whole ≡ done ++ now → now ≡ first ++ later
     → WritesOutputPart a c whole
 texts-part a b c whole done first later now p q e f = (
   p.0 ++ q.0,
@@ -160,11 +160,11 @@ texts-part a b c whole done first later now p q e f = (
 )
 
 -- nothing was written
-pub part-nil : (a : Option (List ℕ)) (replies : List Reply) → WritesOutputPart a a replies
+pub part-nil : (a : Option (List ℕ)) (replies : List CommandReply) → WritesOutputPart a a replies
 part-nil a replies = ([], record { first = []; later = replies; output = []; left = []; parts = refl; printed = refl; front = refl }, Appends-nil a)
 
 -- a part of a reply's text was written
-pub part-one : (a b : Option (List ℕ)) (reply : Reply) (text : List ℕ) → IsReplyText reply text → AppendsPart a b text → WritesOutputPart a b (reply ∷ [])
+pub part-one : (a b : Option (List ℕ)) (reply : CommandReply) (text : List ℕ) → IsReplyText reply text → AppendsPart a b text → WritesOutputPart a b (reply ∷ [])
 part-one a b reply text is part =
     (part.0, record { first = reply ∷ []; later = []; output = text; left = part.1; parts = refl; printed = output_one reply text is; front = part.2 }, part.3)
 
@@ -187,7 +187,7 @@ opened_outcome script start world number lines read opening at behind =
     ∙ script_outcome-is script (Ok start) (sym read)))
 
 -- an answer that was appended
-pub done_replied : (world : World) (old new : List ℕ) (effect : Effect) → IsDone world old new effect (Ok tt) → IsReplied world old new effect false
+pub done_replied : (world : World) (old new : List ℕ) (effect : CommandEffect) → IsDone world old new effect (Ok tt) → IsReplied world old new effect false
 done_replied world old new effect is = record {
   text = is.1.0;
   left = is.0;
@@ -197,7 +197,7 @@ done_replied world old new effect is = record {
 }
 
 -- a refusal that was appended
-pub refused_replied : (world : World) (old kept new : List ℕ) (effect : Effect) (refusal : Refusal) → IsDone world old kept effect (Err (Refused refusal))
+pub refused_replied : (world : World) (old kept new : List ℕ) (effect : CommandEffect) (refusal : Refusal) → IsDone world old kept effect (Err (Refused refusal))
     → new ≡ kept ++ refusal_text refusal → IsReplied world old new effect true
 refused_replied world old kept new effect refusal (inl lack) appended = absurd (cc)
 refused_replied world old kept new effect refusal (inr is) appended = record {

@@ -5,10 +5,10 @@ use Rattle.stn_refusal.specs.{declared.{refusal.Refusal.Refusal, failure.Failure
 use Rattle.stn_text.specs.Lines.{lines_of, words_of}
 use Rattle.stn_lift.specs.PlanSource.{events_of, IsSoundSource}
 use Rattle.stn_records.specs.Content.{Content, part_of}
-use Rattle.stn_site.specs.Held.{Held, holding_state}
+use Rattle.stn_site.specs.{Held.{Held, holding_state}, SoundSite.IsSoundSite}
 use Rattle.stn_world.{specs.{declared.faults.WorldFault.WorldFault, Failures.world_failure, Parts.holds_all, World.{World, has_site, opening_world, content_at, next_id_at}, Whole.IsCoherent, Steps.{Step, merged, sent, delivered, step_refusal, send_refusal, after}}, proofs.{Runs.{run_keeps, coherent_run}, Whole.{coherent_at_first, site_bounds, site_proper}}}
-use Rattle.stn_command.specs.{declared.changes.Change.Change, Change.made_by, Query.{Query, IsSoundSite, IsSaid, IsQueryRefusal}}
-use Rattle.stn_exec.{specs.{declared.answer.Answer.Answer, Answer.answer_text, Command.{Action, Command, command_of, change, merge, send_all, send, deliver, query}, Effect.{Reply, Effect, declined, refusing, answered, change_read, query_read, change_step, changing, telling, action_effect}, Output.{IsAnswerText, Declines, CountsRefusals, IsOutput}, Script.{Outcome, Start, is_skipped, form_effect, line_effect, line_outcome, lines_outcome, heading_of, started, last_line, script_outcome}, Reports.line_steps}, proofs.{Outputs.{not_both, counts_join, count_one}, Scripts.{outputs_join, output_one, line_outcome-skipped, line_outcome-run, line_effect-is}, Reports.line_run, Headings.{IsFitOrTold, IsSoundStart, heading_fit}, Told.{IsTold, IsToldCause, IsReadOrTold, step_told, send_told, change_told, query_told}}}
+use Rattle.stn_command.specs.{declared.changes.Change.Change, Change.made_by, Query.{Query, IsSaid, IsQueryRefusal}}
+use Rattle.stn_exec.{specs.{declared.answer.Answer.Answer, Answer.answer_text, Command.{Action, Command, command_of, change, merge, send_all, send, deliver, query}, Effect.{CommandReply, CommandEffect, declined, refusing, answered, change_read, query_read, change_step, changing, telling, action_effect}, Output.{IsAnswerText, Declines, CountsRefusals, IsOutput}, Script.{Outcome, Start, is_skipped, form_effect, line_effect, line_outcome, lines_outcome, heading_of, started, last_line, script_outcome}, Reports.line_steps}, proofs.{Outputs.{not_both, counts_join, count_one}, Scripts.{outputs_join, output_one, line_outcome-skipped, line_outcome-run, line_effect-is}, Reports.line_run, Headings.{IsFitOrTold, IsSoundStart, heading_fit}, Told.{IsTold, IsToldCause, IsReadOrTold, step_told, send_told, change_told, query_told}}}
 use Rattle.stn_exec.specs.declared.answer.Answer.TheVariants as answer
 
 -- another law: a site has an answer to each query that nothing refuses, and what refuses one is printed
@@ -18,11 +18,11 @@ pub record HasAnswers : Type 0 where
       → IsQueryRefusal query held None ⊎ ((cause : Refusal) × IsQueryRefusal query held (Some (Refused cause)))
 
 -- the reply is an answer, or a refusal
-abbrev IsAnsweredOrRefused : Reply → Type 0
+abbrev IsAnsweredOrRefused : CommandReply → Type 0
 IsAnsweredOrRefused reply = ((text : List ℕ) × IsAnswerText reply text) ⊎ ((cause : Refusal) × Declines reply (Refused cause))
 
 -- replies have an output, and a number of refusals
-pub record HasOutput (replies : List Reply) : Type 0 where
+pub record HasOutput (replies : List CommandReply) : Type 0 where
   pub text : List ℕ
   pub output : IsOutput replies text
   pub count : ℕ
@@ -31,7 +31,7 @@ pub record HasOutput (replies : List Reply) : Type 0 where
 no_replies : HasOutput []
 no_replies = record { text = []; output = refl; count = 0; refusals = refl }
 
-one_reply : (reply : Reply) → IsAnsweredOrRefused reply → HasOutput (reply ∷ [])
+one_reply : (reply : CommandReply) → IsAnsweredOrRefused reply → HasOutput (reply ∷ [])
 one_reply reply (inl (text, is)) = record {
   text = text;
   output = output_one reply text (inl is);
@@ -45,7 +45,7 @@ one_reply reply (inr (cause, is)) = record {
   refusals = count_one reply true 1 refl ((λ yes. (Refused cause, is)), (λ refused. refl));
 }
 
-more_replies : (first later : List Reply) → HasOutput first → HasOutput later → HasOutput (first ++ later)
+more_replies : (first later : List CommandReply) → HasOutput first → HasOutput later → HasOutput (first ++ later)
 more_replies first later one other = record {
   text = one.text ++ other.text;
   output = outputs_join first later one.text other.text one.output other.output;
@@ -112,7 +112,7 @@ module _ (known : HasAnswers) (world : World) (coherent : IsCoherent world) (sou
           let effect = line_effect number world words in
           subst (λ (o : Outcome). HasOutput o.replies) (sym (line_outcome-run number world words e))
           (one_reply effect.reply
-          (subst (λ (f : Effect). IsAnsweredOrRefused f.reply) (line_effect-is number world words (command_of (events_of world.source) words) refl)
+          (subst (λ (f : CommandEffect). IsAnsweredOrRefused f.reply) (line_effect-is number world words (command_of (events_of world.source) words) refl)
           (form_answered number (command_of (events_of world.source) words))))
 
 -- ---- lines, one after the other

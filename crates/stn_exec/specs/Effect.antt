@@ -12,34 +12,34 @@ use Rattle.stn_exec.specs.{declared.answer.Answer.Answer, Command.{BoundWords, C
 use Rattle.stn_exec.specs.declared.answer.Answer.TheVariants as answer
 
 -- what a line prints: an answer; why there is none; or what is said to a query about a plan and what a site holds
-pub data Reply : Type 0 where
-  said : Answer → Reply
-  declined : Failure → Reply
-  told : PlanSource → Content → Query → Reply
+pub data CommandReply : Type 0 where
+  said : Answer → CommandReply
+  declined : Failure → CommandReply
+  told : PlanSource → Content → Query → CommandReply
 
 -- a command's reply, and the world that it leaves
-pub record Effect : Type 0 where
+pub record CommandEffect : Type 0 where
   pub world : World
-  pub reply : Reply
+  pub reply : CommandReply
 
 -- a refused command changes nothing
-abbrev pub refusing : World → Failure → Effect
+abbrev pub refusing : World → Failure → CommandEffect
 refusing world cause = record { world = world; reply = declined cause }
 
 -- a call of the world, which leaves a world and answers what was made;
 -- where something refuses the call, that is the answer, and nothing changes
-abbrev pub answered : World → World → Answer → Option WorldFault → Effect
+abbrev pub answered : World → World → Answer → Option WorldFault → CommandEffect
 answered world left made cause = record {
   world = if is_some cause then world else left;
   reply = option_map_or (λ fault. declined (world_failure fault)) cause (said made);
 }
 
 -- a call that is a step
-abbrev pub called : World → Step → Answer → Effect
+abbrev pub called : World → Step → Answer → CommandEffect
 called world step made = answered world (after world step) made (step_refusal world step)
 
 -- a call that sends a part, of which the site holds all or not: there may be no more packets than the program keeps
-abbrev pub sending : World → ℕ → Content → Bool → Effect
+abbrev pub sending : World → ℕ → Content → Bool → CommandEffect
 sending world site part held =
     answered world (after world (sent site part)) (answer.Sent (length world.packets + 1)) (send_refusal world site held)
 
@@ -79,17 +79,17 @@ change_step site (Withdraw id) = withdrew site id
 change_step site (Done event time) = finished site event time
 
 -- a change that was read
-abbrev pub changing : World → ℕ → Result Change Failure → Effect
+abbrev pub changing : World → ℕ → Result Change Failure → CommandEffect
 changing world site (Ok made) = called world (change_step site made) (answer.Changed (made_by made (next_id_at world site)))
 changing world site (Err cause) = refusing world cause
 
 -- a query that was read
-abbrev pub telling : World → ℕ → Result Query Failure → Effect
+abbrev pub telling : World → ℕ → Result Query Failure → CommandEffect
 telling world site (Ok read) = record { world = world; reply = told world.source (content_at world site) read }
 telling world site (Err cause) = refusing world cause
 
 -- a command of a site that is there
-abbrev pub action_effect : World → ℕ → Action → Effect
+abbrev pub action_effect : World → ℕ → Action → CommandEffect
 action_effect world site (change words) = changing world site (change_read words)
 action_effect world site (merge other) = called world (merged site other) answer.Merged
 action_effect world site send_all = sending world site (content_at world site) true
@@ -99,7 +99,7 @@ action_effect world site (deliver packet) = called world (delivered site packet)
 action_effect world site (query words) = telling world site (query_read words)
 
 -- a command
-abbrev pub command_effect : World → Command → Effect
+abbrev pub command_effect : World → Command → CommandEffect
 command_effect world command =
     if has_site world command.site then action_effect world command.site command.action else refusing world (refused NoSite)
 
@@ -117,5 +117,5 @@ action_step world site (send records tombstones) =
 action_step world site (deliver packet) = Some (delivered site packet)
 action_step world site (query words) = None
 
-abbrev pub step_of : World → Command → Option Step
-step_of world command = action_step world command.site command.action
+abbrev pub command_step : World → Command → Option Step
+command_step world command = action_step world command.site command.action

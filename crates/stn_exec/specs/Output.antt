@@ -3,16 +3,16 @@ use Rattle.std.specs.{Prelude.{◌≡◌, ◌⊎◌, ℕ, ◌+◌, Bool, if◌th
 use Rattle.stn_refusal.specs.{declared.failure.Failure.{Failure, TheVariants.{Refused, Failed}}, Printed.refusal_text}
 use Rattle.stn_site.specs.Held.{holding_state}
 use Rattle.stn_command.specs.Query.{IsSaid, IsQueryRefusal}
-use Rattle.stn_exec.specs.{Answer.answer_text, Effect.{Reply, said, declined, told}}
+use Rattle.stn_exec.specs.{Answer.answer_text, Effect.{CommandReply, said, declined, told}}
 
 -- the text is that of an answer, or is said to a query that nothing refuses
-abbrev pub IsAnswerText : Reply → List ℕ → Type 0
+abbrev pub IsAnswerText : CommandReply → List ℕ → Type 0
 IsAnswerText (said answer) text = text ≡ answer_text answer
 IsAnswerText (declined cause) text = ⊥
 IsAnswerText (told source state query) text = IsQueryRefusal query (holding_state source state) None × IsSaid query (holding_state source state) text
 
 -- the reply is no answer, for this cause
-abbrev pub Declines : Reply → Failure → Type 0
+abbrev pub Declines : CommandReply → Failure → Type 0
 Declines (said answer) cause = ⊥
 Declines (declined given) cause = cause ≡ given
 Declines (told source state query) cause = IsQueryRefusal query (holding_state source state) (Some cause)
@@ -23,28 +23,28 @@ IsFailureText (Refused refusal) text = text ≡ refusal_text refusal
 IsFailureText (Failed fault) text = ⊥
 
 -- the text is printed for the reply
-abbrev pub IsReplyText : Reply → List ℕ → Type 0
+abbrev pub IsReplyText : CommandReply → List ℕ → Type 0
 IsReplyText reply text = IsAnswerText reply text ⊎ ((cause : Failure) × Declines reply cause × IsFailureText cause text)
 
 -- the reply is a refusal
-abbrev pub IsRefusal : Reply → Type 0
+abbrev pub IsRefusal : CommandReply → Type 0
 IsRefusal reply = (cause : Failure) × Declines reply cause
 
 -- so many of the replies are refusals
-abbrev pub CountsRefusals : List Reply → ℕ → Type 0
+abbrev pub CountsRefusals : List CommandReply → ℕ → Type 0
 CountsRefusals [] count = count ≡ 0
 CountsRefusals (reply ∷ replies) count =
     (refused : Bool) × (others : ℕ) × Decides refused (IsRefusal reply) × CountsRefusals replies others × (count ≡ (if refused then 1 else 0) + others)
 
 -- the text is the replies' texts, one after the other
-abbrev pub IsOutput : List Reply → List ℕ → Type 0
+abbrev pub IsOutput : List CommandReply → List ℕ → Type 0
 IsOutput [] text = text ≡ []
 IsOutput (reply ∷ replies) text = (first : List ℕ) × (rest : List ℕ) × IsReplyText reply first × IsOutput replies rest × (text ≡ first ++ rest)
 
 -- the text is a front part of the output of the first of the replies
-pub record IsOutputPart (replies : List Reply) (text : List ℕ) : Type 0 where
-  pub first : List Reply
-  pub later : List Reply
+pub record IsOutputPart (replies : List CommandReply) (text : List ℕ) : Type 0 where
+  pub first : List CommandReply
+  pub later : List CommandReply
   pub output : List ℕ
   pub left : List ℕ
   pub parts : replies ≡ first ++ later
@@ -52,9 +52,9 @@ pub record IsOutputPart (replies : List Reply) (text : List ℕ) : Type 0 where
   pub front : output ≡ text ++ left
 
 -- the known bytes grew by the output of the replies
-abbrev pub WritesOutput : Option (List ℕ) → Option (List ℕ) → List Reply → Type 0
+abbrev pub WritesOutput : Option (List ℕ) → Option (List ℕ) → List CommandReply → Type 0
 WritesOutput old new replies = (text : List ℕ) × IsOutput replies text × Appends old new text
 
 -- the known bytes grew by a front part of the output of the replies
-abbrev pub WritesOutputPart : Option (List ℕ) → Option (List ℕ) → List Reply → Type 0
+abbrev pub WritesOutputPart : Option (List ℕ) → Option (List ℕ) → List CommandReply → Type 0
 WritesOutputPart old new replies = (text : List ℕ) × IsOutputPart replies text × Appends old new text

@@ -5,12 +5,12 @@ use Rattle.stn_text.specs.Lines.{lines_of, words_of}
 use Rattle.stn_time.specs.TimeOf.{time_of}
 use Rattle.stn_world.specs.{World.{World, HasSite, opening_world}, Steps.{Step, run}}
 use Rattle.stn_questions.specs.{declared.asked.Question.Question, Answer.{AsksOfNoEvent, AsksOfSameEvent}}
-use Rattle.stn_exec.specs.{Command.{query, report, ready, ask, sites_command, command_of}, Effect.step_of, Output.IsOutput, Script.{Start, is_skipped, heading_of, last_line, line_outcome, lines_outcome}}
+use Rattle.stn_exec.specs.{Command.{query, report, ready, ask, sites_command, command_of}, Effect.command_step, Output.IsOutput, Script.{Start, is_skipped, heading_of, last_line, line_outcome, lines_outcome}}
 
 -- the step that a line's words are in a world, if they are one
 abbrev pub line_steps : World → List (List ℕ) → List Step
 line_steps world words =
-    if is_skipped words then [] else option_to_list (option_and_then (step_of world) (command_of (events_of world.source) words))
+    if is_skipped words then [] else option_to_list (option_and_then (command_step world) (command_of (events_of world.source) words))
 
 -- the steps of lines, each in the world that the lines before it leave
 unfoldable pub steps_of_lines : World → List (List ℕ) → List Step

@@ -3,7 +3,7 @@
 use Rattle.std.specs.{Prelude.{◌≡◌, ℕ, ◌+◌, ◌-◌, ◌^◌, min, Bool, List, ◌++◌, Option, Result, Ok, Err}, Bool.Decides}
 use Rattle.stn_text.specs.Lines.{words_of}
 use Rattle.stn_world.specs.World.{World}
-use Rattle.stn_exec.specs.{declared.{command.{Command.Command as CommandOfLine, Action.Action as ActionOfLine, BoundWords.BoundWords as BoundOfLine, ChangeWords.ChangeWords as ChangeOfLine, QueryWords.QueryWords as QueryOfLine}, script.{Ran.Ran, RunFault.{RunFault, TheVariants.{Write, Memory}}}}, Effect.Effect, Script.Outcome, Output.{IsReplyText, IsRefusal, CountsRefusals, WritesOutput, WritesOutputPart}, Command.{BoundWords, ChangeWords, add, amend, withdraw, done, QueryWords, report, check, next, rehearse, ready, ask, repairs, Action, change, merge, send_all, send_items, deliver, query, Command, sites_command}}
+use Rattle.stn_exec.specs.{declared.{command.{Command.Command as CommandOfLine, Action.Action as ActionOfLine, BoundWords.BoundWords as BoundOfLine, ChangeWords.ChangeWords as ChangeOfLine, QueryWords.QueryWords as QueryOfLine}, script.{Ran.Ran, RunFault.{RunFault, TheVariants.{Write, Memory}}}}, Effect.CommandEffect, Script.Outcome, Output.{IsReplyText, IsRefusal, CountsRefusals, WritesOutput, WritesOutputPart}, Command.{BoundWords, ChangeWords, add, amend, withdraw, done, QueryWords, report, check, next, rehearse, ready, ask, repairs, Action, change, merge, send_all, send_items, deliver, query, Command, sites_command}}
 use Rattle.stn_exec.specs.declared.command.Action.TheVariants as line
 use Rattle.stn_exec.specs.declared.command.ChangeWords.TheVariants as changing
 use Rattle.stn_exec.specs.declared.command.QueryWords.TheVariants as asking
@@ -20,14 +20,14 @@ seen_change (changing.Withdraw id) = withdraw id
 seen_change (changing.Done event time) = done event time.now
 
 -- the query
-abbrev pub seen_query : QueryOfLine → QueryWords
-seen_query asking.Report = report
-seen_query asking.Repairs = repairs
-seen_query (asking.Check times) = check (words_of times.now)
-seen_query (asking.Next now) = next now.now
-seen_query (asking.Rehearse now) = rehearse now.now
-seen_query (asking.Ready now) = ready now.now
-seen_query (asking.Ask question) = ask question
+abbrev pub seen_query_words : QueryOfLine → QueryWords
+seen_query_words asking.Report = report
+seen_query_words asking.Repairs = repairs
+seen_query_words (asking.Check times) = check (words_of times.now)
+seen_query_words (asking.Next now) = next now.now
+seen_query_words (asking.Rehearse now) = rehearse now.now
+seen_query_words (asking.Ready now) = ready now.now
+seen_query_words (asking.Ask question) = ask question
 
 -- the action
 abbrev pub seen_action : ActionOfLine → Action
@@ -36,14 +36,14 @@ seen_action (line.Merge other) = merge other
 seen_action line.SendAll = send_all
 seen_action (line.Send items) = send_items (words_of items.now)
 seen_action (line.Deliver packet) = deliver packet
-seen_action (line.Query words) = query (seen_query words)
+seen_action (line.Query words) = query (seen_query_words words)
 
 -- the command that the code has read from a line
 abbrev pub seen_command : CommandOfLine → Command
 seen_command command = sites_command command.site (seen_action command.action)
 
 -- the effect's world is left, its reply's text was appended, and the answer says whether it is a refusal
-pub record IsReplied (world : World) (old new : List ℕ) (effect : Effect) (refused : Bool) : Type 0 where
+pub record IsReplied (world : World) (old new : List ℕ) (effect : CommandEffect) (refused : Bool) : Type 0 where
   pub text : List ℕ
   pub left : world ≡ effect.world
   pub printed : IsReplyText effect.reply text

@@ -3,10 +3,10 @@
 use Rattle.std.specs.Prelude.{◌≡◌, ◌⊎◌, ℕ, List, ◌++◌, Result, Ok, Err}
 use Rattle.stn_refusal.specs.{declared.failure.Failure.Failure, Refusals.out_of_memory}
 use Rattle.stn_world.specs.{declared.faults.WorldFault.WorldFault, Failures.world_failure, World.World}
-use Rattle.stn_exec.specs.{declared.answer.Answer.{Answer, TheVariants.Sent}, Effect.{Effect, said, declined}, Output.{IsAnswerText, Declines}}
+use Rattle.stn_exec.specs.{declared.answer.Answer.{Answer, TheVariants.Sent}, Effect.{CommandEffect, said, declined}, Output.{IsAnswerText, Declines}}
 
 -- a call left the world, and its answer, or why there is none, is the effect's reply; or memory ran out
-abbrev pub IsEffect : Result Answer Failure → World → Effect → Type 0
+abbrev pub IsEffect : Result Answer Failure → World → CommandEffect → Type 0
 IsEffect (Ok answer) world effect = record { world = world; reply = said answer } ≡ effect
 IsEffect (Err failure) world effect = (failure ≡ out_of_memory) ⊎ (record { world = world; reply = declined failure } ≡ effect)
 
@@ -21,10 +21,10 @@ sent_answer (Ok number) = Ok (Sent number)
 sent_answer (Err fault) = Err (world_failure fault)
 
 -- the effect's world is left, and its answer was appended; or nothing was, and the failure is why there is no answer; or memory ran out
-abbrev pub IsDone : World → List ℕ → List ℕ → Effect → Result (Unit {0}) Failure → Type 0
+abbrev pub IsDone : World → List ℕ → List ℕ → CommandEffect → Result (Unit {0}) Failure → Type 0
 IsDone world old new effect (Ok done) = (world ≡ effect.world) × ((text : List ℕ) × IsAnswerText effect.reply text × (new ≡ old ++ text))
 IsDone world old new effect (Err failure) = (failure ≡ out_of_memory) ⊎ ((world ≡ effect.world) × Declines effect.reply failure × (new ≡ old))
 
 -- whatever effect a call has, that effect is done
-abbrev pub Does : Result Answer Failure → List ℕ → List ℕ → Result (Unit {0}) Failure → Type 0
-Does outcome old new result = (world : World) (effect : Effect) → IsEffect outcome world effect → IsDone world old new effect result
+abbrev pub DoesCall : Result Answer Failure → List ℕ → List ℕ → Result (Unit {0}) Failure → Type 0
+DoesCall outcome old new result = (world : World) (effect : CommandEffect) → IsEffect outcome world effect → IsDone world old new effect result

@@ -6,12 +6,12 @@ use Rattle.stn_records.specs.Id.{most_sites}
 use Rattle.stn_text.specs.{Lines.{is_line_end, lines_of, words_of}, Numbers.number_of}
 use Rattle.stn_world.specs.World.{World, opening_world}
 use Rattle.stn_command.specs.Words.{and_then}
-use Rattle.stn_exec.specs.{Effect.{Reply, declined, Effect, refusing, command_effect}, Command.{Command, command_of}, Blocks.{Block, is_alone, block_from}}
+use Rattle.stn_exec.specs.{Effect.{CommandReply, declined, CommandEffect, refusing, command_effect}, Command.{Command, command_of}, Blocks.{Block, is_alone, block_from}}
 
 -- what running lines leaves, replies, and how many commands it counts
 pub record Outcome : Type 0 where
   pub world : World
-  pub replies : List Reply
+  pub replies : List CommandReply
   pub commands : ℕ
 
 -- no line is run
@@ -27,7 +27,7 @@ followed_by first next = record {
 }
 
 -- a line that is a command, or has another form
-abbrev pub form_effect : ℕ → World → Option Command → Effect
+abbrev pub form_effect : ℕ → World → Option Command → CommandEffect
 form_effect number world None = refusing world (refused_at Line number)
 form_effect number world (Some command) = command_effect world command
 
@@ -37,11 +37,11 @@ is_skipped [] = true
 is_skipped (word ∷ words) = slice_index word 0 == 35
 
 -- what a line that is not skipped does
-unfoldable pub line_effect : ℕ → World → List (List ℕ) → Effect
+unfoldable pub line_effect : ℕ → World → List (List ℕ) → CommandEffect
 line_effect number world words = form_effect number world (command_of (events_of world.source) words)
 
 -- a command is counted, and prints its reply
-abbrev pub effect_outcome : Effect → Outcome
+abbrev pub effect_outcome : CommandEffect → Outcome
 effect_outcome effect = record {
   world = effect.world;
   replies = effect.reply ∷ [];
@@ -91,9 +91,9 @@ part_with found None = Err (refused_at Line found.number)
 part_with found (Some value) = Ok (record { value = value; found = found })
 
 -- a part of the heading; where the script ends before it, the refusal names the last line
-abbrev pub part_of : ℕ → List ℕ → Option Found → Result Part Failure
-part_of last name None = Err (refused_at Line last)
-part_of last name (Some found) = part_with found (heading_number name found.words)
+abbrev pub heading_part : ℕ → List ℕ → Option Found → Result Part Failure
+heading_part last name None = Err (refused_at Line last)
+heading_part last name (Some found) = part_with found (heading_number name found.words)
 
 -- there is a site, and no more than the most
 abbrev pub sites_of : ℕ → Result ℕ Failure
@@ -161,7 +161,7 @@ based last lines = first_part last (next_line 1 lines)
 -- the second part: the number of sites
 unfoldable pub with_sites : ℕ → Based → Result Start Failure
 with_sites last base =
-    and_then (part_of last (codes "sites") (next_line base.number base.lines)) (λ sites.
+    and_then (heading_part last (codes "sites") (next_line base.number base.lines)) (λ sites.
     and_then (sites_of sites.value) (λ count.
     Ok (record { source = base.source; sites = count; number = sites.found.number + 1; lines = sites.found.behind })))
 

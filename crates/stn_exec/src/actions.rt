@@ -2,7 +2,7 @@ ghost use Rattle.std.specs.Prelude.{◌≡◌, Ok, IfOk};
 ghost use Rattle.stn_text.specs.Lines.{words_of};
 ghost use Rattle.stn_world.specs.{World.{HasSite, content_at, next_id_at}, Steps.IsStep};
 ghost use Rattle.stn_command.specs.{Change.made_by, Dispatch.every_event, Query.{foresee, seen_query as asked_of}, Words.{and_then, time_read}};
-ghost use Rattle.stn_exec.specs.{Command.{change, send_items, query}, Effect.{change_step, telling, action_effect}, Running.{seen_change, seen_query}, Saying.{IsEffect, IsDone, call_answer, sent_answer}};
+ghost use Rattle.stn_exec.specs.{Command.{change, send_items, query}, Effect.{change_step, telling, action_effect}, Running.{seen_change, seen_query_words}, Saying.{IsEffect, IsDone, call_answer, sent_answer}};
 
 use crate::answer::Answer;
 use crate::command::{ChangeWords, QueryWords, read_records, read_tombstones};
@@ -99,7 +99,7 @@ pub fn tell<A: Allocator + Copy>(
     out: &mut Vec<u8, A>,
 ) -> Result<(), Failure>
     requires { HasSite world.now site }
-    ensures { IsDone world.now out.old.items out.new.items (action_effect world.now site (query (seen_query words.now))) result }
+    ensures { IsDone world.now out.old.items out.new.items (action_effect world.now site (query (seen_query_words words.now))) result }
 {
     match *words {
         QueryWords::Report => tell_asked(world, site, &Query::Report, out),

@@ -1,7 +1,7 @@
 ghost use Rattle.std.specs.{Prelude.{◌≡◌, ◌+◌, ◌^◌, ◌<◌, ◌≤◌, ◌∷◌, true, false, length, min, Ok, IfSome, IfNone, IfOk, IfErr, codes}, Option.option_map};
 ghost use Rattle.stn_text.specs.Lines.{lines_of, words_of};
 ghost use Rattle.stn_lift.specs.PlanSource.{bare, files, plan_source, base_of};
-ghost use Rattle.stn_exec.specs.{Blocks.{is_alone, block_from}, Heading.{seen_found, seen_part, seen_block, result_seen, IsOpened, IsHeadingFailure, IsMade, IsRead}, Script.{is_skipped, next_line, heading_number, part_of, refusing_fault, block_at, named_block, bare_part, files_part, based, heading_of}};
+ghost use Rattle.stn_exec.specs.{Blocks.{is_alone, block_from}, Heading.{seen_found, seen_part, seen_block, result_seen, IsOpened, IsHeadingFailure, IsMade, IsRead}, Script.{is_skipped, next_line, heading_number, heading_part, refusing_fault, block_at, named_block, bare_part, files_part, based, heading_of}};
 
 use std::alloc::Allocator;
 use std::rc::Rc;
@@ -245,7 +245,7 @@ fn read_part<'a>(
     text: &'a [u8],
 ) -> Result<HeadingPart<'a>, Failure>
     requires { number + length text.now < 2 ^ 32 }
-    ensures part { result_seen seen_part result ≡ part_of last name.now (next_line number (lines_of text.now)) }
+    ensures part { result_seen seen_part result ≡ heading_part last name.now (next_line number (lines_of text.now)) }
     ensures within { IfOk result (λ part. part.found.number + 1 + length part.found.behind.now ≤ number + length text.now) }
 {
     match find_line(number, text) {

@@ -3,7 +3,7 @@ ghost use Rattle.stn_device.specs.{Counted.{counted_device, failure_count, Keeps
 ghost use Rattle.stn_text.specs.Lines.{lines_of, words_of};
 ghost use Rattle.stn_refusal.specs.declared.failure.Failure.TheVariants.{Refused};
 ghost use Rattle.stn_world.specs.World.{HasSite};
-ghost use Rattle.stn_exec.specs.{Effect.{action_effect, command_effect}, Output.{CountsRefusals, WritesOutput, WritesOutputPart}, Running.{seen_action, seen_command, IsReplied, IsRun}, Saying.{IsDone, Does}, Script.{line_effect, line_outcome, lines_outcome, started, script_outcome, last_line}, declared.script.RunFault.TheVariants.{Read, Write, Bound, Memory}, Failures.run_failure};
+ghost use Rattle.stn_exec.specs.{Effect.{action_effect, command_effect}, Output.{CountsRefusals, WritesOutput, WritesOutputPart}, Running.{seen_action, seen_command, IsReplied, IsRun}, Saying.{IsDone, DoesCall}, Script.{line_effect, line_outcome, lines_outcome, started, script_outcome, last_line}, declared.script.RunFault.TheVariants.{Read, Write, Bound, Memory}, Failures.run_failure};
 
 use crate::actions::{answered, change, send, sent, tell};
 use crate::answer::Answer;
@@ -217,7 +217,7 @@ fn print_answer<A: Allocator>(
     outcome: Result<Answer, Failure>,
     out: &mut Vec<u8, A>,
 ) -> Result<(), Failure>
-    ensures { Does outcome out.old.items out.new.items result }
+    ensures { DoesCall outcome out.old.items out.new.items result }
 {
     let answer = outcome?;
     answer.print(out)?;

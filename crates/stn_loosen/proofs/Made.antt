@@ -3,13 +3,13 @@ use Rattle.std.{proofs.{Common.{◌≡◌, ℕ, ℤ, ◌+◌, ◌<◌, ◌≤◌
 use Rattle.stn_net.specs.{Difference.Difference, Horizon.horizon_bounds, Schedule.{Meets, IsSchedule, HasSchedule}, Matrix.Table.Table}
 use Rattle.stn_records.specs.Content.{most_known}
 use Rattle.stn_replica.proofs.Schedules.{schedule_before, met_behind, schedule_with}
-use Rattle.stn_loosen.{specs.{Slack.{Slack, loose}, Loosened.{Imply, AreKept}, Making.{all_bounds, AreTaken, IsNext, IsCauseOf, IsCauseWith}, declared.fault.LoosenFault.{LoosenFault, TheVariants.{Full, NotRobust, Memory}}}, proofs.Kept.{AreKept-push, kept_hold}}
+use Rattle.stn_loosen.{specs.{Slack.{Slack, loose}, Loosened.{Imply, AreKept}, Making.{made_bounds, AreTaken, IsOneMore, IsCauseOf, IsCauseWith}, declared.fault.LoosenFault.{LoosenFault, TheVariants.{Full, NotRobust, Memory}}}, proofs.Kept.{AreKept-push, kept_hold}}
 
 -- with a schedule of records and more, the records have one
-pub front_schedule : (events : ℕ) (records more : List Difference) → HasSchedule (all_bounds events (records ++ more)) → HasSchedule (all_bounds events records)
+pub front_schedule : (events : ℕ) (records more : List Difference) → HasSchedule (made_bounds events (records ++ more)) → HasSchedule (made_bounds events records)
 front_schedule events records more s = (
   s.0,
-  schedule_before (all_bounds events records) more s.0 (subst (λ l. IsSchedule l s.0) (sym (append_assoc (horizon_bounds events) records more)) s.1),
+  schedule_before (made_bounds events records) more s.0 (subst (λ l. IsSchedule l s.0) (sym (append_assoc (horizon_bounds events) records more)) s.1),
 )
 
 -- after the first durations the next one is made
@@ -23,21 +23,21 @@ module _ (slack : Slack) (old durations : List Difference) (place : ℕ) (durati
       ∙ ap (λ l. old ++ l) (ap (λ b. map (loose slack) (take place durations) ++ b ∷ []) next ∙ sym (map_more (loose slack) durations place duration within))
 
   pub duration_possible : (events other : ℕ) (records : List Difference) → other ≡ events → records ≡ old ++ map (loose slack) (take place durations)
-      → HasSchedule (all_bounds events (old ++ map (loose slack) durations)) → HasSchedule (all_bounds other (records ++ bound ∷ []))
+      → HasSchedule (made_bounds events (old ++ map (loose slack) durations)) → HasSchedule (made_bounds other (records ++ bound ∷ []))
   duration_possible events other records same made possible =
       let parts : map (loose slack) durations ≡ map (loose slack) (take (place + 1) durations) ++ map (loose slack) (drop (place + 1) durations) =
       ap (map (loose slack)) (sym (take-append-drop (place + 1) durations)) ∙ map-append (loose slack) (take (place + 1) durations) (drop (place + 1) durations) in
       let whole : old ++ map (loose slack) durations ≡ (records ++ bound ∷ []) ++ map (loose slack) (drop (place + 1) durations) =
       ap (λ l. old ++ l) parts ∙ sym (append_assoc old (map (loose slack) (take (place + 1) durations)) (map (loose slack) (drop (place + 1) durations)))
       ∙ ap (λ l. l ++ map (loose slack) (drop (place + 1) durations)) (sym (made_more records made)) in
-      subst (λ n. HasSchedule (all_bounds n (records ++ bound ∷ []))) (sym same)
-      (front_schedule events (records ++ bound ∷ []) (map (loose slack) (drop (place + 1) durations)) (subst (λ l. HasSchedule (all_bounds events l)) whole possible))
+      subst (λ n. HasSchedule (made_bounds n (records ++ bound ∷ []))) (sym same)
+      (front_schedule events (records ++ bound ∷ []) (map (loose slack) (drop (place + 1) durations)) (subst (λ l. HasSchedule (made_bounds events l)) whole possible))
 
 -- the first orders were looked at: the records are the old ones and those of the orders that are kept
 pub record IsMadeTo (old orders : List Difference) (first : Table) (place : ℕ) (records : List Difference) (table : Table) : Type 0 where
   pub kept : List Difference
   pub made : records ≡ old ++ kept
-  pub chosen : AreKept (all_bounds first.events old) (take place orders) kept
+  pub chosen : AreKept (made_bounds first.events old) (take place orders) kept
   pub taken : AreTaken records table
   pub events : table.events ≡ first.events
   pub few : length records ≤ most_known
@@ -48,33 +48,33 @@ module _ (old orders : List Difference) (first : Table) (place : ℕ) (records :
   more = take_more orders place order within ∙ ap (λ b. take place orders ++ b ∷ []) (sym here)
 
   -- the bounds so far, as those of before and of the orders kept
-  whole : all_bounds table.events records ≡ all_bounds first.events old ++ sofar.kept
-  whole = ap (λ n. all_bounds n records) sofar.events ∙ ap (all_bounds first.events) sofar.made ∙ sym (append_assoc (horizon_bounds first.events) old sofar.kept)
+  whole : made_bounds table.events records ≡ made_bounds first.events old ++ sofar.kept
+  whole = ap (λ n. made_bounds n records) sofar.events ∙ ap (made_bounds first.events) sofar.made ∙ sym (append_assoc (horizon_bounds first.events) old sofar.kept)
 
-  pub order_possible : HasSchedule (all_bounds first.events (old ++ orders)) → HasSchedule (all_bounds table.events (records ++ order ∷ []))
+  pub order_possible : HasSchedule (made_bounds first.events (old ++ orders)) → HasSchedule (made_bounds table.events (records ++ order ∷ []))
   order_possible possible =
       let time : ℕ → ℤ = possible.0 in
-      let s : IsSchedule (all_bounds first.events old ++ orders) time = subst (λ l. IsSchedule l time) (sym (append_assoc (horizon_bounds first.events) old orders)) possible.1 in
-      let met : All (Meets time) orders = met_behind (all_bounds first.events old) orders time s in
+      let s : IsSchedule (made_bounds first.events old ++ orders) time = subst (λ l. IsSchedule l time) (sym (append_assoc (horizon_bounds first.events) old orders)) possible.1 in
+      let met : All (Meets time) orders = met_behind (made_bounds first.events old) orders time s in
       let seen : AllByRecursion (Meets time) (take place orders) = recursion_from_All (Meets time) (take place orders) (All-take (Meets time) place orders met) in
       let kept : All (Meets time) sofar.kept =
-      All-from_recursion (Meets time) sofar.kept (kept_hold (Meets time) (all_bounds first.events old) (take place orders) sofar.kept sofar.chosen seen) in
+      All-from_recursion (Meets time) sofar.kept (kept_hold (Meets time) (made_bounds first.events old) (take place orders) sofar.kept sofar.chosen seen) in
       let one : Meets time order = subst (Meets time) (sym here) (met place order within) in
-      let before : IsSchedule (all_bounds first.events old ++ sofar.kept) time = schedule_with (all_bounds first.events old) sofar.kept time (schedule_before (all_bounds first.events old) orders time s) kept in
-      let all : IsSchedule (all_bounds table.events records ++ order ∷ []) time =
-      schedule_with (all_bounds table.events records) (order ∷ []) time (subst (λ l. IsSchedule l time) (sym whole) before) (All-from_recursion (Meets time) (order ∷ []) (one, tt)) in
+      let before : IsSchedule (made_bounds first.events old ++ sofar.kept) time = schedule_with (made_bounds first.events old) sofar.kept time (schedule_before (made_bounds first.events old) orders time s) kept in
+      let all : IsSchedule (made_bounds table.events records ++ order ∷ []) time =
+      schedule_with (made_bounds table.events records) (order ∷ []) time (subst (λ l. IsSchedule l time) (sym whole) before) (All-from_recursion (Meets time) (order ∷ []) (one, tt)) in
       (time, subst (λ l. IsSchedule l time) (append_assoc (horizon_bounds table.events) records (order ∷ [])) all)
 
-  pub order_made : (next : List Difference) (new : Table) → IsNext table.events records order next → AreTaken next new → length next ≤ most_known → new.events ≡ table.events
+  pub order_made : (next : List Difference) (new : Table) → IsOneMore table.events records order next → AreTaken next new → length next ≤ most_known → new.events ≡ table.events
       → IsMadeTo old orders first (place + 1) next new
   order_made next new is taken few events =
-      let push = AreKept-push (all_bounds first.events old) (take place orders) sofar.kept order sofar.chosen in
+      let push = AreKept-push (made_bounds first.events old) (take place orders) sofar.kept order sofar.chosen in
       ⊎_elim
       (λ p.
       let made : IsMadeTo old orders first (place + 1) next new = record {
         kept = sofar.kept;
         made = p.1 ∙ sofar.made;
-        chosen = subst (λ l. AreKept (all_bounds first.events old) l sofar.kept) (sym more) (push.0 (subst (λ l. Imply l order) whole p.0));
+        chosen = subst (λ l. AreKept (made_bounds first.events old) l sofar.kept) (sym more) (push.0 (subst (λ l. Imply l order) whole p.0));
         taken = taken;
         events = events ∙ sofar.events;
         few = few;
@@ -83,7 +83,7 @@ module _ (old orders : List Difference) (first : Table) (place : ℕ) (records :
       let made : IsMadeTo old orders first (place + 1) next new = record {
         kept = sofar.kept ++ order ∷ [];
         made = p.1 ∙ ap (λ l. l ++ order ∷ []) sofar.made ∙ append_assoc old sofar.kept (order ∷ []);
-        chosen = subst (λ l. AreKept (all_bounds first.events old) l (sofar.kept ++ order ∷ [])) (sym more)
+        chosen = subst (λ l. AreKept (made_bounds first.events old) l (sofar.kept ++ order ∷ [])) (sym more)
             (push.1 (λ implied. p.0 (subst (λ l. Imply l order) (sym whole) implied)));
         taken = taken;
         events = events ∙ sofar.events;
@@ -93,13 +93,13 @@ module _ (old orders : List Difference) (first : Table) (place : ℕ) (records :
 
   pub order_refused : (fault : LoosenFault) → IsCauseOf table.events records order fault → IsCauseWith first.events old orders fault
   order_refused Full p =
-      let push = AreKept-push (all_bounds first.events old) (take place orders) sofar.kept order sofar.chosen in
+      let push = AreKept-push (made_bounds first.events old) (take place orders) sofar.kept order sofar.chosen in
       record {
         first = take (place + 1) orders;
         others = drop (place + 1) orders;
         parts = sym (take-append-drop (place + 1) orders);
         kept = sofar.kept ++ order ∷ [];
-        chosen = subst (λ l. AreKept (all_bounds first.events old) l (sofar.kept ++ order ∷ [])) (sym more)
+        chosen = subst (λ l. AreKept (made_bounds first.events old) l (sofar.kept ++ order ∷ [])) (sym more)
             (push.1 (λ implied. p.0 (subst (λ l. Imply l order) (sym whole) implied)));
         many = omega (arith, p.1, ap length sofar.made, length-append old sofar.kept, length-append sofar.kept (order ∷ []), length-append old (sofar.kept ++ order ∷ []));
       }

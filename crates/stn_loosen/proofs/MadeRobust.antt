@@ -2,7 +2,7 @@
 use Rattle.std.{specs.{Prelude.{All, OnOk, Result, Ok, Err}, List.AllByRecursion}, proofs.{Common.{◌≡◌, ℕ, List, [], ◌∷◌, ◌++◌, length, take, drop, refl, sym, ap, subst, ◌∙◌, append_assoc}, lemmas.List.{take_at, drop_at, length-map, Elements.{All-append, All-from_recursion}}}}
 use Rattle.stn_net.specs.{Difference.{Difference, NamesEvents}, Horizon.horizon_bounds, Schedule.HasSchedule}
 use Rattle.stn_lift.specs.PlanSource.{PlanSource, events_of, IsSoundSource}
-use Rattle.stn_loosen.{specs.{declared.fault.LoosenFault.{LoosenFault, TheVariants.{Full, NotRobust, Memory}}, Slack.{Slack, IsSlack, loose}, Moved.moved_bounds, Robust.{loose_bounds, HasPromise, AreRobust}, Making.all_bounds, Stepped.{AreSteps, AreMadeBehind, IsCauseBehind}, Whole.{IsMadeRobust, IsCauseAfter}, Loosened.{durations_of, AreKept, AreLoosened, bounds_with, loose_durations}}, proofs.{Kept.kept_hold, Sides.{upper_named, lower_named}, Steps.source_steps, Robustness.{sources_moved, moved_possible, records_promise}, Settings.{IsMetIn, each_weaker}}}
+use Rattle.stn_loosen.{specs.{declared.fault.LoosenFault.{LoosenFault, TheVariants.{Full, NotRobust, Memory}}, Slack.{Slack, IsSlack, loose}, Moved.moved_bounds, Robust.{loose_bounds, HasPromise, AreRobust}, Making.made_bounds, Stepped.{AreSteps, AreMadeBehind, IsCauseBehind}, Whole.{IsMadeRobust, IsCauseAfter}, Loosened.{durations_of, AreKept, AreLoosened, bounds_with, loose_durations}}, proofs.{Kept.kept_hold, Sides.{upper_named, lower_named}, Steps.source_steps, Robustness.{sources_moved, moved_possible, records_promise}, Settings.{IsMetIn, each_weaker}}}
 
 -- the durations and the other bounds of the loosened plan, as robust loosening takes them
 pub record AreParted (source : PlanSource) (slack : Slack) (loosened : List Difference) (events : ℕ) (durations bounds : List Difference) : Type 0 where
@@ -47,22 +47,22 @@ module _ {source : PlanSource} {slack : Slack} {loosened : List Difference} {eve
       are_loosened = p.are;
       moved = made.0;
       whole = made.1;
-      chosen = subst (λ n. AreKept (all_bounds n loosened) (moved_bounds (loose_durations slack source) (p.are.made.kept ++ horizon_bounds (events_of source))) made.0) p.same
-          (subst (λ l. AreKept (all_bounds events loosened) l made.0) sides made.2);
+      chosen = subst (λ n. AreKept (made_bounds n loosened) (moved_bounds (loose_durations slack source) (p.are.made.kept ++ horizon_bounds (events_of source))) made.0) p.same
+          (subst (λ l. AreKept (made_bounds events loosened) l made.0) sides made.2);
     };
     behind = refl;
   }
 
-  pub made_promise : (records : List Difference) → HasSchedule (all_bounds events records) → AreMadeBehind events loosened (moved_bounds durations bounds) records → HasPromise source slack
+  pub made_promise : (records : List Difference) → HasSchedule (made_bounds events records) → AreMadeBehind events loosened (moved_bounds durations bounds) records → HasPromise source slack
   made_promise records possible made =
       let made_of = made_robust records made in
-      (records_promise source p.sound slack p.slack_is records made_of.are_robust).1 (subst (λ n. HasSchedule (all_bounds n records)) p.same possible)
+      (records_promise source p.sound slack p.slack_is records made_of.are_robust).1 (subst (λ n. HasSchedule (made_bounds n records)) p.same possible)
 
   pub cause_after : (fault : LoosenFault) → IsCauseBehind events loosened (moved_bounds durations bounds) fault → IsCauseAfter source slack fault
   cause_after Full none = none
   cause_after NotRobust none = λ promise.
       let s = moved_possible source p.sound slack p.slack_is p.are.orders loosened p.are.sorted.same p.are.made promise in
-      none (subst (λ n. HasSchedule (all_bounds n (loosened ++ moved_bounds durations bounds))) (sym p.same)
+      none (subst (λ n. HasSchedule (made_bounds n (loosened ++ moved_bounds durations bounds))) (sym p.same)
       (subst (λ l. HasSchedule (bounds_with source (loosened ++ l))) (sym sides)
       (subst (λ l. HasSchedule l) (append_assoc (horizon_bounds (events_of source)) loosened (moved_bounds (loose_durations slack source) (p.are.made.kept ++ horizon_bounds (events_of source)))) s)))
   cause_after Memory none = tt

@@ -4,7 +4,7 @@ use Rattle.stn_net.specs.Difference.{Difference}
 use Rattle.stn_lift.specs.PlanSource.{PlanSource, bare, base_bounds, steps_of}
 use Rattle.stn_records.specs.{Id.{SiteCounter, id_cmp}, declared.record.Record.Record, ContentLaws.ids_total, Content.{Content, no_content, RecordMap, IdSet, with_record, with_ids, replaced_set, is_replaced, known_ids, next_counter, greatest_counter, same_ids, known_count, most_known}}
 use Rattle.stn_site.{proofs.Refused.next_counted, specs.{declared.faults.ReplicaFault.TheVariants.Full, Held.{Held, plain}, Refusals.next_refusal, Bounds.{bounds_of, live_bounds, all_bounds}}}
-use Rattle.stn_loosen.specs.{Loosened.bounds_with, Numbered.{numbered, Holds}}
+use Rattle.stn_loosen.specs.{Loosened.bounds_with, Numbered.{numbered, HoldsNumbered}}
 
 -- a key that comes after all others is put last
 put_last : {K X : Type 0} (R : K → K → Ordering) (key : K) (value : X) (es : List (K × X)) → AllByRecursion (λ e. R key e.0 ≡ Greater) es → put R key value es ≡ es ++ (key, value) ∷ []
@@ -52,10 +52,10 @@ known_alone additions =
     ∙ ap (λ (es : List (SiteCounter × Unit {0})). map (λ (e : SiteCounter × Record). e.0) (entries additions) ++ map (λ e. e.0) es) (no_entries id_cmp)
     ∙ append-nil (map (λ (e : SiteCounter × Record). e.0) (entries additions))
 
-known_of : (site : ℕ) (bounds : List Difference) (state : Content) → Holds site bounds state → known_ids state ≡ map (λ (e : SiteCounter × Record). e.0) (numbered site 1 bounds)
+known_of : (site : ℕ) (bounds : List Difference) (state : Content) → HoldsNumbered site bounds state → known_ids state ≡ map (λ (e : SiteCounter × Record). e.0) (numbered site 1 bounds)
 known_of site bounds state holds = ap known_ids holds.alone ∙ known_alone state.additions ∙ ap (map (λ (e : SiteCounter × Record). e.0)) holds.records
 
-pub next_of : (site : ℕ) (bounds : List Difference) (state : Content) → Holds site bounds state → next_counter state site ≡ length bounds + 1
+pub next_of : (site : ℕ) (bounds : List Difference) (state : Content) → HoldsNumbered site bounds state → next_counter state site ≡ length bounds + 1
 next_of site bounds state holds =
     let known = known_of site bounds state holds in
     let greatest = greatest_numbered site 0 bounds in
@@ -67,32 +67,32 @@ length-numbered site counter [] = refl
 length-numbered site counter (bound ∷ bounds) = let rest = length-numbered site (counter + 1) bounds in omega (arith, rest)
 
 -- a site that holds fewer bounds than it may can make one more record
-pub next_passes : (held : Held) (bounds : List Difference) → Holds held.site bounds held.state → length bounds < most_known → next_refusal held ≡ None
+pub next_passes : (held : Held) (bounds : List Difference) → HoldsNumbered held.site bounds held.state → length bounds < most_known → next_refusal held ≡ None
 next_passes held bounds holds few =
     let next = next_of held.site bounds held.state holds in
     let most = distinct_count-le same_ids (known_ids held.state) in
     let known = ap length (known_of held.site bounds held.state holds) ∙ length-numbered held.site 1 bounds in
     next_counted held (omega (arith, next)) ∙ ap (λ b. then_some b Full) (ne_eqb (known_count held.state) most_known (λ same. omega (arith, same, most, known)))
 
-pub holds_none : (site : ℕ) (state : Content) → state ≡ no_content → Holds site [] state
-holds_none site state is = subst (Holds site []) (sym is) (record { records = no_entries id_cmp; alone = refl })
+pub holds_none : (site : ℕ) (state : Content) → state ≡ no_content → HoldsNumbered site [] state
+holds_none site state is = subst (HoldsNumbered site []) (sym is) (record { records = no_entries id_cmp; alone = refl })
 
 -- one record more
-pub holds_more : (site : ℕ) (bounds : List Difference) (bound : Difference) (old new : Content) → Holds site bounds old
-    → new ≡ with_record old (record { site = site; counter = next_counter old site }) (plain bound) → Holds site (bounds ++ bound ∷ []) new
+pub holds_more : (site : ℕ) (bounds : List Difference) (bound : Difference) (old new : Content) → HoldsNumbered site bounds old
+    → new ≡ with_record old (record { site = site; counter = next_counter old site }) (plain bound) → HoldsNumbered site (bounds ++ bound ∷ []) new
 holds_more site bounds bound old new holds is =
     let next = next_of site bounds old holds in
     let same : next_counter old site ≡ 1 + length bounds = omega (arith, next) in
     let id : SiteCounter = record { site = site; counter = 1 + length bounds } in
     let made : new ≡ with_record old id (plain bound) = is ∙ ap (λ n. with_record old (record { site = site; counter = n }) (plain bound)) same in
-    let holds_now : Holds site (bounds ++ bound ∷ []) (with_record old id (plain bound)) = record {
+    let holds_now : HoldsNumbered site (bounds ++ bound ∷ []) (with_record old id (plain bound)) = record {
       records = entries-insert ids_total old.additions id (plain bound)
           ∙ ap (put id_cmp id (plain bound)) holds.records
           ∙ put_last id_cmp id (plain bound) (numbered site 1 bounds) (all_before site 1 (1 + length bounds) bounds (omega arith))
           ∙ sym (numbered-push site 1 bounds bound);
       alone = ap (λ (s : Content). with_record s id (plain bound)) holds.alone;
     } in
-    subst (Holds site (bounds ++ bound ∷ [])) (sym made) holds_now
+    subst (HoldsNumbered site (bounds ++ bound ∷ [])) (sym made) holds_now
 
 -- all are live, in their order
 all_pass : {X : Type 0} (test : X → Bool) → ((x : X) → test x ≡ true) → (xs : List X) → filter test xs ≡ xs
@@ -110,7 +110,7 @@ live_alone additions =
     (λ e. ap (λ (set : IdSet). not (contains_key set e.0)) (none_replaced additions) ∙ ap (λ o. not (is_some o)) (get-empty id_cmp e.0)) (entries additions))
 
 -- so all bounds are those of the bare plan and of the records
-pub all_are : (source : PlanSource) (site : ℕ) (bounds : List Difference) (state : Content) → Holds site bounds state → all_bounds (bare (steps_of source)) state ≡ bounds_with source bounds
+pub all_are : (source : PlanSource) (site : ℕ) (bounds : List Difference) (state : Content) → HoldsNumbered site bounds state → all_bounds (bare (steps_of source)) state ≡ bounds_with source bounds
 all_are source site bounds state holds =
     ap (λ l. base_bounds (bare (steps_of source)) ++ l)
     (ap live_bounds holds.alone ∙ live_alone state.additions ∙ ap bounds_of holds.records ∙ numbered_bounds site 1 bounds)

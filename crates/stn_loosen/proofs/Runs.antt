@@ -2,7 +2,7 @@
 use Rattle.std.{proofs.{Common.{◌≡◌, ◌≢◌, ℕ, ℤ, pos, ◌-ℤ◌, ◌≤ℤ◌, Bool, true, false, cond, eqb, find, List, [], ◌∷◌, ◌++◌, Option, Some, None, refl, sym, ap, subst, ◌∙◌, arith, All}, lemmas.{Bool.Decides.nat_tests, Int.ints, List.Elements.{All-from_recursion, recursion_from_All, All-contains}}}, specs.{Prelude.{◌↔◌, unwrap_or, Contains}, List.AllByRecursion}}
 use Rattle.stn_replica.proofs.Schedules.{schedule_before, schedule_with, met_behind}
 use Rattle.stn_net.specs.{Difference.Difference, Schedule.{Meets, IsSchedule, HasSchedule}, Windows.Window.IsInWindow}
-use Rattle.stn_loosen.{specs.{Promise.{still, setting_of, Keeps, Promises}, Run.{Execution, executed_bounds, MayCome, IsRun}}, proofs.Settings.{keeps_itself, each_weaker}}
+use Rattle.stn_loosen.{specs.{Promise.{still, setting_of, Keeps, Promises}, Run.{Execution, executed_bounds, MayCome, IsExecution}}, proofs.Settings.{keeps_itself, each_weaker}}
 
 -- each schedule of the bounds meets the durations, and is a promise
 pub record IsRobust (durations bounds : List Difference) : Type 0 where
@@ -87,7 +87,7 @@ module _ (durations bounds : List Difference) (robust : IsRobust durations bound
   one_more run last new s None is within = (within.0, came_more run last within.0 within.1 within.2)
 
   -- a run always has a schedule
-  pub run_possible : HasSchedule bounds → (run : List Execution) → IsRun durations bounds run → HasSchedule (bounds ++ executed_bounds run)
+  pub run_possible : HasSchedule bounds → (run : List Execution) → IsExecution durations bounds run → HasSchedule (bounds ++ executed_bounds run)
   run_possible possible [] none = (possible.0, came_schedule bounds [] possible.0 possible.1 tt)
   run_possible possible (last ∷ run) is = one_more run last is.1 (run_possible possible run is.0) (find (λ (d : Difference). eqb d.to last.event) durations) refl is.2
 

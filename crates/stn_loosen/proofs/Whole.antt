@@ -3,7 +3,7 @@ use Rattle.std.{proofs.{Common.{◌≡◌, ℕ, ◌≤◌, List, [], ◌++◌, l
 use Rattle.stn_net.specs.{Difference.{Difference, NamesEvents}, Schedule.{Meets, HasSchedule}}
 use Rattle.stn_lift.specs.PlanSource.{PlanSource, events_of, planned_of, IsSoundSource}
 use Rattle.stn_records.specs.Content.{most_known}
-use Rattle.stn_loosen.{specs.{declared.fault.LoosenFault.{LoosenFault, TheVariants.{Full, NotRobust, Memory}}, Slack.{Slack, IsSlack}, Faults.IsCause, Making.{all_bounds, IsCauseWith}, Loosened.{durations_of, orders_of, AreNearestFirst, AreKept, bounds_with, loose_durations, AreMadeOf}}, proofs.{Looser.{loose_schedule, orders_met, orders_named}, ThreeParts.few_durations}}
+use Rattle.stn_loosen.{specs.{declared.fault.LoosenFault.{LoosenFault, TheVariants.{Full, NotRobust, Memory}}, Slack.{Slack, IsSlack}, Faults.IsCause, Making.{made_bounds, IsCauseWith}, Loosened.{durations_of, orders_of, AreNearestFirst, AreKept, bounds_with, loose_durations, AreMadeOf}}, proofs.{Looser.{loose_schedule, orders_met, orders_named}, ThreeParts.few_durations}}
 
 module _ (source : PlanSource) (sound : IsSoundSource source) (slack : Slack) (is : IsSlack slack) where
   -- there is room for all durations, and they have a schedule
@@ -28,10 +28,10 @@ module _ (source : PlanSource) (sound : IsSoundSource source) (slack : Slack) (i
 
 module _ (source : PlanSource) (slack : Slack) (orders : List Difference) (events : ℕ) (before : List Difference) (many : events ≡ events_of source) (durations : before ≡ loose_durations slack source) where
   -- the bounds before the orders are those of the bare plan and the durations
-  front : all_bounds events before ≡ bounds_with source (loose_durations slack source)
-  front = ap (λ n. all_bounds n before) many ∙ ap (all_bounds (events_of source)) durations
+  front : made_bounds events before ≡ bounds_with source (loose_durations slack source)
+  front = ap (λ n. made_bounds n before) many ∙ ap (made_bounds (events_of source)) durations
 
-  pub made_of : (records : List Difference) → (kept : List Difference) × (records ≡ before ++ kept) × AreKept (all_bounds events before) orders kept → AreMadeOf source slack orders records
+  pub made_of : (records : List Difference) → (kept : List Difference) × (records ≡ before ++ kept) × AreKept (made_bounds events before) orders kept → AreMadeOf source slack orders records
   made_of records made = record {
     kept = made.0;
     whole = made.1 ∙ ap (λ l. l ++ made.0) durations;

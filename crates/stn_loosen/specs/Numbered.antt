@@ -10,10 +10,10 @@ numbered site counter [] = []
 numbered site counter (bound ∷ bounds) = (record { site = site; counter = counter }, plain bound) ∷ numbered site (counter + 1) bounds
 
 -- the state has the records of these bounds, numbered from 1, and nothing else
-pub record Holds (site : ℕ) (bounds : List Difference) (state : Content) : Type 0 where
+pub record HoldsNumbered (site : ℕ) (bounds : List Difference) (state : Content) : Type 0 where
   pub records : entries state.additions ≡ numbered site 1 bounds
   pub alone : state ≡ record no_content { additions = state.additions }
 
 -- the state has the records of such bounds
 abbrev pub HoldsSome : (List Difference → Type 0) → ℕ → Content → Type 0
-HoldsSome P site state = (bounds : List Difference) × P bounds × Holds site bounds state
+HoldsSome P site state = (bounds : List Difference) × P bounds × HoldsNumbered site bounds state

@@ -24,9 +24,9 @@ MayCome bounds run event time (Some duration) = Lasts run duration time
 MayCome bounds run event time None = IsInWindow (bounds ++ executed_bounds run) event time
 
 -- each event was executed once, when it might come
-abbrev pub IsRun : List Difference → List Difference → List Execution → Type 0
-IsRun durations bounds [] = Unit {0}
-IsRun durations bounds (last ∷ run) =
-    IsRun durations bounds run
+abbrev pub IsExecution : List Difference → List Difference → List Execution → Type 0
+IsExecution durations bounds [] = Unit {0}
+IsExecution durations bounds (last ∷ run) =
+    IsExecution durations bounds run
     × All (λ execution. execution.event ≢ last.event) run
     × MayCome bounds run last.event last.time (find (λ duration. duration.to == last.event) durations)

@@ -2,7 +2,7 @@
 use Rattle.std.specs.Prelude.{◌≡◌, ◌⊎◌, ℕ, ◌+◌, ◌*◌, pos, neg_ℤ, ◌≤ℤ◌, ◌++◌, List, [], ◌∷◌}
 use Rattle.stn_time.specs.Time.{horizon, IsWithinHorizon}
 use Rattle.stn_net.specs.{Difference.{Difference, IsBoundWithin}, Schedule.HasSchedule}
-use Rattle.stn_loosen.specs.{declared.{span.Span.Span, fault.LoosenFault.{LoosenFault, TheVariants.{Full, NotRobust, Memory}}}, Loosened.AreKept, Making.all_bounds}
+use Rattle.stn_loosen.specs.{declared.{span.Span.Span, fault.LoosenFault.{LoosenFault, TheVariants.{Full, NotRobust, Memory}}}, Loosened.AreKept, Making.made_bounds}
 
 -- the durations of steps one after the other, after so many others
 abbrev pub AreSteps : ℕ → List Difference → Type 0
@@ -14,11 +14,11 @@ abbrev pub as_bound : Span → Difference
 as_bound span = record { from = span.from; to = span.to; lo = span.lo; hi = span.hi }
 
 -- one side of it is open
-abbrev pub IsOpen : Difference → Type 0
-IsOpen bound = (bound.lo ≡ neg_ℤ horizon) ⊎ (bound.hi ≡ horizon)
+abbrev pub IsHalfOpen : Difference → Type 0
+IsHalfOpen bound = (bound.lo ≡ neg_ℤ horizon) ⊎ (bound.hi ≡ horizon)
 
 -- its sides lie within four times the horizon
-pub record IsInReach (bound : Difference) : Type 0 where
+pub record IsWithinReach (bound : Difference) : Type 0 where
   pub lo_least : neg_ℤ (pos 126144000000) ≤ℤ bound.lo
   pub lo_most : bound.lo ≤ℤ pos 126144000000
   pub hi_least : neg_ℤ (pos 126144000000) ≤ℤ bound.hi
@@ -32,12 +32,12 @@ pub record IsBoundOf (events : ℕ) (bound : Difference) : Type 0 where
 
 -- what was made of the sides of moved bounds: those that were not implied
 abbrev pub AreMadeBehind : ℕ → List Difference → List Difference → List Difference → Type 0
-AreMadeBehind events old sides new = (kept : List Difference) × (new ≡ old ++ kept) × AreKept (all_bounds events old) sides kept
+AreMadeBehind events old sides new = (kept : List Difference) × (new ≡ old ++ kept) × AreKept (made_bounds events old) sides kept
 
 -- why the sides can't be made: with them there is no schedule
 abbrev pub IsCauseBehind : ℕ → List Difference → List Difference → LoosenFault → Type 0
 IsCauseBehind events old sides Full = ⊥
-IsCauseBehind events old sides NotRobust = ¬ HasSchedule (all_bounds events (old ++ sides))
+IsCauseBehind events old sides NotRobust = ¬ HasSchedule (made_bounds events (old ++ sides))
 IsCauseBehind events old sides Memory = Unit {0}
 
 -- why no more is asked of these bounds

@@ -3,7 +3,7 @@ ghost use Rattle.stn_net.specs.{Difference.NamesEvents, Event.most_steps, Schedu
 ghost use Rattle.stn_lift.specs.{BaseBounds.KeepsOrder, PlanSource.{bare, steps_of, base_bounds, events_of, planned_of, interfere_in_plan}};
 ghost use Rattle.stn_records.specs.Content.{most_known, no_content, with_record};
 ghost use Rattle.stn_site.specs.{Held.{next_id, plain}, Bounds.all_bounds, Refusals.next_refusal};
-ghost use Rattle.stn_loosen.specs.{Loosened.{orders_of, loose_durations, bounds_with, Imply, AreFewLoosened}, Promise.Promises, Robust.{loose_bounds, HasPromise, AreFewRobust}, Faults.{IsCause, IsRobustCause}, Numbered.{Holds, HoldsSome}};
+ghost use Rattle.stn_loosen.specs.{Loosened.{orders_of, loose_durations, bounds_with, Imply, AreFewLoosened}, Promise.Promises, Robust.{loose_bounds, HasPromise, AreFewRobust}, Faults.{IsCause, IsRobustCause}, Numbered.{HoldsNumbered, HoldsSome}};
 
 use crate::fault::LoosenFault;
 use crate::plan::loosened;
@@ -86,7 +86,7 @@ fn plan_with<A: Allocator + Copy>(
     requires few { length bounds.now ≤ most_known }
     ensures site { IfOk result (λ plan. plan.site ≡ site) }
     ensures source { IfOk result (λ plan. plan.source ≡ bare (steps_of base.now)) }
-    ensures holds { IfOk result (λ plan. Holds site bounds.now plan.state) }
+    ensures holds { IfOk result (λ plan. HoldsNumbered site bounds.now plan.state) }
     ensures bounds { IfOk result (λ plan. all_bounds plan.source plan.state ≡ bounds_with base.now bounds.now) }
 {
     let mut plan = bare_site_plan(alloc, site, base.steps())?;

@@ -1,7 +1,7 @@
 ghost use Rattle.std.specs.Prelude.{◌≡◌, ◌≢◌, ◌↔◌, ◌-ℤ◌, ◌≤ℤ◌, ◌++◌, ℕ, ℤ, List, All, Contains};
 ghost use Rattle.stn_net.specs.{Difference.Difference, Horizon.horizon_bounds, Schedule.{IsSchedule, HasSchedule}, Windows.Window.IsInWindow};
 ghost use Rattle.stn_lift.specs.PlanSource.{PlanSource, events_of, IsSoundSource};
-ghost use Rattle.stn_loosen.specs.{Slack.{Slack, IsSlack}, Loosened.{orders_of, bounds_with, loose_durations, AreLoosened, AreFewLoosened, AreTooMany}, Promise.Promises, Moved.moved_bounds, Robust.{loose_bounds, HasPromise, AreRobust}, Run.{Execution, executed_bounds, IsRun}};
+ghost use Rattle.stn_loosen.specs.{Slack.{Slack, IsSlack}, Loosened.{orders_of, bounds_with, loose_durations, AreLoosened, AreFewLoosened, AreTooMany}, Promise.Promises, Moved.moved_bounds, Robust.{loose_bounds, HasPromise, AreRobust}, Run.{Execution, executed_bounds, IsExecution}};
 
 /// The law that a plan and a tolerance have one loosened plan.
 pub fn one_loosened_plan()
@@ -44,7 +44,7 @@ pub fn robust_plans_promise()
 /// The law that a run of a robust plan always has a schedule, whatever the durations: no such run ends in a conflict.
 pub fn robust_runs_complete()
     ensures { (source : PlanSource) → (slack : Slack) → (records : List Difference) → (run : List Execution) → IsSoundSource source → IsSlack slack
-        → AreRobust source slack records → HasPromise source slack → IsRun (loose_durations slack source) (bounds_with source records) run
+        → AreRobust source slack records → HasPromise source slack → IsExecution (loose_durations slack source) (bounds_with source records) run
         → HasSchedule (bounds_with source records ++ executed_bounds run) }
 {}
 
@@ -52,7 +52,7 @@ pub fn robust_runs_complete()
 /// its shortest and no later than its longest duration after the start, and may come at each time between.
 pub fn ends_have_their_durations()
     ensures { (source : PlanSource) → (slack : Slack) → (records : List Difference) → (run : List Execution) → IsSoundSource source → IsSlack slack
-        → AreRobust source slack records → HasPromise source slack → IsRun (loose_durations slack source) (bounds_with source records) run
+        → AreRobust source slack records → HasPromise source slack → IsExecution (loose_durations slack source) (bounds_with source records) run
         → (duration : Difference) → Contains (loose_durations slack source) duration
         → (start : ℤ) → Contains run (record { event = duration.from; time = start })
         → All (λ execution. execution.event ≢ duration.to) run

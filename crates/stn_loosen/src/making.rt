@@ -5,7 +5,7 @@ ghost use Rattle.std.specs.Prelude.{◌≡◌, ◌+◌, ◌≤◌, ◌↔◌, �
 ghost use Rattle.stn_net.specs.{Event.most_events, Difference.{Difference, NamesEvents}, Horizon.horizon_bounds, Schedule.HasSchedule};
 ghost use Rattle.stn_conflict.specs.Distances.{TellsWithin};
 ghost use Rattle.stn_records.specs.Content.{most_known};
-ghost use Rattle.stn_loosen.specs.{Slack.loose, Loosened.{Imply, AreKept}, Moved.moved_bounds, Stepped.{AreSteps, as_bound, IsInReach, IsOpen, AreMadeBehind, IsCauseBehind, IsCauseIn}, Making.{all_bounds, AreTaken, IsShown, IsSearched, IsNext, IsCauseAt, IsCauseOf, IsCauseWith}};
+ghost use Rattle.stn_loosen.specs.{Slack.loose, Loosened.{Imply, AreKept}, Moved.moved_bounds, Stepped.{AreSteps, as_bound, IsWithinReach, IsHalfOpen, AreMadeBehind, IsCauseBehind, IsCauseIn}, Making.{made_bounds, AreTaken, IsShown, IsSearched, IsOneMore, IsCauseAt, IsCauseOf, IsCauseWith}};
 
 use crate::fault::LoosenFault;
 use crate::span::{Span, moved_sides};
@@ -46,7 +46,7 @@ impl<A: Allocator + Copy> Making<A> {
         requires taken { AreTaken self.old.records.items self.old.matrix }
         requires named { All (NamesEvents self.old.matrix.events) durations.now }
         requires lasting { All (λ duration. pos 0 ≤ℤ duration.lo) durations.now }
-        requires possible { HasSchedule (all_bounds self.old.matrix.events (self.old.records.items ++ map (loose tolerance) durations.now)) }
+        requires possible { HasSchedule (made_bounds self.old.matrix.events (self.old.records.items ++ map (loose tolerance) durations.now)) }
         requires few { length self.old.records.items + length durations.now ≤ most_known }
         ensures made { OnOk result (self.new.records.items ≡ self.old.records.items ++ map (loose tolerance) durations.now) }
         ensures taken { OnOk result (AreTaken self.new.records.items self.new.matrix) }
@@ -63,10 +63,10 @@ impl<A: Allocator + Copy> Making<A> {
     pub fn make_orders(&mut self, orders: &[Bound]) -> Result<(), LoosenFault>
         requires taken { AreTaken self.old.records.items self.old.matrix }
         requires named { All (NamesEvents self.old.matrix.events) orders.now }
-        requires possible { HasSchedule (all_bounds self.old.matrix.events (self.old.records.items ++ orders.now)) }
+        requires possible { HasSchedule (made_bounds self.old.matrix.events (self.old.records.items ++ orders.now)) }
         requires few { length self.old.records.items ≤ most_known }
         ensures made { OnOk result ((kept : List Difference) × (self.new.records.items ≡ self.old.records.items ++ kept)
-            × AreKept (all_bounds self.old.matrix.events self.old.records.items) orders.now kept) }
+            × AreKept (made_bounds self.old.matrix.events self.old.records.items) orders.now kept) }
         ensures taken { OnOk result (AreTaken self.new.records.items self.new.matrix) }
         ensures few { OnOk result (length self.new.records.items ≤ most_known) }
         ensures events { self.new.matrix.events ≡ self.old.matrix.events }
@@ -82,9 +82,9 @@ impl<A: Allocator + Copy> Making<A> {
     fn make_order(&mut self, order: Bound) -> Result<(), LoosenFault>
         requires taken { AreTaken self.old.records.items self.old.matrix }
         requires named { NamesEvents self.old.matrix.events order }
-        requires possible { HasSchedule (all_bounds self.old.matrix.events (self.old.records.items ++ order ∷ [])) }
+        requires possible { HasSchedule (made_bounds self.old.matrix.events (self.old.records.items ++ order ∷ [])) }
         requires few { length self.old.records.items ≤ most_known }
-        ensures made { OnOk result (IsNext self.old.matrix.events self.old.records.items order self.new.records.items) }
+        ensures made { OnOk result (IsOneMore self.old.matrix.events self.old.records.items order self.new.records.items) }
         ensures taken { OnOk result (AreTaken self.new.records.items self.new.matrix) }
         ensures few { OnOk result (length self.new.records.items ≤ most_known) }
         ensures events { self.new.matrix.events ≡ self.old.matrix.events }
@@ -99,7 +99,7 @@ impl<A: Allocator + Copy> Making<A> {
     // Whether the matrix shows that its bounds imply another.
     fn shows(&self, span: &Span) -> bool
         requires named { NamesEvents self.now.matrix.events (as_bound span.now) }
-        requires reach { IsInReach (as_bound span.now) }
+        requires reach { IsWithinReach (as_bound span.now) }
         ensures { IsTrue result ↔ IsShown self.now.matrix (as_bound span.now) }
     {
         self.matrix.far(span.from, span.to).get() <= span.hi
@@ -110,7 +110,7 @@ impl<A: Allocator + Copy> Making<A> {
     fn make(&mut self, bound: Bound) -> Result<(), LoosenFault>
         requires taken { AreTaken self.old.records.items self.old.matrix }
         requires named { NamesEvents self.old.matrix.events bound }
-        requires possible { HasSchedule (all_bounds self.old.matrix.events (self.old.records.items ++ bound ∷ [])) }
+        requires possible { HasSchedule (made_bounds self.old.matrix.events (self.old.records.items ++ bound ∷ [])) }
         requires few { length self.old.records.items ≤ most_known }
         ensures made { OnOk result (self.new.records.items ≡ self.old.records.items ++ bound ∷ []) }
         ensures taken { OnOk result (AreTaken self.new.records.items self.new.matrix) }
@@ -140,7 +140,7 @@ impl<A: Allocator + Copy> Making<A> {
         requires steps { AreSteps 0 durations.now }
         requires named { All (NamesEvents self.old.matrix.events) bounds.now }
         ensures made { OnOk result (AreMadeBehind self.old.matrix.events self.old.records.items (moved_bounds durations.now bounds.now) self.new.records.items) }
-        ensures possible { OnOk result (HasSchedule (all_bounds self.old.matrix.events self.new.records.items)) }
+        ensures possible { OnOk result (HasSchedule (made_bounds self.old.matrix.events self.new.records.items)) }
         ensures fault { IfErr result (IsCauseBehind self.old.matrix.events self.old.records.items (moved_bounds durations.now bounds.now)) }
     {
         let mut network = Network::new(alloc, self.matrix.events(), horizon, &self.records)?;
@@ -176,8 +176,8 @@ impl<A: Allocator + Copy> Making<A> {
     fn make_side(&mut self, network: &mut Network<A>, side: &Span) -> Result<(), LoosenFault>
         requires searched { IsSearched self.old.records.items self.old.matrix network.old }
         requires named { NamesEvents self.old.matrix.events (as_bound side.now) }
-        requires open { IsOpen (as_bound side.now) }
-        requires reach { IsInReach (as_bound side.now) }
+        requires open { IsHalfOpen (as_bound side.now) }
+        requires reach { IsWithinReach (as_bound side.now) }
         ensures made { OnOk result (AreMadeBehind self.old.matrix.events self.old.records.items (as_bound side.now ∷ []) self.new.records.items) }
         ensures searched { OnOk result (IsSearched self.new.records.items self.new.matrix network.new) }
         ensures events { self.new.matrix.events ≡ self.old.matrix.events }
@@ -199,9 +199,9 @@ impl<A: Allocator + Copy> Making<A> {
     fn implies(&self, network: &mut Network<A>, side: &Span) -> Result<bool, LoosenFault>
         requires searched { IsSearched self.now.records.items self.now.matrix network.old }
         requires named { NamesEvents self.now.matrix.events (as_bound side.now) }
-        requires open { IsOpen (as_bound side.now) }
-        requires reach { IsInReach (as_bound side.now) }
-        ensures value { IfOk result (λ implied. IsTrue implied ↔ Imply (all_bounds self.now.matrix.events self.now.records.items) (as_bound side.now)) }
+        requires open { IsHalfOpen (as_bound side.now) }
+        requires reach { IsWithinReach (as_bound side.now) }
+        ensures value { IfOk result (λ implied. IsTrue implied ↔ Imply (made_bounds self.now.matrix.events self.now.records.items) (as_bound side.now)) }
         ensures same { network.new ≡ network.old }
         ensures fault { IfErr result (IsCauseBehind self.now.matrix.events self.now.records.items (as_bound side.now ∷ [])) }
     {

@@ -1,6 +1,6 @@
 ghost use Rattle.std.specs.Prelude.{◌≡◌, ◌↔◌, IsSome, IfSome};
 ghost use Rattle.stn_time.specs.Time.{IsWithinHorizon};
-ghost use Rattle.stn_loosen.specs.{Promise.{still, setting_of}, Moved.{moved_upper, moved_lower}, Stepped.{AreSteps, IsBoundOf, IsInReach, as_bound}};
+ghost use Rattle.stn_loosen.specs.{Promise.{still, setting_of}, Moved.{moved_upper, moved_lower}, Stepped.{AreSteps, IsBoundOf, IsWithinReach, as_bound}};
 
 use stn_net::{Bound, Event};
 use stn_time::{HORIZON, Ms};
@@ -20,7 +20,7 @@ impl Span {
         ensures value { as_bound result ≡ bound.now }
         ensures lo { IsWithinHorizon result.lo }
         ensures hi { IsWithinHorizon result.hi }
-        ensures reach { IsInReach (as_bound result) }
+        ensures reach { IsWithinReach (as_bound result) }
     {
         Span {
             from: bound.from(),
@@ -46,7 +46,7 @@ impl Span {
 
     // The bound, where it is one of a plan with so many events.
     pub(crate) fn bound(self, events: u16) -> Option<Bound>
-        requires { IsInReach (as_bound self) }
+        requires { IsWithinReach (as_bound self) }
         ensures found { IsSome result ↔ IsBoundOf events (as_bound self) }
         ensures value { IfSome result (λ bound. bound ≡ as_bound self) }
     {
@@ -78,8 +78,8 @@ pub(crate) fn moved_sides(durations: &[Bound], bound: &Bound) -> (Span, Span)
     requires { AreSteps 0 durations.now }
     ensures upper { as_bound result.0 ≡ moved_upper durations.now bound.now }
     ensures lower { as_bound result.1 ≡ moved_lower durations.now bound.now }
-    ensures upper_reach { IsInReach (as_bound result.0) }
-    ensures lower_reach { IsInReach (as_bound result.1) }
+    ensures upper_reach { IsWithinReach (as_bound result.0) }
+    ensures lower_reach { IsWithinReach (as_bound result.1) }
 {
     let from = setting_of(durations, bound.from());
     let to = setting_of(durations, bound.to());

@@ -4,7 +4,7 @@ use Rattle.stn_net.{specs.{Event.most_events, Difference.{Difference, NamesEvent
 use Rattle.stn_lift.specs.PlanSource.{PlanSource, base_bounds, events_of, IsSoundSource}
 use Rattle.stn_records.specs.Content.{Content}
 use Rattle.stn_site.specs.Bounds.{all_bounds, live_bounds}
-use Rattle.stn_questions.{specs.{declared.ready_event.ReadyEvent.ReadyEvent, Foresight.{AreSoonestOf, lesser_of}, Ready.AreReadyEvents}, proofs.ReadyLists.{counted, pushed_other, pushed_same}}
+use Rattle.stn_questions.{specs.{declared.ready_event.ReadyEvent.ReadyEvent, Foresight.{AreSoonestOf, earlier_time}, Ready.AreReadyEvents}, proofs.ReadyLists.{counted, pushed_other, pushed_same}}
 
 -- the soonest times by the bounds that were searched are those of the plan's
 pub soonest_found : {A E : Type 0} (bounds all : List Difference) (events count : ℕ) (done : List Bool) (now : ℤ) (result : Result (Option (Vec ℤ A)) E) → bounds ≡ all → events ≡ count → events ≤ most_events

@@ -2,7 +2,7 @@
 use Rattle.std.{proofs.{Common.{◌≡◌, inl, inr, ℕ, zero, suc, ◌+◌, ◌*◌, ◌<◌, ◌≤◌, List, [], ◌∷◌, ◌++◌, length, refl, sym, subst, ap, ◌∙◌, arith}, lemmas.{Bool.{cases_lt, cases_eq}, Int.ints, List.length_push}}, specs.{Prelude.{ℤ, ◌+ℤ◌, ◌≤ℤ◌}, List.AllByRecursion}}
 use Rattle.stn_time.proofs.Each.{each_parted, each_pushed}
 use Rattle.stn_net.{specs.Difference.{Difference, NamesEvents}, proofs.Told.{Told, both_told, told_as, same_told, least_below}}
-use Rattle.stn_conflict.{specs.{declared.links.{Link.Link, Side.{Side, TheVariants.{Upper, Lower}}}, Arcs.{arc, arc_of, bound_at, IsChain, weight_of}, Named.{IsTight, IsTightChain, IsLevel, IsStep, IsFirstStep, IsWay}}, proofs.{Tightness.{link_reaches, tight_from_sum, sum_from_tight}, Chains.{chain-push, chain-unpush, last_of}, OneCycle.level_unique, Steps.rank_within}}
+use Rattle.stn_conflict.{specs.{declared.links.{Link.Link, Side.{Side, TheVariants.{Upper, Lower}}}, Arcs.{arc, arc_of, bound_at, IsChain, weight_of}, Named.{IsTight, IsTightChain, IsLevel, IsLevelStep, IsFirstStep, IsWay}}, proofs.{Tightness.{link_reaches, tight_from_sum, sum_from_tight}, Chains.{chain-push, chain-unpush, last_of}, OneCycle.level_unique, Steps.rank_within}}
 use Rattle.stn_questions.proofs.{Found.{AreFound, tightest_found}, Chosen.{first_below, first_of_some}}
 
 -- the ends of a side of a bound are its events
@@ -128,7 +128,7 @@ module _ (bounds : List Difference) (events : ℕ) (far : ℕ → ℕ → ℤ) (
       ]
 
   -- ---- steps
-  step_told : (link : Link) → Told (IsStep bounds start link)
+  step_told : (link : Link) → Told (IsLevelStep bounds start link)
   step_told link =
       elim (tight_told link) [
         | inr loose ↦ inr (λ step. loose step.tight)
@@ -148,7 +148,7 @@ module _ (bounds : List Difference) (events : ℕ) (far : ℕ → ℕ → ℤ) (
 
   -- a step to the event
   abbrev LeadsTo : ℕ → Link → Type 0
-  LeadsTo x link = IsStep bounds start link × ((arc_of bounds link).to ≡ x)
+  LeadsTo x link = IsLevelStep bounds start link × ((arc_of bounds link).to ≡ x)
 
   some_step : (level x : ℕ) → IsLevel bounds start x (suc level) → (link : Link) × LeadsTo x link
   some_step level x is =
@@ -171,7 +171,7 @@ module _ (bounds : List Difference) (events : ℕ) (far : ℕ → ℕ → ℤ) (
   way_by_level zero x is = let (links, chain, long) = is.reached in ([], record { chain = none_long links x chain.chain long; first = tt })
   way_by_level (suc level) x is =
       let some = some_step level x is in
-      let told : (link : Link) → Told (LeadsTo x link) = λ link. both_told (IsStep bounds start link) _ (step_told link) (number_told _ x) in
+      let told : (link : Link) → Told (LeadsTo x link) = λ link. both_told (IsLevelStep bounds start link) _ (step_told link) (number_told _ x) in
       let (link, (step, ends), none) = first_of_some (LeadsTo x) told some.0 some.1 in
       let (low, from, to) = step.level in
       let same : suc low ≡ suc level = level_unique bounds start x (suc low) (suc level) (subst (λ z. IsLevel bounds start z (suc low)) ends to) is in

@@ -3,7 +3,7 @@ use Rattle.std.{proofs.{Common.{◌≡◌, ℕ, ℤ, zero, suc, ◌+◌, List, [
 use Rattle.stn_net.specs.Difference.{Difference}
 use Rattle.stn_lift.specs.Plan.Steps.{PlannedStep}
 use Rattle.stn_site.specs.Lines.{line}
-use Rattle.stn_questions.specs.{Durations.least_of, Steps.{name_text, name_lines, step_line, step_lines}}
+use Rattle.stn_questions.specs.{Durations.least_of, Steps.{step_name_text, name_lines, step_line, step_lines}}
 
 -- a line of five parts, one after the other
 pub line_in_parts : (front first second third fourth fifth t1 t2 t3 t4 t5 t6 : List ℕ) → t1 ≡ front ++ first → t2 ≡ t1 ++ second → t3 ≡ t2 ++ third → t4 ≡ t3 ++ fourth
@@ -52,22 +52,22 @@ step_lines-same one other before (step ∷ steps) same =
 
 -- the names of one step more
 name_lines-push : (before place : ℕ) (steps : List PlannedStep) (step : PlannedStep) → before + length steps ≡ place
-    → name_lines before (steps ++ step ∷ []) ≡ name_lines before steps ++ line (name_text (place + 1) step)
-name_lines-push before place [] step e = append-nil (line (name_text (before + 1) step)) ∙ ap (λ n. line (name_text (n + 1) step)) (omega (arith, e))
+    → name_lines before (steps ++ step ∷ []) ≡ name_lines before steps ++ line (step_name_text (place + 1) step)
+name_lines-push before place [] step e = append-nil (line (step_name_text (before + 1) step)) ∙ ap (λ n. line (step_name_text (n + 1) step)) (omega (arith, e))
 name_lines-push before place (first ∷ steps) step e =
-    ap (λ rest. line (name_text (before + 1) first) ++ rest) (name_lines-push (before + 1) place steps step (omega (arith, e)))
-    ∙ sym (append_assoc (line (name_text (before + 1) first)) (name_lines (before + 1) steps) (line (name_text (place + 1) step)))
+    ap (λ rest. line (step_name_text (before + 1) first) ++ rest) (name_lines-push (before + 1) place steps step (omega (arith, e)))
+    ∙ sym (append_assoc (line (step_name_text (before + 1) first)) (name_lines (before + 1) steps) (line (step_name_text (place + 1) step)))
 
 pub names_grown : {X : Type 0} (view : X → PlannedStep) (xs : List X) (place : ℕ) (x : X) (front old new : List ℕ) → place < length xs → x ≡ get_or xs place x
-    → old ≡ front ++ name_lines 0 (map view (take place xs)) → new ≡ old ++ line (name_text (place + 1) (view x))
+    → old ≡ front ++ name_lines 0 (map view (take place xs)) → new ≡ old ++ line (step_name_text (place + 1) (view x))
     → new ≡ front ++ name_lines 0 (map view (take (place + 1) xs))
 names_grown view xs place x front old new within is was grown =
     let seen = map view (take place xs) in
     let more : map view (take (place + 1) xs) ≡ seen ++ view x ∷ [] =
     map_more view xs place x within ∙ ap (λ y. seen ++ view y ∷ []) (sym is) in
     grown
-    ∙ ap (λ text. text ++ line (name_text (place + 1) (view x))) was
-    ∙ append_assoc front (name_lines 0 seen) (line (name_text (place + 1) (view x)))
+    ∙ ap (λ text. text ++ line (step_name_text (place + 1) (view x))) was
+    ∙ append_assoc front (name_lines 0 seen) (line (step_name_text (place + 1) (view x)))
     ∙ ap (λ text. front ++ text) (sym (name_lines-push 0 place seen (view x) (omega (arith, length-map (take place xs) view, length-take place xs))))
     ∙ ap (λ steps. front ++ name_lines 0 steps) (sym more)
 

@@ -17,6 +17,6 @@ IsForecast bounds events done now (Overdue event) = HasSchedule bounds × IsOver
 IsForecast bounds events done now (Soonest times) = AreSoonestOf bounds events done now times.items
 
 -- the lesser of the times; the second, where there is no first
-abbrev pub lesser_of : Option ℤ → ℤ → ℤ
-lesser_of None time = time
-lesser_of (Some other) time = if int_le other time then other else time
+abbrev pub earlier_time : Option ℤ → ℤ → ℤ
+earlier_time None time = time
+earlier_time (Some other) time = if int_le other time then other else time

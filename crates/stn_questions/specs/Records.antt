@@ -1,7 +1,7 @@
 -- What `records` prints.
 use Rattle.std.specs.{Prelude.{◌≡◌, ◌↔◌, ℕ, Bool, true, List, [], ◌++◌, codes, Option, Some, None, if◌then◌else◌}, List.{Contains, flat_map, Sorted.IsStrictlySortedBy}, Set.is_member}
 use Rattle.std.specs.FinMap as map
-use Rattle.stn_records.specs.{Id.{SiteCounter, id_cmp, same_ids, id_text}, Record.is_done as marks_done, declared.record.Record.Record, Content.{Content, is_known}}
+use Rattle.stn_records.specs.{Id.{SiteCounter, id_cmp, same_ids, id_text}, Record.is_done_mark as marks_done, declared.record.Record.Record, Content.{Content, is_known}}
 use Rattle.stn_site.specs.Lines.{line, done_text}
 use Rattle.stn_questions.specs.Bounds.{bound_text}
 

@@ -5,16 +5,16 @@ use Rattle.stn_lift.specs.{Plan.Steps.{PlannedStep, plan_of}, BaseBounds.duratio
 use Rattle.stn_site.specs.Lines.{line}
 
 -- the action, and after a space each of its arguments
-abbrev pub words_text : List ℕ → List (List ℕ) → List ℕ
-words_text action arguments = action ++ flat_map (λ argument. codes " " ++ argument) arguments
+abbrev pub action_text : List ℕ → List (List ℕ) → List ℕ
+action_text action arguments = action ++ flat_map (λ argument. codes " " ++ argument) arguments
 
 -- `<number> <action> <argument> ..`, the words as the plan's text spells them
-abbrev pub name_text : ℕ → PlannedStep → List ℕ
-name_text number step = decimal number ++ codes " " ++ words_text step.action step.args
+abbrev pub step_name_text : ℕ → PlannedStep → List ℕ
+step_name_text number step = decimal number ++ codes " " ++ action_text step.action step.args
 
 -- the same, and ` <start> <duration>`
 abbrev pub step_line : ℕ → PlannedStep → ℤ → List ℕ
-step_line number step duration = line (name_text number step ++ codes " " ++ printed step.time ++ codes " " ++ printed duration)
+step_line number step duration = line (step_name_text number step ++ codes " " ++ printed step.time ++ codes " " ++ printed duration)
 
 -- the lines of the steps after so many others; steps are counted from 1, and each lasts as long as it is said of the number of those before it
 abbrev pub step_lines : (ℕ → ℤ) → ℕ → List PlannedStep → List ℕ
@@ -27,7 +27,7 @@ planned_steps plan = result_unwrap_or (plan_of plan) []
 
 -- the name of a step: its action and its arguments
 abbrev pub step_name : PlannedStep → List ℕ
-step_name step = words_text step.action step.args
+step_name step = action_text step.action step.args
 
 -- the names of the steps of a plan text, and those of the steps of a plan, which a bare plan has not
 abbrev pub plan_names : List ℕ → List (List ℕ)
@@ -40,7 +40,7 @@ source_names (files domain plan) = plan_names plan
 -- the names of the steps after so many others, each in a line
 abbrev pub name_lines : ℕ → List PlannedStep → List ℕ
 name_lines before [] = []
-name_lines before (step ∷ steps) = line (name_text (before + 1) step) ++ name_lines (before + 1) steps
+name_lines before (step ∷ steps) = line (step_name_text (before + 1) step) ++ name_lines (before + 1) steps
 
 -- the names of the steps of a plan text
 abbrev pub names_text : List ℕ → List ℕ

@@ -18,7 +18,7 @@ pub use ready::print_ready_with;
 pub use ready_event::ReadyEvent;
 pub use records::print_records;
 pub use repair::{
-    Repair, kept_is_largest, one_repairs_text, print_repairs, repairs_lie_on_each_cycle,
+    Repair, kept_is_maximal, one_repairs_text, print_repairs, repairs_lie_on_each_cycle,
     repairs_of, same_repairs,
 };
 pub use steps::{names_of, print_steps};

@@ -2,7 +2,7 @@ ghost use Rattle.std.specs.{Prelude.{◌≡◌, ℕ, ℤ, ◌+◌, ◌≤◌, �
 ghost use Rattle.stn_net.specs.{Difference.Difference, Event.{event_text, most_events}, Schedule.{HasSchedule, times_of}, Windows.{Dispatch.IsLeft, Leading.{AreReadyAt, IsLeastLatest}}};
 ghost use Rattle.stn_lift.specs.PlanSource.{events_of};
 ghost use Rattle.stn_site.specs.{Bounds.all_bounds, Lines.line};
-ghost use Rattle.stn_questions.specs.{Foresight.lesser_of, Ready.{AreReadyEvents, AreReadyLines, IsReadyAnswer, IsReadyWith, ready_line}};
+ghost use Rattle.stn_questions.specs.{Foresight.earlier_time, Ready.{AreReadyEvents, AreReadyLines, IsReadyAnswer, IsReadyWith, ready_line}};
 
 use crate::foresight::next_with;
 use crate::ready_event::ReadyEvent;
@@ -141,7 +141,7 @@ fn least_left(times: &[Ms], done: &[bool]) -> Option<Ms>
 
 // The lesser of the times.
 fn lesser(least: Option<Ms>, time: Ms) -> Ms
-    ensures { result ≡ lesser_of least time }
+    ensures { result ≡ earlier_time least time }
 {
     match least {
         Some(other) => { if other <= time { other } else { time } }

@@ -7,7 +7,7 @@ mod live;
 mod print;
 mod repairs;
 
-pub use laws::{kept_is_largest, one_repairs_text, repairs_lie_on_each_cycle, same_repairs};
+pub use laws::{kept_is_maximal, one_repairs_text, repairs_lie_on_each_cycle, same_repairs};
 pub use print::{print_repairs, repairs_of};
 use stn_net::Event;
 use stn_records::Id;

@@ -2,7 +2,7 @@ ghost use Rattle.std.specs.{Prelude.{◌≡◌, ◌≤◌, ◌++◌, ℕ, List, 
 ghost use Rattle.stn_net.specs.Event.{most_steps};
 ghost use Rattle.stn_lift.specs.{Plan.{Steps.plan_of, Views.{planned_step, word_of}}, PlanSource.files};
 ghost use Rattle.stn_site.specs.Lines.{line};
-ghost use Rattle.stn_questions.specs.{Durations.{least_of, AreDurations}, Steps.{words_text, name_text, name_lines, step_line, step_lines, planned_steps, steps_text}};
+ghost use Rattle.stn_questions.specs.{Durations.{least_of, AreDurations}, Steps.{action_text, step_name_text, name_lines, step_line, step_lines, planned_steps, steps_text}};
 
 use std::alloc::{AllocError, Allocator};
 use stn_lift::{Base, Plan, PlanFault, Source, Step};
@@ -151,7 +151,7 @@ fn append_name<'a, A: Allocator, B: Allocator>(
     step: &Step<'a, A>,
     out: &mut Vec<u8, B>,
 ) -> Result<(), Memory>
-    ensures { OnOk result (out.new.items ≡ out.old.items ++ name_text number (planned_step step.now)) }
+    ensures { OnOk result (out.new.items ≡ out.old.items ++ step_name_text number (planned_step step.now)) }
 {
     append_decimal(out, b"", number)?;
     out.extend_from_slice(b" ")?;
@@ -164,7 +164,7 @@ pub fn append_words<B: Allocator>(
     arguments: &[&[u8]],
     out: &mut Vec<u8, B>,
 ) -> Result<(), Memory>
-    ensures { OnOk result (out.new.items ≡ out.old.items ++ words_text action.now (map word_of arguments.now)) }
+    ensures { OnOk result (out.new.items ≡ out.old.items ++ action_text action.now (map word_of arguments.now)) }
 {
     out.extend_from_slice(action)?;
     for argument in arguments {

@@ -6,10 +6,10 @@ use Rattle.stn_lift.specs.PlanSource.{base_bounds}
 use Rattle.stn_records.{specs.{Id.SiteCounter, declared.record.Record.Record, ContentLaws.contents_join, Content.{Content, Item, addition, withdrawal, replacement, HasItem, IsPart, is_replaced, is_live, plain, with_record, joined_contents}}, proofs.{Counters.next_is_new, Replaced.{replaced_cases, replaced_by_withdrawal, replaced_by_entry, replaced_fewer}}}
 use Rattle.stn_site.{specs.{Bounds.{live_bounds, all_bounds}, Held.executed}, proofs.Items.addition_items}
 use Rattle.stn_replica.proofs.Live.{live_from_bounds, bounds_from_live, All-passing, All-filter_passing}
-use Rattle.stn_guard.{specs.Owners.{is_own, own_bounds}, proofs.{Owned.all_of_pieces, Gluing.glue}}
+use Rattle.stn_guard.{specs.Owners.{is_owned, own_bounds}, proofs.{Owned.all_of_pieces, Gluing.glue}}
 use Rattle.stn_world.{specs.{World.{World, HasSite, has_site, content_at, packet_at, next_id_at, with_content, make, send}, Steps.{Step, added, finished, amended, withdrew, merged, sent, delivered, IsAccepted, after, stepped, run}, Whole.IsCoherent, Guarded.{IsOwnItem, IsBesideOwn, HoldsGuarded, KeepsToOwn}}, proofs.{Accepted.{site_decides, accepted_addition, accepted_execution, accepted_sending}, Parts.sent_inside, Runs.{for_step, coherent_stepped}, Whole.{each_site, each_packet, kept, sites_join, packet_joins}}}
 
-own_execution : (owner : ℕ → ℕ) (site event : ℕ) (time : ℤ) → owner event ≡ site → is_own owner site (fixed_at time event) ≡ true
+own_execution : (owner : ℕ → ℕ) (site event : ℕ) (time : ℤ) → owner event ≡ site → is_owned owner site (fixed_at time event) ≡ true
 own_execution owner site event time own =
     let same : eqb (owner event) site ≡ true = grind (arith, nat_tests) in
     or_right (eqb event 0) (eqb (owner event) site) same
@@ -44,7 +44,7 @@ module _ (owner : ℕ → ℕ) (state : Content) where
         before : (site : ℕ) → HasSite next site → HasSite world site
         before site there = record { least = there.least; most = subst (λ (n : ℕ). site ≤ n) (length-set world.sites (at - 1) content) there.most }
 
-    made_guarded : (at : ℕ) (one : Record) → HasSite world at → is_own owner at one.bound ≡ true → HoldsGuarded owner state (make world at one)
+    made_guarded : (at : ℕ) (one : Record) → HasSite world at → is_owned owner at one.bound ≡ true → HoldsGuarded owner state (make world at one)
     made_guarded at one there own =
         let content = content_at world at in
         let id = next_id_at world at in
@@ -111,14 +111,14 @@ module _ (owner : ℕ → ℕ) (state : Content) (world : World) (coherent : IsC
   base = base_bounds world.source
 
   abbrev own_live : ℕ → List Difference
-  own_live site = filter (is_own owner site) (live_bounds (content_at world site))
+  own_live site = filter (is_owned owner site) (live_bounds (content_at world site))
 
   abbrev own_added : ℕ → List Difference
   own_added site = cond (has_site world site) (own_live site) []
 
-  each_own : (site : ℕ) → All (λ bound. is_own owner site bound ≡ true) (own_added site)
-  each_own site = elim (has_site world site) as (λ b. All (λ bound. is_own owner site bound ≡ true) (cond b (own_live site) [])) [
-    | true ↦ All-filter_passing (is_own owner site) (λ bound. is_own owner site bound ≡ true) (live_bounds (content_at world site)) (λ k d h passes. passes)
+  each_own : (site : ℕ) → All (λ bound. is_owned owner site bound ≡ true) (own_added site)
+  each_own site = elim (has_site world site) as (λ b. All (λ bound. is_owned owner site bound ≡ true) (cond b (own_live site) [])) [
+    | true ↦ All-filter_passing (is_owned owner site) (λ bound. is_owned owner site bound ≡ true) (live_bounds (content_at world site)) (λ k d h passes. passes)
     | false ↦ All-nil _
   ]
 
@@ -128,22 +128,22 @@ module _ (owner : ℕ → ℕ) (state : Content) (world : World) (coherent : IsC
         let content = content_at world site in
         let time = (each site there).0 in
         let schedule = (each site there).1 in
-        let all = All-passing (is_own owner site) (Meets time) (all_bounds world.source content) schedule.met in
-        let live = All-right (λ bound. is_own owner site bound ≡ true → Meets time bound) (base_bounds world.source) (live_bounds content) all in
-        let before : All (λ bound. is_own owner site bound ≡ true → Meets time bound) (live_bounds state) =
-        bounds_from_live (λ bound. is_own owner site bound ≡ true → Meets time bound) state (λ id one at is.
+        let all = All-passing (is_owned owner site) (Meets time) (all_bounds world.source content) schedule.met in
+        let live = All-right (λ bound. is_owned owner site bound ≡ true → Meets time bound) (base_bounds world.source) (live_bounds content) all in
+        let before : All (λ bound. is_owned owner site bound ≡ true → Meets time bound) (live_bounds state) =
+        bounds_from_live (λ bound. is_owned owner site bound ≡ true → Meets time bound) state (λ id one at is.
         let here = holds.held site there (addition id one) at in
-        live_from_bounds (λ bound. is_own owner site bound ≡ true → Meets time bound) content live id one here (live_there content (holds.sites site) state (λ item h. h) id one is here)) in (
+        live_from_bounds (λ bound. is_owned owner site bound ≡ true → Meets time bound) content live id one here (live_there content (holds.sites site) state (λ item h. h) id one is here)) in (
           time,
           record {
             origin = schedule.origin;
-            met = All-filter_passing (is_own owner site) (Meets time) ((all_bounds world.source state ++ []) ++ own_live site)
-                (All-append (λ bound. is_own owner site bound ≡ true → Meets time bound) (all_bounds world.source state ++ []) (own_live site)
-                (All-append (λ bound. is_own owner site bound ≡ true → Meets time bound) (all_bounds world.source state) []
-                (All-append (λ bound. is_own owner site bound ≡ true → Meets time bound) (base_bounds world.source) (live_bounds state)
-                (All-left (λ bound. is_own owner site bound ≡ true → Meets time bound) (base_bounds world.source) (live_bounds content) all) before)
-                (All-nil (λ bound. is_own owner site bound ≡ true → Meets time bound)))
-                (All-filter (is_own owner site) (λ bound. is_own owner site bound ≡ true → Meets time bound) (live_bounds content) live));
+            met = All-filter_passing (is_owned owner site) (Meets time) ((all_bounds world.source state ++ []) ++ own_live site)
+                (All-append (λ bound. is_owned owner site bound ≡ true → Meets time bound) (all_bounds world.source state ++ []) (own_live site)
+                (All-append (λ bound. is_owned owner site bound ≡ true → Meets time bound) (all_bounds world.source state) []
+                (All-append (λ bound. is_owned owner site bound ≡ true → Meets time bound) (base_bounds world.source) (live_bounds state)
+                (All-left (λ bound. is_owned owner site bound ≡ true → Meets time bound) (base_bounds world.source) (live_bounds content) all) before)
+                (All-nil (λ bound. is_owned owner site bound ≡ true → Meets time bound)))
+                (All-filter (is_owned owner site) (λ bound. is_owned owner site bound ≡ true → Meets time bound) (live_bounds content) live));
           },
         )
 
@@ -154,7 +154,7 @@ module _ (owner : ℕ → ℕ) (state : Content) (world : World) (coherent : IsC
           time,
           record {
             origin = schedule.origin;
-            met = All-filter (is_own owner site) (Meets time) ((all_bounds world.source state ++ []) ++ [])
+            met = All-filter (is_owned owner site) (Meets time) ((all_bounds world.source state ++ []) ++ [])
                 (All-append (Meets time) (all_bounds world.source state ++ []) [] schedule.met (All-nil (Meets time)));
           },
         )
@@ -198,8 +198,8 @@ module _ (owner : ℕ → ℕ) (state : Content) (world : World) (coherent : IsC
                 (λ own.
                 let content = content_at world id.site in
                 let made = coherent.1.own id one (coherent.1.sites site (addition id one) here) in
-                live_from_bounds (λ bound. is_own owner id.site bound ≡ true → Meets time bound) content
-                (All-passing (is_own owner id.site) (Meets time) (live_bounds content) (added_met id.site own.0)) id one made
+                live_from_bounds (λ bound. is_owned owner id.site bound ≡ true → Meets time bound) content
+                (All-passing (is_owned owner id.site) (Meets time) (live_bounds content) (added_met id.site own.0)) id one made
                 (live_there content (holds.sites id.site) whole (holds.held site there) id one is made) own.1)
                 (holds.sites site (addition id one) here)));
           },

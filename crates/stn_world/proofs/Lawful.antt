@@ -4,7 +4,7 @@ use Rattle.stn_net.specs.Difference.{Difference, IsBoundWithin}
 use Rattle.stn_lift.specs.PlanSource.{PlanSource, events_of}
 use Rattle.stn_records.{specs.{Id.{SiteCounter, same_ids}, declared.record.Record.Record, ContentLaws.{ids_total, contents_join, contents_undisputed}, Content.{Content, Item, addition, withdrawal, replacement, HasItem, AllAmend, is_known, known_ids, known_in_either, no_content, plain, with_record, with_amendment, with_tombstone, joined_contents, IsPart}}, proofs.{KnownIds.{fewer, known_member}, Counters.next_is_new}}
 use Rattle.stn_site.{specs.Held.executed, proofs.{Items.{addition_items, amendment_items, withdrawal_brought, nothing_there}, Refused.{accepted_known, amended_known}}}
-use Rattle.stn_world.{specs.{declared.faults.WorldFault.WorldFault, Whole.IsWhole, Runs.{Making, WasMade, makings, made_in, made_by, is_addition, records_made, IsRecordOf}, World.{World, HasSite, opening_world, content_at, packet_at, held_at, next_id_at, with_content, make, amend, withdraw, send}, Steps.{Step, added, finished, amended, withdrew, merged, sent, delivered, step_refusal, IsAccepted, after, stepped, run}}, proofs.{Parts.{sent_inside, sent_amends}, Accepted.{accepted_addition, accepted_execution, accepted_amendment, accepted_withdrawal, accepted_sending}, Bounds.{accepted_bound, executed_bound, amended_bound}, Whole.{kept, held_record, next_unknown, content_here, amended_items, added_whole, amended_whole, withdrawn_whole, parts_agree, joined_whole, sent_whole, whole_at_first}}}
+use Rattle.stn_world.{specs.{declared.faults.WorldFault.WorldFault, Whole.IsWhole, Runs.{Making, WasMade, makings, made_in, made_in_run, is_addition, records_made, IsRecordOf}, World.{World, HasSite, opening_world, content_at, packet_at, held_at, next_id_at, with_content, make, amend, withdraw, send}, Steps.{Step, added, finished, amended, withdrew, merged, sent, delivered, step_refusal, IsAccepted, after, stepped, run}}, proofs.{Parts.{sent_inside, sent_amends}, Accepted.{accepted_addition, accepted_execution, accepted_amendment, accepted_withdrawal, accepted_sending}, Bounds.{accepted_bound, executed_bound, amended_bound}, Whole.{kept, held_record, next_unknown, content_here, amended_items, added_whole, amended_whole, withdrawn_whole, parts_agree, joined_whole, sent_whole, whole_at_first}}}
 
 -- each item of the whole was made, and each item that was made is held by its site
 pub record IsLawful (world : World) (items : List Making) : Type 0 where
@@ -135,14 +135,14 @@ module _ (world : World) (items : List Making) (now : IsLawful world items) wher
 pub lawful_stepped : (world : World) (items : List Making) (step : Step) → IsLawful world items → IsLawful (stepped world step) (items ++ made_in world step)
 lawful_stepped world items step now = by_refusal world items now step (step_refusal world step) refl
 
-lawful_more : (world : World) (items : List Making) (steps : List Step) → IsLawful world items → IsLawful (run world steps) (items ++ made_by world steps)
+lawful_more : (world : World) (items : List Making) (steps : List Step) → IsLawful world items → IsLawful (run world steps) (items ++ made_in_run world steps)
 lawful_more world items [] now = nothing_made world items now world now
 lawful_more world items (step ∷ steps) now =
-    subst (IsLawful (run (stepped world step) steps)) (append_assoc items (made_in world step) (made_by (stepped world step) steps))
+    subst (IsLawful (run (stepped world step) steps)) (append_assoc items (made_in world step) (made_in_run (stepped world step) steps))
     (lawful_more (stepped world step) (items ++ made_in world step) steps (lawful_stepped world items step now))
 
 -- so it is at the end of each run
-pub lawful_run : (source : PlanSource) (sites : ℕ) (steps : List Step) → IsLawful (run (opening_world source sites) steps) (made_by (opening_world source sites) steps)
+pub lawful_run : (source : PlanSource) (sites : ℕ) (steps : List Step) → IsLawful (run (opening_world source sites) steps) (made_in_run (opening_world source sites) steps)
 lawful_run source sites steps = lawful_more (opening_world source sites) [] steps (record {
   all = no_content;
   whole = whole_at_first source sites;

@@ -3,7 +3,7 @@ use Rattle.std.{proofs.{Common.{◌≡◌, true, false, not, is_some, Some, None
 use Rattle.stn_lift.specs.PlanSource.{PlanSource}
 use Rattle.stn_records.specs.{Content.{Content, IsPart, no_content, dispute_contents, join_contents, joined_contents}, ContentLaws.{contents_dispute, contents_undisputed, contents_repeat}, Id.{SiteCounter, most_sites}}
 use Rattle.stn_site.specs.{Held.{Held, next_id}, Refusals.take_refusal}
-use Rattle.stn_world.{specs.{World.{World, HasSite, HasPacket, content_at, packet_at, held_at, next_id_at, with_content}, Whole.{IsSites, IsCoherent, IsSoundWorld}, Sites.{contents_of, world_of}}, proofs.Whole.coherent_at_first}
+use Rattle.stn_world.{specs.{World.{World, HasSite, HasPacket, content_at, packet_at, held_at, next_id_at, with_content}, Whole.{IsSites, IsCoherent, IsSoundWorld}, Sites.{site_contents, world_of}}, proofs.Whole.coherent_at_first}
 
 -- one number more
 pub range_more : (a n : ℕ) → range_with_len a (suc n) ≡ range_with_len a n ++ (a + n) ∷ []
@@ -15,7 +15,7 @@ pub record IsStarted (source : PlanSource) (count : ℕ) (replicas : List Held) 
   pub counted : length replicas ≡ count
   pub numbers : map (λ replica. replica.site) replicas ≡ range_with_len 1 count
   pub sources : map (λ replica. replica.source) replicas ≡ replicate count source
-  pub nothing : contents_of replicas ≡ replicate count no_content
+  pub nothing : site_contents replicas ≡ replicate count no_content
 
 -- one replica
 pub started_one : (source : PlanSource) (one : Held) → one.site ≡ 1 → one.source ≡ source → one.state ≡ no_content → IsStarted source 1 (one ∷ [])
@@ -91,9 +91,9 @@ pub held_at_place : {packets : List Content} (world : World) (source : PlanSourc
     → IsHeldAt world site (get_or replicas place d)
 held_at_place world source replicas place site d is sites at there =
     let least = there.least in
-    let long : length (contents_of replicas) ≡ length replicas = length-map replicas (λ (r : Held). r.state) in
-    let sites_are : world.sites ≡ contents_of replicas = ap (λ (w : World). w.sites) is in
-    let most : site ≤ length (contents_of replicas) = subst (λ (l : List Content). site ≤ length l) sites_are there.most in
+    let long : length (site_contents replicas) ≡ length replicas = length-map replicas (λ (r : Held). r.state) in
+    let sites_are : world.sites ≡ site_contents replicas = ap (λ (w : World). w.sites) is in
+    let most : site ≤ length (site_contents replicas) = subst (λ (l : List Content). site ≤ length l) sites_are there.most in
     let within : place < length replicas = omega arith in
     record {
       number = site_at source replicas place d sites within ∙ omega arith;
@@ -107,8 +107,8 @@ pub world_set : {packets : List Content} (world : World) (source : PlanSource) (
     → world_of source (set replicas place one) packets ≡ with_content world site content
 world_set {packets = packets} world source replicas place site one content is at holds =
     ap (λ (l : List Content). record { source = source; sites = l; packets = packets }) (map-set (λ (r : Held). r.state) replicas place one)
-    ∙ (ap (λ (c : Content). record { source = source; sites = set (contents_of replicas) place c; packets = packets }) holds
-    ∙ (ap (λ (k : ℕ). record { source = source; sites = set (contents_of replicas) k content; packets = packets }) at
+    ∙ (ap (λ (c : Content). record { source = source; sites = set (site_contents replicas) place c; packets = packets }) holds
+    ∙ (ap (λ (k : ℕ). record { source = source; sites = set (site_contents replicas) k content; packets = packets }) at
     ∙ ap (λ (w : World). with_content w site content) (sym is)))
 
 -- a replica as the world has it, but for the work that it has done

@@ -3,12 +3,12 @@ use Rattle.std.specs.Prelude.{◌≡◌, ℕ, true, ◌⊎◌, List, [], ◌∷�
 use Rattle.stn_net.specs.Schedule.{HasSchedule}
 use Rattle.stn_records.specs.Content.{Content, Item, addition, withdrawal, replacement, HasItem, IsPart}
 use Rattle.stn_site.specs.Bounds.{all_bounds}
-use Rattle.stn_guard.specs.{Owners.{is_own, own_bounds}, Guard.Guards}
+use Rattle.stn_guard.specs.{Owners.{is_owned, own_bounds}, Guard.Guards}
 use Rattle.stn_world.specs.{World.{World, HasSite, content_at, packet_at}, Steps.{Step, added, finished, amended, withdrew, merged, sent, delivered, IsAccepted, after}}
 
 -- the item is a record of a bound that is the own of the site that made it, one of the world
 abbrev pub IsOwnItem : (ℕ → ℕ) → World → Item → Type 0
-IsOwnItem owner world (addition id made) = HasSite world id.site × (is_own owner id.site made.bound ≡ true)
+IsOwnItem owner world (addition id made) = HasSite world id.site × (is_owned owner id.site made.bound ≡ true)
 IsOwnItem owner world (withdrawal id) = ⊥
 IsOwnItem owner world (replacement id old) = ⊥
 
@@ -37,7 +37,7 @@ pub record HoldsAlone (state : Content) (world : World) : Type 0 where
 -- a site that adds a bound or an execution does so within what is its own, and none amends or withdraws anything; what is merged, sent and
 -- delivered is free
 abbrev pub KeepsToOwn : (ℕ → ℕ) → Step → Type 0
-KeepsToOwn owner (added site bound) = is_own owner site bound ≡ true
+KeepsToOwn owner (added site bound) = is_owned owner site bound ≡ true
 KeepsToOwn owner (finished site event time) = owner event ≡ site
 KeepsToOwn owner (amended site old bound) = ⊥
 KeepsToOwn owner (withdrew site id) = ⊥

@@ -27,9 +27,9 @@ abbrev pub made_in : World → Step → List Making
 made_in world step = if is_some (step_refusal world step) then [] else makings world step
 
 -- all that is made in a run
-abbrev pub made_by : World → List Step → List Making
-made_by world [] = []
-made_by world (step ∷ steps) = made_in world step ++ made_by (stepped world step) steps
+abbrev pub made_in_run : World → List Step → List Making
+made_in_run world [] = []
+made_in_run world (step ∷ steps) = made_in world step ++ made_in_run (stepped world step) steps
 
 -- some site made the item
 abbrev pub WasMade : List Making → Item → Type 0
@@ -47,7 +47,7 @@ records_made items = length (filter (λ one. is_addition one.item) items)
 -- what is true of the world after each run, whatever its plan, its number of sites and its steps, and of the items made in it. A run that
 -- breaks off early is a run, so it is true at each step of each run
 abbrev pub InEachRun : (World → List Making → Type 0) → Type 0
-InEachRun P = (source : PlanSource) (sites : ℕ) (steps : List Step) → P (run (opening_world source sites) steps) (made_by (opening_world source sites) steps)
+InEachRun P = (source : PlanSource) (sites : ℕ) (steps : List Step) → P (run (opening_world source sites) steps) (made_in_run (opening_world source sites) steps)
 
 -- the record is of a bound of a plan with so many events beside the origin, and one that says that an event was executed fixes its time
 pub record IsRecordOf (events : ℕ) (one : Record) : Type 0 where

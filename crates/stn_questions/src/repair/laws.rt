@@ -24,7 +24,7 @@ pub fn repairs_lie_on_each_cycle()
 
 /// The law that the plan's bounds and those of the records that are not dropped have a schedule, and have
 /// none with any one of those that are.
-pub fn kept_is_largest()
+pub fn kept_is_maximal()
     ensures possible { (source : PlanSource) → (state : Content) → (ids : List SiteCounter)
         → HasSchedule (base_bounds source) → AreDropped (base_bounds source) (live_of state) ids
         → HasSchedule (kept_bounds (base_bounds source) (live_of state) ids) }

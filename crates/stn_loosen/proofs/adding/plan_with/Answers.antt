@@ -3,7 +3,7 @@ use Rattle.stn_net.specs.Difference.{NamesEvents}
 use Rattle.stn_lift.specs.PlanSource.{events_of}
 use Rattle.stn_records.specs.Content.{next_counter, with_record}
 use Rattle.stn_site.specs.{Held.plain, Bounds.all_bounds}
-use Rattle.stn_loosen.{specs.Numbered.Holds, proofs.NumberedStates.{next_passes, holds_none, holds_more, all_are}}
+use Rattle.stn_loosen.{specs.Numbered.HoldsNumbered, proofs.NumberedStates.{next_passes, holds_none, holds_more, all_are}}
 use Rattle.stn_loosen.proofs.adding.plan_with.Goals as goal
 
 pub loop-bound-init : goal.loop-bound-init
@@ -25,7 +25,7 @@ add_bound-requires-clause-room g c =
     let plan = c.loop-bound.plan in
     let place = c.loop-bound.bound-index in
     let bounds = c.args.bounds.now in
-    next_passes plan (take place bounds) (subst (λ n. Holds n (take place bounds) plan.state) (sym is.site) is.holds)
+    next_passes plan (take place bounds) (subst (λ n. HoldsNumbered n (take place bounds) plan.state) (sym is.site) is.holds)
     (omega (arith, length-take place bounds, c.loop-bound-test.true, c.requires.few))
 
 pub loop-bound-preserved : goal.loop-bound-preserved
@@ -44,7 +44,7 @@ loop-bound-preserved g c =
     record {
       site = c.in_ok-add_bound.ensures.site ∙ was;
       source = c.in_ok-add_bound.ensures.source ∙ c.loop-bound.invariant.source;
-      holds = subst (λ l. Holds site l new.state) (sym more) (holds_more site (take place bounds) bound old.state new.state c.loop-bound.invariant.holds made);
+      holds = subst (λ l. HoldsNumbered site l new.state) (sym more) (holds_more site (take place bounds) bound old.state new.state c.loop-bound.invariant.holds made);
     }
 
 pub returns : goal.returns
@@ -53,7 +53,7 @@ returns g c =
     let plan = c.loop-bound.plan in
     let bounds = c.args.bounds.now in
     let whole : take c.loop-bound.bound-index bounds ≡ bounds = take_all c.loop-bound.bound-index bounds (omega (arith, c.loop-bound-test.false)) in
-    let holds : Holds c.args.site bounds plan.state = subst (λ l. Holds c.args.site l plan.state) whole is.holds in
+    let holds : HoldsNumbered c.args.site bounds plan.state = subst (λ l. HoldsNumbered c.args.site l plan.state) whole is.holds in
     record {
       site = is.site;
       source = is.source;

@@ -1,6 +1,6 @@
 use Rattle.std.proofs.Common.{[], ◌∷◌, ◌+◌, ◌++◌, ◌∙◌, ap, append_assoc, arith}
 use Rattle.stn_lift.specs.Plan.Views.{planned_step}
-use Rattle.stn_questions.{specs.Steps.name_text, proofs.Listing.names_grown}
+use Rattle.stn_questions.{specs.Steps.step_name_text, proofs.Listing.names_grown}
 use Rattle.stn_questions.proofs.steps.append_name_lines.Goals as goal
 
 pub loop-before-preserved : goal.loop-before-preserved
@@ -10,4 +10,4 @@ loop-before-preserved g c =
     names_grown planned_step c.args.steps.now place step c.args.out.now.items c.loop-before.out.items c.extend_from_slice.new.self.items
     (omega arith) c.index-steps-before.is c.loop-before.invariant
     (c.in_ok-extend_from_slice.ensures.items ∙ ap (λ text. text ++ 10 ∷ []) c.in_ok-append_name.ensures
-    ∙ append_assoc c.loop-before.out.items (name_text (place + 1) (planned_step step)) (10 ∷ []))
+    ∙ append_assoc c.loop-before.out.items (step_name_text (place + 1) (planned_step step)) (10 ∷ []))

@@ -1,7 +1,7 @@
 use Rattle.std.proofs.{Common.{◌≡◌, length, refl, subst, ◌∙◌, arith}, lemmas.{List.take_all, Result.err_from_is_err_and}}
 use Rattle.stn_time.proofs.Each.{All-left, All-right}
 use Rattle.stn_net.{specs.{Difference.NamesEvents, Horizon.horizon_bounds}, proofs.Horizons.length-horizon_bounds}
-use Rattle.stn_loosen.{specs.Making.all_bounds, proofs.{Implied.searched_first, Sides.{moved_to_none, moved_more, moved_refused, moved_refused_last, IsMovedTo}}}
+use Rattle.stn_loosen.{specs.Making.made_bounds, proofs.{Implied.searched_first, Sides.{moved_to_none, moved_more, moved_refused, moved_refused_last, IsMovedTo}}}
 use Rattle.stn_loosen.proofs.making.Making.make_moved.Goals as goal
 
 pub new-requires-clause-begins : goal.new-requires-clause-begins
@@ -22,7 +22,7 @@ new-requires-clause-extra_named g c =
 pub loop-bound-init : goal.loop-bound-init
 loop-bound-init g c =
     let old = c.args.self.now in
-    let whole : c.in_ok-network.network ≡ record { events = old.matrix.events; bounds = all_bounds old.matrix.events old.records.items } =
+    let whole : c.in_ok-network.network ≡ record { events = old.matrix.events; bounds = made_bounds old.matrix.events old.records.items } =
     c.in_ok-network.ensures ∙ rw (c.requires.horizon, c.events.ensures.value, c.deref.ensures.value) refl in
     moved_to_none c.args.durations.now c.args.bounds.now old.records.items old.matrix c.in_ok-network.network (searched_first old.records.items old.matrix c.in_ok-network.network c.requires.taken whole)
 

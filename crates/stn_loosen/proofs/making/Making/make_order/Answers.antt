@@ -1,10 +1,10 @@
 use Rattle.std.proofs.{Common.{ℕ, List, length, inl, inr, refl, sym, ◌∙◌, subst}, lemmas.{Bool.false≢true, Result.{on_ok_weaker, IfErr-weaker}}}
 use Rattle.stn_net.specs.Difference.{Difference}
-use Rattle.stn_loosen.{specs.{declared.fault.LoosenFault.{LoosenFault, TheVariants.{Full, NotRobust, Memory}}, Loosened.Imply, Making.{all_bounds, IsShown, IsCauseAt, IsCauseOf}}, proofs.Implied.shown_taken}
+use Rattle.stn_loosen.{specs.{declared.fault.LoosenFault.{LoosenFault, TheVariants.{Full, NotRobust, Memory}}, Loosened.Imply, Making.{made_bounds, IsShown, IsCauseAt, IsCauseOf}}, proofs.Implied.shown_taken}
 use Rattle.stn_loosen.proofs.making.Making.make_order.Goals as goal
 
 -- an order that is needed, and can't be made
-needed : (events : ℕ) (old : List Difference) (order : Difference) → (Imply (all_bounds events old) order → ⊥) → (fault : LoosenFault) → IsCauseAt (length old) fault → IsCauseOf events old order fault
+needed : (events : ℕ) (old : List Difference) (order : Difference) → (Imply (made_bounds events old) order → ⊥) → (fault : LoosenFault) → IsCauseAt (length old) fault → IsCauseOf events old order fault
 needed events old order new Full full = (new, full)
 needed events old order new NotRobust none = none
 needed events old order new Memory none = tt
@@ -18,7 +18,7 @@ returns-then-shows-clause-made g c =
 pub returns : goal.returns
 returns g c =
     let old = c.args.self.now in
-    let new : Imply (all_bounds old.matrix.events old.records.items) c.args.order → ⊥ = λ implied.
+    let new : Imply (made_bounds old.matrix.events old.records.items) c.args.order → ⊥ = λ implied.
     let shown : IsShown old.matrix c.args.order = (shown_taken old.records.items old.matrix c.args.order c.requires.taken c.requires.named).1 implied in
     false≢true (sym c.if-shows.false ∙ c.shows.ensures.1 (subst (IsShown old.matrix) (sym c.of.ensures.value) shown)) in
     record {

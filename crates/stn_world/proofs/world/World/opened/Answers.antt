@@ -1,7 +1,7 @@
 use Rattle.std.{proofs.{Common.{◌≡◌, ℕ, ◌+◌, suc, ◌++◌, List, [], ◌∷◌, map, replicate, sym, ap, ◌∙◌, subst, arith}, lemmas.{Grind.common_steps, List.{map-append, length-map}}}, specs.Rc.rc_value}
 use Rattle.stn_site.specs.Held.{Held}
 use Rattle.stn_records.specs.Content.{Content, no_content}
-use Rattle.stn_world.{specs.{Sites.contents_of, Whole.IsSoundWorld}, proofs.{Sites.{IsStarted, started_one, started_more, started_source, started_sound}, Copies.got}}
+use Rattle.stn_world.{specs.{Sites.site_contents, Whole.IsSoundWorld}, proofs.{Sites.{IsStarted, started_one, started_more, started_source, started_sound}, Copies.got}}
 use Rattle.stn_world.proofs.world.World.opened.Goals as goal
 
 pub loop-before-init : goal.loop-before-init
@@ -41,7 +41,7 @@ pub returns-clause-opening : goal.returns-clause-opening
 returns-clause-opening g c =
     let held = g.C.SiteCopy.held in
     let all : c.loop-before.before ≡ c.args.sites = omega (arith, c.loop-before.invariant.1) in
-    ap (λ (l : List Content). record { source = rc_value c.args.base; sites = contents_of (map held c.loop-before.copies.items); packets = l }) c.new-2.ensures.items
+    ap (λ (l : List Content). record { source = rc_value c.args.base; sites = site_contents (map held c.loop-before.copies.items); packets = l }) c.new-2.ensures.items
     ∙ ap (λ (l : List Content). record { source = rc_value c.args.base; sites = l; packets = [] }) (c.loop-before.invariant.2.nothing ∙ ap (λ (n : ℕ). replicate n no_content) all)
 
 pub invariant_of-result : goal.invariant_of-result

@@ -1,7 +1,7 @@
 use Rattle.stn_lift.specs.PlanSource.{base_bounds}
 use Rattle.stn_records.specs.Content.{live_of}
 use Rattle.stn_questions.proofs.repair.{Largest.{kept_possible, kept_largest}, LiveOnce.live_once}
-use Rattle.stn_questions.proofs.repair.laws.kept_is_largest.Goals as goal
+use Rattle.stn_questions.proofs.repair.laws.kept_is_maximal.Goals as goal
 
 pub returns-clause-possible : goal.returns-clause-possible
 returns-clause-possible c = λ source state ids has dropped. kept_possible (base_bounds source) (live_of state) ids has dropped
