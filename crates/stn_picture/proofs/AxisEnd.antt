@@ -1,6 +1,6 @@
 -- The axis reaches past what it has to show.
-use Rattle.std.{proofs.{Common.{◌≡◌, ℕ, ℤ, zero, suc, ◌+◌, ◌-◌, ◌*◌, ◌/◌, ◌%◌, ◌<◌, ◌≤◌, Bool, true, false, List, [], ◌∷◌, if◌then◌else◌, ⊎_elim, true≢false, subst, sym, arith}, lemmas.{Bool.cases_lt, Nat.{div-add-mod', mod_below, div_below}}}, specs.Prelude.{max, Option}}
-use Rattle.stn_picture.specs.{Axis.{gaps_in, gap_of, first_gap, gaps, fits}, Chart.{reach, furthest, far_of, moment_of, is_open_in, soonest_in, latest_in}, Places.{place_on, line_left, line_width}}
+use Rattle.std.{proofs.{Common.{◌≡◌, ℕ, ℤ, zero, suc, ◌+◌, ◌-◌, ◌*◌, ◌<◌, ◌≤◌, Bool, true, false, List, if◌then◌else◌, ⊎_elim, true≢false, subst, sym, arith}, lemmas.{Bool.cases_lt, Nat.{div-add-mod', mod_below, div_below}}}, specs.Prelude.{Option}}
+use Rattle.stn_picture.specs.{Axis.{gaps_in, gap_of, fits}, Chart.{reach, furthest, axis_reach, is_open_in, soonest_in, latest_in}, Places.{place_on, line_left, line_width}}
 
 -- the axis reaches as far as it has to for each event
 pub reached : (windows : List (ℤ × ℤ)) (events event : ℕ) → 1 ≤ event → event ≤ events → reach windows event ≤ furthest windows events
@@ -44,7 +44,7 @@ on_axis end time below =
 
 module _ (windows : List (ℤ × ℤ)) (events event : ℕ) (now : Option ℤ) (some : 1 ≤ event) (within : event ≤ events) where
   abbrev pub far : ℕ
-  far = far_of windows events now
+  far = axis_reach windows events now
 
   abbrev pub gap : ℕ
   gap = gap_of 0 far

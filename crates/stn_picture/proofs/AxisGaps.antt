@@ -1,6 +1,6 @@
 -- The gaps of an axis.
-use Rattle.std.{proofs.{Common.{◌≡◌, ℕ, zero, suc, ◌+◌, ◌-◌, ◌*◌, ◌/◌, ◌^◌, ◌<◌, ◌≤◌, nat_lt, Bool, true, false, ◌&&◌, List, [], ◌∷◌, length, drop, get_or, if◌then◌else◌, drop-cons, add-one, refl, sym, ap, ◌∙◌, arith}, lemmas.{Bool.{and_parts, Decides.nat_tests}, Nat.le-div}}, specs.{Prelude.nat_le, List.list_all}}
-use Rattle.stn_picture.specs.Axis.{gaps, gaps_in, fits, first_gap, gap_of, widest_gap}
+use Rattle.std.{proofs.{Common.{◌≡◌, ℕ, zero, suc, ◌+◌, ◌-◌, ◌<◌, ◌≤◌, nat_lt, Bool, true, false, ◌&&◌, List, [], ◌∷◌, length, drop, get_or, if◌then◌else◌, drop-cons, add-one, refl, sym, ap, ◌∙◌, arith}, lemmas.{Bool.{and_parts, Decides.nat_tests}, Nat.le-div}}, specs.{Prelude.nat_le, List.list_all}}
+use Rattle.stn_picture.specs.Axis.{gaps, gaps_in, fits, first_gap, gap_of}
 
 all_at : (p : ℕ → Bool) (xs : List ℕ) → list_all p xs ≡ true → (i : ℕ) → i < length xs → p (get_or xs i 0) ≡ true
 all_at p [] e i within = absurd (omega (arith, within))

@@ -1,10 +1,10 @@
 -- Texts that grow by a line.
-use Rattle.std.{proofs.{Common.{◌≡◌, ◌≢◌, ◌⊎◌, ⊎_elim, inl, inr, ℕ, ℤ, zero, suc, ◌+◌, ◌==◌, ◌&&◌, eqb, not, Bool, true, false, cond, if◌then◌else◌, List, [], ◌∷◌, ◌++◌, length, filter, map, take, drop, drop-cons, get_or, ◌<◌, refl, sym, ap, ◌∙◌, add-one, arith, append_assoc}, lemmas.{List.{append-nil, map-append, take_more, Concat.flat_map-append, Elements.filter-append}, Bool.Decides.eqb_tells, Int.ints}}, specs.{List.{flat_map, range_with_len}, Prelude.{max, int_lt, ◌+ℤ◌}}}
+use Rattle.std.{proofs.{Common.{◌≡◌, ℕ, ℤ, zero, suc, ◌+◌, ◌&&◌, not, Bool, true, false, cond, if◌then◌else◌, List, [], ◌∷◌, ◌++◌, length, filter, map, take, drop, drop-cons, get_or, ◌<◌, refl, sym, ap, ◌∙◌, add-one, arith, append_assoc}, lemmas.{List.{append-nil, map-append, take_more, Concat.flat_map-append, Elements.filter-append}, Int.ints}}, specs.{List.{flat_map, range_with_len}, Prelude.{max, int_lt, ◌+ℤ◌}}}
 use Rattle.stn_net.specs.Difference.{Difference}
 use Rattle.stn_conflict.specs.{declared.links.Link.Link, Arcs.{arc_of, weight_of}}
 use Rattle.stn_records.specs.Content.{Content}
 use Rattle.stn_site.specs.{Report.is_done, Windows.window_at}
-use Rattle.stn_picture.specs.{declared.parts.Part.Part, Frame.{entry_at, left_after, entries_text}, Chart.{Chart, held_by, holder_in, floor, floors_at, overdue_from}, Seen.floor_at, Walk.{greatest, sum_of}}
+use Rattle.stn_picture.specs.{declared.parts.Part.Part, Frame.{entry_at, left_after, entries_text}, Chart.{Chart, floor, floors_at, overdue_from}, Seen.present_floor, Walk.{greatest, sum_of}}
 
 -- the text of one number more
 pub range_more : (f : ℕ → List ℕ) (a n next : ℕ) → a + n ≡ next → flat_map f (range_with_len a (suc n)) ≡ flat_map f (range_with_len a n) ++ f next
@@ -49,48 +49,16 @@ count_from p a (suc n) next e =
 pub count_more : (p : ℕ → Bool) (n : ℕ) → length (filter p (range_with_len 1 (n + 1))) ≡ length (filter p (range_with_len 1 n)) + cond (p (n + 1)) 1 0
 count_more p n = rw (add-one n) (count_from p 1 n (suc n) (omega arith))
 
--- the first of two numbers that is not 0
-pub pick_first : (n m : ℕ) → n ≢ 0 → (if n == 0 then m else n) ≡ n
-pick_first n m other = ⊎_elim
-    (λ (zero_is : (eqb n 0 ≡ true) × (n ≡ 0)). absurd (other zero_is.1))
-    (λ (some : (eqb n 0 ≡ false) × (n ≢ 0)). ap (λ (b : Bool). if b then m else n) some.0)
-    (eqb_tells n 0)
-
-pub pick_second : (n m : ℕ) → n ≡ 0 → (if n == 0 then m else n) ≡ m
-pick_second n m none = ⊎_elim
-    (λ (zero_is : (eqb n 0 ≡ true) × (n ≡ 0)). ap (λ (b : Bool). if b then m else n) zero_is.0)
-    (λ (some : (eqb n 0 ≡ false) × (n ≢ 0)). absurd (some.1 none))
-    (eqb_tells n 0)
-
-zero_or : (n : ℕ) → (n ≡ 0) ⊎ (n ≢ 0)
-zero_or n = ⊎_elim (λ (here : (eqb n 0 ≡ true) × (n ≡ 0)). inl here.1) (λ (some : (eqb n 0 ≡ false) × (n ≢ 0)). inr some.1) (eqb_tells n 0)
-
-holder_case : (held whole first second : ℕ) → whole ≡ (if first == 0 then second else first)
-    → (if held == 0 then whole else held) ≡ (if (if held == 0 then first else held) == 0 then second else (if held == 0 then first else held))
-holder_case held whole first second e = ⊎_elim
-    (λ (none : held ≡ 0).
-    pick_second held whole none ∙ e ∙ ap (λ (n : ℕ). if n == 0 then second else n) (sym (pick_second held first none)))
-    (λ (some : held ≢ 0).
-    pick_first held whole some ∙ sym (ap (λ (n : ℕ). if n == 0 then second else n) (pick_first held first some) ∙ pick_first held second some))
-    (zero_or held)
-
--- the first holder of two lists of bounds
-pub holder_append : (windows : List (ℤ × ℤ)) (step : ℕ) (xs ys : List Difference)
-    → holder_in windows step (xs ++ ys) ≡ (if holder_in windows step xs == 0 then holder_in windows step ys else holder_in windows step xs)
-holder_append windows step [] ys = refl
-holder_append windows step (bound ∷ xs) ys =
-    holder_case (held_by windows step bound) (holder_in windows step (xs ++ ys)) (holder_in windows step xs) (holder_in windows step ys) (holder_append windows step xs ys)
-
 range_push : (a n next : ℕ) → a + n ≡ next → range_with_len a (suc n) ≡ range_with_len a n ++ next ∷ []
 range_push a zero next e = let same : a ≡ next = omega (arith, e) in ap (λ k. k ∷ []) same
 range_push a (suc n) next e = let step : a + 1 + n ≡ next = omega (arith, e) in ap (λ rest. a ∷ rest) (range_push (a + 1) n next step)
 
-left_case : (done : Bool) (now : ℤ) (event : ℕ) → map (floor now) (cond (not done) (event ∷ []) []) ≡ floor_at done now event
+left_case : (done : Bool) (now : ℤ) (event : ℕ) → map (floor now) (cond (not done) (event ∷ []) []) ≡ present_floor done now event
 left_case true now event = refl
 left_case false now event = refl
 
 -- the floors of one event more
-pub floors_more : (state : Content) (now : ℤ) (n : ℕ) → floors_at state (n + 1) now ≡ floors_at state n now ++ floor_at (is_done state (n + 1)) now (n + 1)
+pub floors_more : (state : Content) (now : ℤ) (n : ℕ) → floors_at state (n + 1) now ≡ floors_at state n now ++ present_floor (is_done state (n + 1)) now (n + 1)
 floors_more state now n =
     let left : ℕ → Bool = λ event. not (is_done state event) in
     ap (λ events. map (floor now) (filter left events)) (ap (range_with_len 1) (add-one n) ∙ range_push 1 n (n + 1) (omega arith))

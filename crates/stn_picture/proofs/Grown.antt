@@ -1,5 +1,5 @@
 -- Texts that grow piece by piece.
-use Rattle.std.{proofs.Common.{◌≡◌, ℕ, List, ◌++◌, codes, cond, Result, Ok, Err, OnOk, ap, sym, true≢false, ◌∙◌, append_assoc}, specs.{Prelude.{is_ok, MatchResult}, Result.{IsOk, IsErr}}}
+use Rattle.std.{proofs.Common.{◌≡◌, ℕ, List, ◌++◌, cond, Result, Ok, Err, OnOk, ap, sym, true≢false, ◌∙◌, append_assoc}, specs.{Prelude.{is_ok, MatchResult}, Result.{IsOk, IsErr}}}
 
 -- one piece more
 pub then : (front seen piece : List ℕ) {middle end : List ℕ} → middle ≡ front ++ seen → end ≡ middle ++ piece → end ≡ front ++ (seen ++ piece)
@@ -34,7 +34,3 @@ pub written : {T E F : Type 0} (result : Result T E) (write : Result T F) (end t
 written (Ok value) (Ok other) end text whole was holds same = holds ∙ same
 written (Ok value) (Err fault) end text whole was holds same = absurd (true≢false (sym was))
 written (Err fault) write end text whole was holds same = tt
-
--- six pieces in one
-pub joined6 : (a b c d e f : List ℕ) → ((((a ++ b) ++ c) ++ d) ++ e) ++ f ≡ a ++ b ++ c ++ d ++ e ++ f
-joined6 a b c d e f = simp append_assoc

@@ -3,6 +3,7 @@ pub mod AxisGaps
 pub mod Drawing
 pub mod Escaping
 pub mod Grown
+pub mod Noting
 pub mod OnePicture
 pub mod Order
 pub mod SamePicture

@@ -1,5 +1,5 @@
 -- A plan and a state have one picture.
-use Rattle.std.{proofs.Common.{◌≡◌, ℕ, ℤ, zero, suc, pos, ◌+◌, ◌<◌, ◌≤◌, List, [], ◌∷◌, ◌++◌, length, get_or, sym, ap, ◌∙◌, refl, ⊎_elim, arith}, specs.Prelude.Option}
+use Rattle.std.{proofs.Common.{◌≡◌, ℕ, ℤ, suc, pos, ◌<◌, ◌≤◌, List, [], ◌∷◌, ◌++◌, length, get_or, sym, ap, ◌∙◌, refl, ⊎_elim, arith}, specs.Prelude.Option}
 use Rattle.stn_net.{specs.{Difference.Difference, Schedule.HasSchedule}, proofs.{WindowEnds.one_window, Closure.schedule_before}}
 use Rattle.stn_lift.specs.PlanSource.{PlanSource, base_bounds, events_of}
 use Rattle.stn_records.specs.{Content.{Content, live_of}, Id.SiteCounter, declared.record.Record.Record}

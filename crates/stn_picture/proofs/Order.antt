@@ -1,5 +1,5 @@
 -- Each step has a row of its own.
-use Rattle.std.{proofs.{Common.{◌≡◌, ◌≢◌, ◌⊎◌, ℕ, ℤ, zero, suc, ◌+◌, ◌==◌, ◌<◌, ◌≤◌, nat_lt, Bool, true, false, ◌&&◌, ◌||◌, cond, List, [], ◌∷◌, length, filter, ⊎_elim, refl, sym, ap, true≢false, arith}, lemmas.Bool.{cases_lt, Decides.nat_tests}}, specs.List.range_with_len}
+use Rattle.std.{proofs.{Common.{◌≡◌, ◌≢◌, ◌⊎◌, ℕ, ℤ, zero, suc, ◌+◌, ◌==◌, ◌<◌, ◌≤◌, nat_lt, Bool, true, false, ◌&&◌, ◌||◌, cond, List, length, filter, ⊎_elim, refl, sym, ap, true≢false, arith}, lemmas.Bool.{cases_lt, Decides.nat_tests}}, specs.List.range_with_len}
 use Rattle.stn_picture.{specs.Chart.{start_of, soonest_in, is_above, row_in}, proofs.Drawing.one_first}
 
 -- one step comes before another in the order of a time and a number

@@ -1,12 +1,12 @@
 -- States with the same live records have the same picture.
-use Rattle.std.{proofs.Common.{◌≡◌, inl, inr, ℕ, ℤ, zero, suc, ◌+◌, Bool, not, ◌&&◌, if◌then◌else◌, List, [], ◌∷◌, ◌++◌, map, filter, refl, sym, ap, subst, ◌∙◌, ⊎_elim}, specs.{Prelude.{Option, Some, None, int_lt}, List.range_with_len}}
+use Rattle.std.{proofs.Common.{◌≡◌, inl, inr, ℕ, ℤ, zero, suc, ◌+◌, Bool, not, ◌&&◌, if◌then◌else◌, List, ◌++◌, map, filter, refl, sym, ap, subst, ◌∙◌, ⊎_elim}, specs.{Prelude.{Option, Some, None, int_lt}, List.range_with_len}}
 use Rattle.stn_net.specs.{Difference.Difference, Schedule.HasSchedule}
 use Rattle.stn_lift.specs.PlanSource.{PlanSource, base_bounds, events_of, steps_of}
 use Rattle.stn_records.specs.{Id.SiteCounter, declared.record.Record.Record, Content.{Content, live_of}}
 use Rattle.stn_conflict.specs.{Arcs.IsNegativeCycle, Named.IsNamedCycle}
 use Rattle.stn_site.specs.{Bounds.{all_bounds, bounds_of}, Report.{is_done, says_done}, Windows.{window_at, AreWindows}}
 use Rattle.stn_questions.specs.Repair.Repairs.{AreRepairs}
-use Rattle.stn_picture.specs.{Axis.{gap_of, gaps_in}, Chart.{Look, Chart, floor, floors, overdue_from, overdue_event, AreDrawn, chart_of, row_in, holder_in, far_of}, Frame.plan_text, Walk.{walk_of, walk_text}, Picture.{IsPlanPicture, IsWalkPicture, IsPicture}}
+use Rattle.stn_picture.specs.{Axis.{gap_of, gaps_in}, Chart.{Look, floor, floors, overdue_from, overdue_event, AreDrawn, chart_of, row_in, holder_in, axis_reach}, Frame.plan_text, Walk.{walk_of, walk_text}, Picture.{IsPlanPicture, IsWalkPicture, IsPicture}}
 
 abbrev Records : Type 0
 Records = List (SiteCounter × Record)
@@ -57,8 +57,8 @@ module _ (source : PlanSource) (s t : Content) (live : live_of s ≡ live_of t) 
     rows = map (row_in windows (steps_of source)) (range_with_len 0 (steps_of source + 1));
     holders = map (λ step. holder_in windows step (same_bounds i)) (range_with_len 0 (steps_of source + 1));
     overdue = late;
-    gap = gap_of 0 (far_of windows (events_of source) look.present);
-    ticks = gaps_in (gap_of 0 (far_of windows (events_of source) look.present)) (far_of windows (events_of source) look.present);
+    gap = gap_of 0 (axis_reach windows (events_of source) look.present);
+    ticks = gaps_in (gap_of 0 (axis_reach windows (events_of source) look.present)) (axis_reach windows (events_of source) look.present);
   }
 
   pub counted_picture : (look : Look) (names : List (List ℕ)) (text : List ℕ) → IsPicture look names source s text → IsPicture look names source t text

@@ -1,5 +1,5 @@
 -- The sums of the first links.
-use Rattle.std.{proofs.{Common.{◌≡◌, ℕ, ℤ, zero, suc, pos, ◌+◌, ◌*◌, ◌<◌, ◌≤◌, List, [], ◌∷◌, ◌++◌, map, length, get_or, sym, ap, ◌∙◌, subst, All, arith}, lemmas.{Int.ints, List.{FromFn.map-range_with_len_more, Elements.All-push}}}, specs.{Prelude.{◌+ℤ◌, unsigned_abs}, List.range_with_len}}
+use Rattle.std.{proofs.{Common.{◌≡◌, ℕ, ℤ, zero, suc, ◌+◌, ◌<◌, ◌≤◌, List, [], ◌∷◌, ◌++◌, map, length, get_or, sym, ap, ◌∙◌, subst, All, arith}, lemmas.{Int.ints, List.{FromFn.map-range_with_len_more, Elements.All-push}}}, specs.{Prelude.{◌+ℤ◌, unsigned_abs}, List.range_with_len}}
 use Rattle.stn_net.specs.Difference.{Difference}
 use Rattle.stn_conflict.specs.{declared.links.Link.Link, Arcs.arc_of}
 use Rattle.stn_picture.{specs.Walk.sum_of, proofs.Drawing.sum_more}

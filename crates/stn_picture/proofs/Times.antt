@@ -1,5 +1,5 @@
 -- Tests of a sum, and of a difference, of two times.
-use Rattle.std.{proofs.{Common.{◌≡◌, Bool, true, eqb, eqb-true, eq-eqb, to_z, of_z, w64, ap, ◌∙◌, arith}, lemmas.{Int.ints, Bool.Decides.Decides-int_eq}}, specs.{Prelude.{ℤ, ◌+ℤ◌, ◌-ℤ◌}, Ordering.int_eq, Bool.one_answer}}
+use Rattle.std.{proofs.{Common.{◌≡◌, eqb, eqb-true, eq-eqb, to_z, of_z, w64, ap, arith}, lemmas.{Int.ints, Bool.Decides.Decides-int_eq}}, specs.{Prelude.{ℤ, ◌+ℤ◌, ◌-ℤ◌}, Ordering.int_eq, Bool.one_answer}}
 use Rattle.stn_time.specs.Time.{IsWithinHorizon}
 
 pub sum_is : (m w n : ℤ) → IsWithinHorizon m → IsWithinHorizon w → IsWithinHorizon n

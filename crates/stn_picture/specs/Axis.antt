@@ -1,5 +1,5 @@
 -- The axis of time, in milliseconds.
-use Rattle.std.specs.Prelude.{ℕ, ◌+◌, ◌-◌, ◌*◌, ◌/◌, nat_lt, nat_le, Bool, List, [], ◌∷◌, codes, if◌then◌else◌}
+use Rattle.std.specs.Prelude.{ℕ, ◌+◌, ◌-◌, ◌/◌, nat_lt, nat_le, Bool, List, [], ◌∷◌, codes, if◌then◌else◌}
 
 -- the gaps that two ticks may have: 1, 2, 5, 10, 15, 30 seconds, minutes, hours, and days, and more days for what a year doesn't hold
 abbrev pub gaps : List ℕ

@@ -1,5 +1,5 @@
 -- What is drawn of a plan.
-use Rattle.std.specs.{Prelude.{◌≡◌, ◌⊎◌, ℕ, ℤ, zero, suc, pos, ◌+◌, ◌-◌, ◌*◌, ◌/◌, ◌+ℤ◌, ◌-ℤ◌, ◌==◌, nat_lt, int_lt, max, Bool, not, ◌&&◌, ◌||◌, if◌then◌else◌, List, [], ◌∷◌, ◌++◌, map, filter, length, Option, Some, None, Vec, unsigned_abs}, List.range_with_len, Int.is_negative, Ordering.int_eq}
+use Rattle.std.specs.{Prelude.{◌≡◌, ◌⊎◌, ℕ, ℤ, zero, suc, ◌+◌, ◌-◌, ◌*◌, ◌+ℤ◌, ◌-ℤ◌, ◌==◌, nat_lt, int_lt, max, Bool, not, ◌&&◌, ◌||◌, if◌then◌else◌, List, [], ◌∷◌, ◌++◌, map, filter, length, Option, Some, None, unsigned_abs}, List.range_with_len, Int.is_negative, Ordering.int_eq}
 use Rattle.stn_time.specs.Time.{horizon}
 use Rattle.stn_net.specs.{Difference.Difference, Schedule.HasSchedule}
 use Rattle.stn_lift.specs.PlanSource.{PlanSource, steps_of, events_of}
@@ -115,8 +115,8 @@ furthest windows zero = 0
 furthest windows (suc events) = max (furthest windows events) (reach windows (suc events))
 
 -- how far the axis reaches: past each of the times, and past the present
-abbrev pub far_of : List (ℤ × ℤ) → ℕ → Option ℤ → ℕ
-far_of windows events now = max (furthest windows events) (moment_of now) + 1
+abbrev pub axis_reach : List (ℤ × ℤ) → ℕ → Option ℤ → ℕ
+axis_reach windows events now = max (furthest windows events) (moment_of now) + 1
 
 -- what is drawn: how, the names of the steps, if they have any, how many these are, the windows of the origin and of all events, which of
 -- them are done, the row of each step and the event that holds each step's start, with 0 for the origin's, the overdue event, or 0, the
@@ -144,6 +144,6 @@ chart_of look names source state windows overdue = record {
   rows = map (row_in windows (steps_of source)) (range_with_len 0 (steps_of source + 1));
   holders = map (λ step. holder_in windows step (all_bounds source state)) (range_with_len 0 (steps_of source + 1));
   overdue = overdue;
-  gap = gap_of 0 (far_of windows (events_of source) look.present);
-  ticks = gaps_in (gap_of 0 (far_of windows (events_of source) look.present)) (far_of windows (events_of source) look.present);
+  gap = gap_of 0 (axis_reach windows (events_of source) look.present);
+  ticks = gaps_in (gap_of 0 (axis_reach windows (events_of source) look.present)) (axis_reach windows (events_of source) look.present);
 }

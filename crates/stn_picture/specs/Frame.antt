@@ -86,7 +86,7 @@ present_text chart (Some now) = present_line (place_of chart (moment_of (Some no
 abbrev pub sample_text : Part → ℕ → ℕ → List ℕ
 sample_text part.Soonest left base = bar_text (codes "a") left (base - 4) 18
 sample_text part.Lasting left base = bar_text (codes "p") left (base - 4) 18
-sample_text part.Latest left base = mark_text (left + 9) (base - 12)
+sample_text part.Latest left base = mark_text (codes "k") (left + 9) (base - 12)
 sample_text part.Fixed left base = bar_text (codes "f") left (base - 4) 18
 sample_text part.Done left base = bar_text (codes "d") left (base - 4) 18
 sample_text part.Running left base = bar_text (codes "r") left (base - 4) 18

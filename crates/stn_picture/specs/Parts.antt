@@ -1,6 +1,5 @@
 -- What is true of the steps of a chart.
-use Rattle.std.specs.{Prelude.{ℕ, ℤ, ◌+◌, ◌-◌, ◌*◌, ◌/◌, ◌==◌, nat_lt, nat_le, Bool, true, false, not, ◌&&◌, ◌||◌, if◌then◌else◌, List, [], ◌∷◌, ◌++◌, length, filter, slice_index_or, codes, decimal, Option, Some, None}, List.range_with_len}
-use Rattle.stn_lift.specs.BaseBounds.{step_of}
+use Rattle.std.specs.{Prelude.{ℕ, ℤ, ◌+◌, ◌-◌, ◌*◌, ◌==◌, nat_lt, nat_le, Bool, false, not, ◌&&◌, if◌then◌else◌, List, [], ◌∷◌, length, filter, slice_index_or, Option, Some, None}, List.range_with_len}
 use Rattle.stn_guard.specs.declared.owners.OwnedSteps.{OwnedSteps}
 use Rattle.stn_picture.specs.{Chart.{Chart, start_of, end_of, soonest_in, latest_in, is_open_in, moment_of}, Places.{place_on, row_top}, declared.parts.Part.Part}
 use Rattle.stn_picture.specs.declared.parts.Part.TheVariants as part
@@ -21,8 +20,8 @@ is_recorded chart event = slice_index_or chart.done event false
 abbrev pub is_begun : Chart → ℕ → Bool
 is_begun chart step = is_recorded chart (start_of step)
 
-abbrev pub is_done : Chart → ℕ → Bool
-is_done chart step = is_begun chart step && is_recorded chart (end_of step)
+abbrev pub is_step_done : Chart → ℕ → Bool
+is_step_done chart step = is_begun chart step && is_recorded chart (end_of step)
 
 abbrev pub is_running : Chart → ℕ → Bool
 is_running chart step = is_begun chart step && not (is_recorded chart (end_of step))
@@ -63,7 +62,7 @@ shows chart part.Soonest step = not (is_begun chart step) && not (is_fixed chart
 shows chart part.Lasting step = may_last chart step && not (is_due chart step)
 shows chart part.Latest step = may_wait chart step
 shows chart part.Fixed step = not (is_begun chart step) && is_fixed chart step
-shows chart part.Done step = is_done chart step
+shows chart part.Done step = is_step_done chart step
 shows chart part.Running step = is_running chart step
 shows chart part.Due step = is_due chart step
 shows chart part.Open step = is_open chart (end_of step)
@@ -84,8 +83,8 @@ abbrev pub owner_in : List OwnedSteps → ℕ → ℕ
 owner_in [] step = 0
 owner_in (owned ∷ rest) step = if has_step owned step then owned.site else owner_in rest step
 
-abbrev pub owner_of : Chart → ℕ → ℕ
-owner_of chart step = owner_in chart.look.owned step
+abbrev pub step_owner : Chart → ℕ → ℕ
+step_owner chart step = owner_in chart.look.owned step
 
 -- the step has a name, and which
 abbrev pub is_named : Chart → ℕ → Bool

@@ -1,9 +1,9 @@
 -- The rows of the steps.
-use Rattle.std.specs.Prelude.{ℕ, ℤ, ◌+◌, ◌-◌, ◌%◌, ◌==◌, nat_lt, max, Bool, not, ◌&&◌, List, [], ◌++◌, codes, decimal, if◌then◌else◌}
+use Rattle.std.specs.Prelude.{ℕ, ℤ, ◌+◌, ◌-◌, ◌%◌, ◌==◌, nat_lt, max, not, ◌&&◌, List, [], ◌++◌, codes, decimal, if◌then◌else◌}
 use Rattle.stn_time.specs.Text.{printed}
 use Rattle.stn_lift.specs.BaseBounds.{step_of}
 use Rattle.stn_site.specs.Windows.{window_at}
-use Rattle.stn_picture.specs.{Chart.{Chart, start_of, end_of}, Escape.{shown, cut}, Parts.{soonest, latest, is_open, is_begun, is_done, is_running, is_fixed, is_due, may_last, may_wait, owner_of, is_named, name_of, place_of, top_of, holder_of}, Places.{line_left, line_width, row_height, words_below, middle_below, least_width, most_name}}
+use Rattle.stn_picture.specs.{Chart.{Chart, start_of, end_of}, Escape.{shown, cut}, Parts.{soonest, latest, is_open, is_begun, is_step_done, is_running, is_fixed, is_due, may_last, may_wait, step_owner, is_named, name_of, place_of, top_of, holder_of}, Places.{line_left, line_width, row_height, words_below, middle_below, least_width, most_name}}
 
 -- the window of an event in words
 abbrev pub latest_text : Chart → ℕ → List ℕ
@@ -40,26 +40,26 @@ label_text chart step = number_text (words_base chart step) step ++ short_name c
 -- the solid part of a step: done, running, one that cannot move, one that a site owns, another
 abbrev pub class_of : Chart → ℕ → List ℕ
 class_of chart step =
-    if is_done chart step then codes "d"
+    if is_step_done chart step then codes "d"
     else (if is_running chart step then codes "r"
     else (if is_fixed chart step then codes "f"
-    else (if owner_of chart step == 0 then codes "a"
-    else codes "a o" ++ decimal (owner_of chart step % 6))))
+    else (if step_owner chart step == 0 then codes "a"
+    else codes "a o" ++ decimal (step_owner chart step % 6))))
 
 -- a bar that begins at a place, and is so wide
-abbrev pub line_text : ℕ → ℕ → ℕ → List ℕ
-line_text left middle width = codes "' d='M" ++ decimal left ++ codes " " ++ decimal middle ++ codes "h" ++ decimal width ++ codes "'/>"
+abbrev pub bar_line_text : ℕ → ℕ → ℕ → List ℕ
+bar_line_text left middle width = codes "' d='M" ++ decimal left ++ codes " " ++ decimal middle ++ codes "h" ++ decimal width ++ codes "'/>"
 
 abbrev pub bar_text : List ℕ → ℕ → ℕ → ℕ → List ℕ
-bar_text class left middle width = codes "<path class='" ++ class ++ line_text left middle width
+bar_text class left middle width = codes "<path class='" ++ class ++ bar_line_text left middle width
 
 -- a bar that fades
 abbrev pub fading_text : ℕ → ℕ → ℕ → List ℕ
 fading_text left top width = codes "<rect fill='url(#j)' x='" ++ decimal left ++ codes "' y='" ++ decimal top ++ codes "' width='" ++ decimal width ++ codes "' height='6'/>"
 
 -- the mark of a latest start
-abbrev pub mark_text : ℕ → ℕ → List ℕ
-mark_text left top = codes "<path class='k' d='M" ++ decimal left ++ codes " " ++ decimal top ++ codes "v16'/>"
+abbrev pub mark_text : List ℕ → ℕ → ℕ → List ℕ
+mark_text class left top = codes "<path class='" ++ class ++ codes "' d='M" ++ decimal left ++ codes " " ++ decimal top ++ codes "v16'/>"
 
 abbrev pub middle_of : Chart → ℕ → ℕ
 middle_of chart step = top_of chart step + middle_below
@@ -96,17 +96,20 @@ abbrev pub time_text : Chart → ℕ → List ℕ
 time_text chart step = moment_text (time_class chart step) (behind chart step) (words_base chart step) (window_at chart.windows (end_of step)).1
 
 -- from the soonest end to the end of the axis
-abbrev pub open_text : Chart → ℕ → List ℕ
-open_text chart step = fading_text (place_of chart (soonest chart (end_of step))) (middle_of chart step - 3)
+abbrev pub open_bar_text : Chart → ℕ → List ℕ
+open_bar_text chart step = fading_text (place_of chart (soonest chart (end_of step))) (middle_of chart step - 3)
     (line_left + line_width - place_of chart (soonest chart (end_of step)))
 
 -- what stands behind the solid part
 abbrev pub rest_text : Chart → ℕ → List ℕ
-rest_text chart step = if is_open chart (end_of step) then open_text chart step else lasting_text chart step ++ time_text chart step
+rest_text chart step = if is_open chart (end_of step) then open_bar_text chart step else lasting_text chart step ++ time_text chart step
 
--- the mark at the latest start
+-- the mark at the latest start; it has the colour of the present where the step is due
+abbrev pub mark_class : Chart → ℕ → List ℕ
+mark_class chart step = if is_due chart step then codes "c" else codes "k"
+
 abbrev pub latest_mark : Chart → ℕ → List ℕ
-latest_mark chart step = if may_wait chart step then mark_text (place_of chart (latest chart (start_of step))) (top_of chart step + 4) else []
+latest_mark chart step = if may_wait chart step then mark_text (mark_class chart step) (place_of chart (latest chart (start_of step))) (top_of chart step + 4) else []
 
 -- the number of a site, at the right edge
 abbrev pub edge_text : ℕ → ℕ → List ℕ
@@ -114,7 +117,7 @@ edge_text base site = codes "<text class='s e' x='992' y='" ++ decimal base ++ c
 
 -- that of the site that owns the step
 abbrev pub owner_text : Chart → ℕ → List ℕ
-owner_text chart step = if owner_of chart step == 0 then [] else edge_text (words_base chart step) (owner_of chart step)
+owner_text chart step = if step_owner chart step == 0 then [] else edge_text (words_base chart step) (step_owner chart step)
 
 -- an arrow down, from one place to another
 abbrev pub down_text : ℕ → ℕ → ℕ → ℕ → List ℕ

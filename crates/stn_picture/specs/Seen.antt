@@ -1,5 +1,5 @@
 -- The chart that the code has, and the windows that it draws.
-use Rattle.std.specs.Prelude.{ℕ, ℤ, Bool, List, [], ◌∷◌, map, Option, if◌then◌else◌}
+use Rattle.std.specs.Prelude.{ℕ, ℤ, ◌==◌, Bool, List, [], ◌∷◌, map, Option, if◌then◌else◌}
 use Rattle.stn_lift.specs.PlanSource.{PlanSource, events_of}
 use Rattle.stn_net.specs.Difference.{Difference}
 use Rattle.stn_records.specs.Content.{Content}
@@ -24,5 +24,9 @@ abbrev pub overdue_of : {A : Type 0} → PlanSource → Content → Option ℤ �
 overdue_of source state now drawn = if drawn.late then overdue_event state drawn.windows.items (events_of source) now else 0
 
 -- the bound that an event comes now or later, where it is left
-abbrev pub floor_at : Bool → ℤ → ℕ → List Difference
-floor_at done now event = if done then [] else floor now event ∷ []
+abbrev pub present_floor : Bool → ℤ → ℕ → List Difference
+present_floor done now event = if done then [] else floor now event ∷ []
+
+-- the first of two events that there is; 0, if there is none
+abbrev pub first_holder : ℕ → ℕ → ℕ
+first_holder one other = if one == 0 then other else one

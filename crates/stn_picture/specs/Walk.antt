@@ -1,6 +1,6 @@
 -- The picture of a conflict: a walk along its links. The first event stands at 0, and each link moves on by what it allows, so that each
 -- row ends at the latest time that the rows above leave its event.
-use Rattle.std.specs.{Prelude.{◌≡◌, ℕ, ℤ, pos, neg_ℤ, ◌+◌, ◌-◌, ◌*◌, ◌/◌, ◌%◌, ◌+ℤ◌, ◌==◌, ◌&&◌, nat_lt, Bool, max, List, [], ◌∷◌, ◌++◌, length, take, map, slice_index_or, unsigned_abs, if◌then◌else◌, codes, decimal}, List.{flat_map, range_with_len}, Int.{is_negative, abs_diff}}
+use Rattle.std.specs.{Prelude.{ℕ, ℤ, pos, neg_ℤ, ◌+◌, ◌-◌, ◌*◌, ◌/◌, ◌%◌, ◌+ℤ◌, ◌==◌, ◌&&◌, nat_lt, Bool, max, List, [], ◌∷◌, ◌++◌, length, take, map, slice_index_or, unsigned_abs, if◌then◌else◌, codes, decimal}, List.{flat_map, range_with_len}, Int.{is_negative, abs_diff}}
 use Rattle.stn_time.specs.Text.{printed}
 use Rattle.stn_net.specs.{Difference.Difference, Event.event_text}
 use Rattle.stn_lift.specs.BaseBounds.{step_of}
@@ -8,7 +8,7 @@ use Rattle.stn_records.specs.Id.{SiteCounter, same_ids}
 use Rattle.stn_conflict.specs.{declared.links.{Link.Link, Side.{Side, TheVariants.{Upper, Lower}}}, Arcs.{bound_at, arc_of, weight_of}}
 use Rattle.stn_site.specs.{declared.names.BoundName.{BoundName, TheVariants.{Plan, Record}}, Names.{name_in, name_text}, Lines.side_text}
 use Rattle.stn_questions.specs.declared.repair.Repair.{Repair}
-use Rattle.stn_picture.specs.{Axis.{gap_of, gaps_in, unit_of, unit_text}, Escape.{shown, cut}, Frame.{open_text, paper_text, heading_text}, Style.{style_text, walk_style}}
+use Rattle.stn_picture.specs.{Axis.{gap_of, gaps_in, unit_of, unit_text}, Escape.{cut}, Frame.{open_text, paper_text, heading_text}, Style.walk_style}
 
 -- what is drawn of a conflict: the title, the names of the steps, the plan's bounds, the ids and the bounds of the live records, the links,
 -- the sums of the links above each row, the repairs, the gap of the axis, and how many gaps it has before 0 and after it
@@ -83,29 +83,29 @@ length_of_axis walk = max (walk.gap * (walk.before + walk.after)) 1
 abbrev pub place_among : ℕ → ℕ → ℕ
 place_among end far = 500 + 440 * far / end
 
-abbrev pub place_of : Walk → ℤ → ℕ
-place_of walk time = place_among (length_of_axis walk) (along walk time)
+abbrev pub walk_place : Walk → ℤ → ℕ
+walk_place walk time = place_among (length_of_axis walk) (along walk time)
 
 -- where a row begins; rows are counted from 0
-abbrev pub top_of : ℕ → ℕ
-top_of row = 54 + 34 * row
+abbrev pub walk_top : ℕ → ℕ
+walk_top row = 54 + 34 * row
 
-abbrev pub height_of : ℕ → ℕ
-height_of links = top_of (links + 1) + 36
+abbrev pub walk_height : ℕ → ℕ
+walk_height links = walk_top (links + 1) + 36
 
 -- the link of a row
 abbrev pub link_at : Walk → ℕ → Link
 link_at walk row = slice_index_or walk.links row (record { place = 0; side = Upper })
 
-abbrev pub bound_of : Walk → ℕ → Difference
-bound_of walk row = bound_at (bounds_in walk) (link_at walk row).place
+abbrev pub walk_bound : Walk → ℕ → Difference
+walk_bound walk row = bound_at (bounds_in walk) (link_at walk row).place
 
-abbrev pub name_of : Walk → ℕ → BoundName
-name_of walk row = name_in walk.base walk.ids (link_at walk row).place
+abbrev pub linked_name : Walk → ℕ → BoundName
+linked_name walk row = name_in walk.base walk.ids (link_at walk row).place
 
 -- `<name> upper` or `<name> lower`
 abbrev pub link_name : Walk → ℕ → List ℕ
-link_name walk row = name_text (name_of walk row) ++ codes " " ++ side_text (link_at walk row).side
+link_name walk row = name_text (linked_name walk row) ++ codes " " ++ side_text (link_at walk row).side
 
 -- the limit that a side asks for
 abbrev pub limit_words : Side → Difference → List ℕ
@@ -116,13 +116,13 @@ limit_words Lower bound = codes " at least " ++ printed bound.lo
 abbrev pub is_duration : Difference → Bool
 is_duration bound = (bound.to == bound.from + 1) && (bound.to % 2 == 0)
 
--- the name of a step, cut to so many characters, or its number
-abbrev pub step_name : Walk → ℕ → ℕ → List ℕ
-step_name walk most step = if nat_lt (step - 1) (length walk.names) then cut most (slice_index_or walk.names (step - 1) []) else codes "step " ++ decimal step
+-- a step by its number, and by its name, cut to so many characters, if it has one
+abbrev pub numbered_name : ℕ → ℕ → List ℕ → List ℕ
+numbered_name most step name = decimal step ++ codes " " ++ cut most name
 
--- of a step, by its number and its name
 abbrev pub step_words : Walk → ℕ → ℕ → List ℕ
-step_words walk most step = decimal step ++ codes " " ++ step_name walk most step
+step_words walk most step =
+    if nat_lt (step - 1) (length walk.names) then numbered_name most step (slice_index_or walk.names (step - 1) []) else codes "step " ++ decimal step
 
 -- what a link asks: of a step how long it lasts, and else how long after the one event the other comes
 abbrev pub asked_text : Walk → ℕ → Side → Difference → List ℕ
@@ -130,19 +130,20 @@ asked_text walk most side bound =
     if is_duration bound then step_words walk most (step_of bound.to) ++ limit_words side bound
     else event_text bound.to ++ limit_words side bound ++ codes " after " ++ event_text bound.from
 
--- which step an event starts or ends, for what a browser shows
+-- which step an event starts or ends: a line of what a browser shows
 abbrev pub event_words : Walk → ℕ → List ℕ
-event_words walk event = if event == 0 then [] else codes "; " ++ event_text event ++ codes ": " ++ step_words walk 200 (step_of event)
+event_words walk event = if event == 0 then [] else event_text event ++ codes ": " ++ step_words walk 200 (step_of event) ++ codes "\n"
 
 -- what the link of a row asks, and which steps its events start or end
 abbrev pub row_asked : Walk → ℕ → ℕ → List ℕ
-row_asked walk most row = asked_text walk most (link_at walk row).side (bound_of walk row)
+row_asked walk most row = asked_text walk most (link_at walk row).side (walk_bound walk row)
 
 abbrev pub row_events : Walk → ℕ → List ℕ
-row_events walk row = event_words walk (bound_of walk row).from ++ event_words walk (bound_of walk row).to
+row_events walk row = event_words walk (walk_bound walk row).from ++ event_words walk (walk_bound walk row).to
 
-abbrev pub title_text : Walk → ℕ → List ℕ
-title_text walk row = codes "<g><title>" ++ link_name walk row ++ codes ": " ++ row_asked walk 200 row ++ row_events walk row ++ codes "</title>"
+-- these steps by their names, if they have any
+abbrev pub walk_title : Walk → ℕ → List ℕ
+walk_title walk row = if length walk.names == 0 then [] else codes "<title>" ++ row_events walk row ++ codes "</title>"
 
 abbrev pub name_opening : ℕ → List ℕ
 name_opening base = codes "<text class='h' x='8' y='" ++ decimal base ++ codes "'>"
@@ -151,8 +152,8 @@ abbrev pub words_opening : ℕ → List ℕ
 words_opening base = codes "</text><text class='n' x='128' y='" ++ decimal base ++ codes "'>"
 
 -- the name of the link, and in words what it asks
-abbrev pub words_text : Walk → ℕ → List ℕ
-words_text walk row = name_opening (top_of row + 15) ++ link_name walk row ++ words_opening (top_of row + 15) ++ row_asked walk 24 row ++ codes "</text>\n"
+abbrev pub walk_words : Walk → ℕ → List ℕ
+walk_words walk row = name_opening (walk_top row + 15) ++ link_name walk row ++ words_opening (walk_top row + 15) ++ row_asked walk 24 row ++ codes "</text>\n"
 
 -- what the others leave: the range of a repair from below or from above
 abbrev pub leaves_text : Side → Repair → List ℕ
@@ -163,7 +164,7 @@ abbrev pub mend_opening : ℕ → List ℕ
 mend_opening base = codes "<text class='j' x='128' y='" ++ decimal base ++ codes "'>alone mends it: "
 
 abbrev pub mend_text : ℕ → Side → Repair → List ℕ
-mend_text row side repair = mend_opening (top_of row + 29) ++ leaves_text side repair ++ codes "</text>\n"
+mend_text row side repair = mend_opening (walk_top row + 29) ++ leaves_text side repair ++ codes "</text>\n"
 
 -- the record alone mends the conflict
 abbrev pub mends_text : ℕ → Side → SiteCounter → Repair → List ℕ
@@ -186,46 +187,46 @@ abbrev pub dot_text : ℕ → ℕ → List ℕ
 dot_text left middle = codes "<circle class='x' cx='" ++ decimal left ++ codes "' cy='" ++ decimal middle ++ codes "' r='3'/>"
 
 abbrev pub stem_text : ℕ → ℕ → ℕ → List ℕ
-stem_text left right middle = codes "<path class='u' d='M" ++ decimal left ++ codes " " ++ decimal middle ++ codes "H" ++ decimal right ++ codes "'/>"
+stem_text left right middle = codes "<path d='M" ++ decimal left ++ codes " " ++ decimal middle ++ codes "H" ++ decimal right ++ codes "'/>"
 
--- an arrow, if it is longer than its tip
-abbrev pub long_stem : ℕ → ℕ → ℕ → List ℕ
-long_stem left right middle = if nat_lt (abs_diff left right) 9 then [] else stem_text left right middle
-
--- a dot, and an arrow from it
-abbrev pub arrow_text : ℕ → ℕ → ℕ → List ℕ
-arrow_text left right middle = dot_text left middle ++ long_stem left right middle
+-- an arrow, or a dot if it is shorter than its tip
+abbrev pub walk_arrow : ℕ → ℕ → ℕ → List ℕ
+walk_arrow left right middle = if nat_lt (abs_diff left right) 9 then dot_text left middle else stem_text left right middle
 
 -- down to the next row
 abbrev pub drop_text : ℕ → ℕ → List ℕ
-drop_text right top = codes "<path class='o' d='M" ++ decimal right ++ codes " " ++ decimal top ++ codes "v26'/></g>\n"
+drop_text right top = codes "M" ++ decimal right ++ codes " " ++ decimal top ++ codes "v26"
 
 -- where a row begins: at the sum of the links above
 abbrev pub left_of : Walk → ℕ → ℕ
-left_of walk row = place_of walk (sum_at walk row)
+left_of walk row = walk_place walk (sum_at walk row)
 
 abbrev pub row_mending : Walk → ℕ → List ℕ
-row_mending walk row = mending_text row (link_at walk row).side walk.repairs (name_of walk row)
+row_mending walk row = mending_text row (link_at walk row).side walk.repairs (linked_name walk row)
 
 abbrev pub row_label : Walk → ℕ → List ℕ
-row_label walk row = event_label (arc_of (bounds_in walk) (link_at walk row)).from (left_of walk row) (left_of walk (row + 1)) (top_of row + 21)
+row_label walk row = event_label (arc_of (bounds_in walk) (link_at walk row)).from (left_of walk row) (left_of walk (row + 1)) (walk_top row + 21)
 
 abbrev pub row_arrow : Walk → ℕ → List ℕ
-row_arrow walk row = arrow_text (left_of walk row) (left_of walk (row + 1)) (top_of row + 17)
+row_arrow walk row = walk_arrow (left_of walk row) (left_of walk (row + 1)) (walk_top row + 17)
 
 abbrev pub row_drop : Walk → ℕ → List ℕ
-row_drop walk row = drop_text (left_of walk (row + 1)) (top_of row + 21)
+row_drop walk row = drop_text (left_of walk (row + 1)) (walk_top row + 21)
 
 -- the row of a link: it begins at the sum of the links above, and ends at the sum with it
-abbrev pub row_text : Walk → ℕ → List ℕ
-row_text walk row = title_text walk row ++ words_text walk row ++ row_mending walk row ++ row_label walk row ++ row_arrow walk row ++ row_drop walk row
+abbrev pub walk_row : Walk → ℕ → List ℕ
+walk_row walk row = codes "<g>" ++ walk_title walk row ++ walk_words walk row ++ row_mending walk row ++ row_label walk row ++ row_arrow walk row ++ codes "</g>\n"
+
+-- the lines from each row down to the next one
+abbrev pub walk_drops : Walk → List ℕ
+walk_drops walk = codes "<path class='o' d='" ++ flat_map (row_drop walk) (range_with_len 0 (length walk.links)) ++ codes "'/>\n"
 
 -- the line at a tick of the axis, which begins so many gaps before 0
 abbrev pub tick_time : Walk → ℕ → ℤ
 tick_time walk tick = pos (walk.gap * tick) +ℤ neg_ℤ (pos (walk.gap * walk.before))
 
-abbrev pub tick_line : Walk → ℕ → List ℕ
-tick_line walk tick = codes "M" ++ decimal (place_of walk (tick_time walk tick)) ++ codes " 50V" ++ decimal (top_of (length walk.links + 1))
+abbrev pub walk_tick : Walk → ℕ → List ℕ
+walk_tick walk tick = codes "M" ++ decimal (walk_place walk (tick_time walk tick)) ++ codes " 50V" ++ decimal (walk_top (length walk.links + 1))
 
 -- a number of units, with its sign, and the unit at 0
 abbrev pub tick_text : ℕ → ℕ → ℕ → List ℕ
@@ -236,15 +237,15 @@ tick_text gap before tick =
 abbrev pub tick_opening : ℕ → List ℕ
 tick_opening left = codes "<tspan x='" ++ decimal left ++ codes "'>"
 
-abbrev pub tick_words : Walk → ℕ → List ℕ
-tick_words walk tick = tick_opening (place_of walk (tick_time walk tick)) ++ tick_text walk.gap walk.before tick ++ codes "</tspan>"
+abbrev pub walk_tick_words : Walk → ℕ → List ℕ
+walk_tick_words walk tick = tick_opening (walk_place walk (tick_time walk tick)) ++ tick_text walk.gap walk.before tick ++ codes "</tspan>"
 
 abbrev pub tick_count : Walk → ℕ
 tick_count walk = walk.before + walk.after + 1
 
-abbrev pub axis_text : Walk → List ℕ
-axis_text walk = codes "<path class='g' d='" ++ flat_map (tick_line walk) (range_with_len 0 (tick_count walk)) ++ codes "'/>\n<text class='s m' y='44'>"
-    ++ flat_map (tick_words walk) (range_with_len 0 (tick_count walk)) ++ codes "</text>\n"
+abbrev pub walk_axis : Walk → List ℕ
+walk_axis walk = codes "<path class='g' d='" ++ flat_map (walk_tick walk) (range_with_len 0 (tick_count walk)) ++ codes "'/>\n<text class='s m' y='44'>"
+    ++ flat_map (walk_tick_words walk) (range_with_len 0 (tick_count walk)) ++ codes "</text>\n"
 
 -- the event at which the walk begins
 abbrev pub first_event : Walk → ℕ
@@ -257,8 +258,8 @@ last_sum walk = sum_at walk (length walk.links)
 abbrev pub summary_opening : ℕ → List ℕ
 summary_opening count = codes "<text class='s e' x='992' y='20'>" ++ decimal count ++ codes " bounds contradict each other by "
 
-abbrev pub summary_text : Walk → List ℕ
-summary_text walk = summary_opening (length walk.links) ++ printed (neg_ℤ (last_sum walk)) ++ codes " s</text>\n"
+abbrev pub walk_summary : Walk → List ℕ
+walk_summary walk = summary_opening (length walk.links) ++ printed (neg_ℤ (last_sum walk)) ++ codes " s</text>\n"
 
 -- the first event, and that it would come before itself
 abbrev pub itself_opening : List ℕ → ℕ → List ℕ
@@ -282,17 +283,17 @@ back_text event sum left right top = before_itself event sum (top + 15) ++ span_
 abbrev pub foot_text : List ℕ → ℕ → List ℕ
 foot_text event base = codes "<text class='s' x='8' y='" ++ decimal base ++ codes "'>From row to row: the latest time of the next event, where " ++ event ++ codes " is at 0.</text>\n"
 
-abbrev pub head_text : Walk → List ℕ
-head_text walk = open_text walk.title (height_of (length walk.links)) ++ style_text ++ walk_style
-    ++ paper_text (height_of (length walk.links)) (top_of 1) (top_of (length walk.links + 1)) ++ heading_text walk.title ++ summary_text walk
+abbrev pub walk_head : Walk → List ℕ
+walk_head walk = open_text walk.title (walk_height (length walk.links)) ++ walk_style
+    ++ paper_text (walk_height (length walk.links)) (walk_top 1) (walk_top (length walk.links + 1)) ++ heading_text walk.title ++ walk_summary walk
 
 -- the last row, and what stands below
 abbrev pub last_row : Walk → List ℕ
-last_row walk = back_text (event_text (first_event walk)) (last_sum walk) (place_of walk (last_sum walk)) (place_of walk (pos 0)) (top_of (length walk.links))
+last_row walk = back_text (event_text (first_event walk)) (last_sum walk) (walk_place walk (last_sum walk)) (walk_place walk (pos 0)) (walk_top (length walk.links))
 
 abbrev pub walk_foot : Walk → List ℕ
-walk_foot walk = foot_text (event_text (first_event walk)) (top_of (length walk.links + 1) + 24)
+walk_foot walk = foot_text (event_text (first_event walk)) (walk_top (length walk.links + 1) + 24)
 
 -- the picture of a conflict
 abbrev pub walk_text : Walk → List ℕ
-walk_text walk = head_text walk ++ axis_text walk ++ flat_map (row_text walk) (range_with_len 0 (length walk.links)) ++ last_row walk ++ walk_foot walk ++ codes "</svg>\n"
+walk_text walk = walk_head walk ++ walk_axis walk ++ walk_drops walk ++ flat_map (walk_row walk) (range_with_len 0 (length walk.links)) ++ last_row walk ++ walk_foot walk ++ codes "</svg>\n"

@@ -7,8 +7,9 @@ ghost use Rattle.stn_picture.specs.{Chart.{chart_of, seen_look}, Frame.plan_text
 use crate::axis::{gap_of, gaps_in};
 use crate::floors::{Drawn, overdue_of};
 use crate::frame::append_plan;
+use crate::holders::holders_in;
 use crate::look::{Chart, Look};
-use crate::tables::{far_of, holders_in, rows_in};
+use crate::tables::{axis_reach, rows_in};
 use std::alloc::Allocator;
 use stn_site::SitePlan;
 use stn_time::Memory;
@@ -34,7 +35,7 @@ pub fn chart_text<'x, A: Allocator + Copy>(
         base.bounds(),
         &live,
     )?;
-    let far = far_of(&drawn.windows, base.events(), look.present);
+    let far = axis_reach(&drawn.windows, base.events(), look.present);
     let gap = gap_of(0, far);
     let chart = Chart {
         look,

@@ -4,7 +4,7 @@ ghost use Rattle.stn_net.specs.{Difference.{Difference, NamesEvents}, Event.most
 ghost use Rattle.stn_lift.specs.PlanSource.{events_of};
 ghost use Rattle.stn_conflict.specs.Distances.{AreDistancesFrom, AreDistancesTo};
 ghost use Rattle.stn_site.specs.{Bounds.{all_bounds, live_bounds}, Windows.{window_at, AreWindows}};
-ghost use Rattle.stn_picture.specs.{Chart.{floor, floors, overdue_event, AreDrawn}, Seen.{floor_at, overdue_of}};
+ghost use Rattle.stn_picture.specs.{Chart.{floor, floors, overdue_event, AreDrawn}, Seen.{present_floor, overdue_of}};
 
 use crate::look::Look;
 use crate::tables::window_at;
@@ -118,7 +118,7 @@ fn push_floor<A: Allocator>(
     requires within { event ≤ events }
     requires few { events ≤ most_events }
     requires named { All (NamesEvents events) bounds.old.items }
-    ensures pushed { OnOk result (bounds.new.items ≡ bounds.old.items ++ floor_at done now event) }
+    ensures pushed { OnOk result (bounds.new.items ≡ bounds.old.items ++ present_floor done now event) }
     ensures named { OnOk result (All (NamesEvents events) bounds.new.items) }
 {
     if done {

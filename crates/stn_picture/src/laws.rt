@@ -2,7 +2,7 @@ ghost use Rattle.std.specs.{Prelude.{◌≡◌, ◌≢◌, ◌+◌, ◌*◌, ◌
 ghost use Rattle.stn_lift.specs.PlanSource.{PlanSource};
 ghost use Rattle.stn_records.specs.Content.{Content};
 ghost use Rattle.stn_site.specs.{Held.Held, Calls.{Accepted, CameBy, TookSame}};
-ghost use Rattle.stn_picture.specs.{Axis.{gap_of, gaps_in}, Chart.{Look, far_of, is_open_in, latest_in, row_in, soonest_in}, Escape.{are_named, is_plain, shown}, Picture.IsPicture, Places.{height_of, line_left, line_width, place_on, row_height, row_top}};
+ghost use Rattle.stn_picture.specs.{Axis.{gap_of, gaps_in}, Chart.{Look, axis_reach, is_open_in, latest_in, row_in, soonest_in}, Escape.{are_named, is_plain, shown}, Picture.IsPicture, Places.{height_of, line_left, line_width, place_on, row_height, row_top}};
 
 use stn_conflict::{negative_cycle_is_conflict, one_named_cycle};
 use stn_records::counts_same;
@@ -46,8 +46,8 @@ pub fn steps_have_rows()
 pub fn times_are_on_the_axis()
     ensures soonest { (windows : List (ℤ × ℤ)) → (events event : ℕ) → (now : Option ℤ) → 1 ≤ event → event ≤ events
         → soonest_in windows event ≤ latest_in windows event
-        → place_on (gap_of 0 (far_of windows events now) * gaps_in (gap_of 0 (far_of windows events now)) (far_of windows events now)) (soonest_in windows event) ≤ line_left + line_width }
+        → place_on (gap_of 0 (axis_reach windows events now) * gaps_in (gap_of 0 (axis_reach windows events now)) (axis_reach windows events now)) (soonest_in windows event) ≤ line_left + line_width }
     ensures latest { (windows : List (ℤ × ℤ)) → (events event : ℕ) → (now : Option ℤ) → 1 ≤ event → event ≤ events
         → is_open_in windows event ≡ false
-        → place_on (gap_of 0 (far_of windows events now) * gaps_in (gap_of 0 (far_of windows events now)) (far_of windows events now)) (latest_in windows event) ≤ line_left + line_width }
+        → place_on (gap_of 0 (axis_reach windows events now) * gaps_in (gap_of 0 (axis_reach windows events now)) (axis_reach windows events now)) (latest_in windows event) ≤ line_left + line_width }
 {}

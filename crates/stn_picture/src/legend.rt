@@ -98,7 +98,7 @@ fn append_sample<B: Allocator>(
     match part {
         Part::Soonest => append_bar(out, "a", left, base - 4, 18),
         Part::Lasting => append_bar(out, "p", left, base - 4, 18),
-        Part::Latest => append_mark(out, left + 9, base - 12),
+        Part::Latest => append_mark(out, "k", left + 9, base - 12),
         Part::Fixed => append_bar(out, "f", left, base - 4, 18),
         Part::Done => append_bar(out, "d", left, base - 4, 18),
         Part::Running => append_bar(out, "r", left, base - 4, 18),

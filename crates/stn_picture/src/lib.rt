@@ -14,6 +14,7 @@ mod conflict;
 mod escape;
 mod floors;
 mod frame;
+mod holders;
 mod laws;
 mod legend;
 mod look;

@@ -70,7 +70,7 @@ impl<'a, 'b, A: Allocator> Chart<'a, 'b, A> {
     }
 
     pub fn is_done(&self, step: u16) -> bool
-        ensures { result ≡ is.is_done (seen_chart self.now) step }
+        ensures { result ≡ is.is_step_done (seen_chart self.now) step }
     {
         self.is_begun(step) && self.is_recorded(end_of(step))
     }
@@ -169,7 +169,7 @@ impl<'a, 'b, A: Allocator> Chart<'a, 'b, A> {
 
     /// The site that owns the step; 0 where none does.
     pub fn owner_of(&self, step: u16) -> u16
-        ensures { result ≡ is.owner_of (seen_chart self.now) step }
+        ensures { result ≡ is.step_owner (seen_chart self.now) step }
     {
         owner_in(self.look.owned, step)
     }

@@ -152,7 +152,7 @@ impl<'a, 'b, A: Allocator> Chart<'a, 'b, A> {
 
     // Appends the part of a step without a latest time, from the soonest end to the end of the axis.
     fn append_open<B: Allocator>(&self, out: &mut Vec<u8, B>, step: u16) -> Result<(), Memory>
-        ensures { OnOk result (out.new.items ≡ out.old.items ++ row.open_text (seen_chart self.now) step) }
+        ensures { OnOk result (out.new.items ≡ out.old.items ++ row.open_bar_text (seen_chart self.now) step) }
     {
         let left = self.place_of(self.soonest(end_of(step)));
         append_fading(
@@ -194,6 +194,12 @@ impl<'a, 'b, A: Allocator> Chart<'a, 'b, A> {
         if self.is_due(step) { "s w" } else { "s" }
     }
 
+    fn mark_class(&self, step: u16) -> &'static str
+        ensures { result.now ≡ row.mark_class (seen_chart self.now) step }
+    {
+        if self.is_due(step) { "c" } else { "k" }
+    }
+
     // Where the time behind the bars stands.
     fn behind(&self, step: u16) -> u64
         ensures { result ≡ row.behind (seen_chart self.now) step }
@@ -223,7 +229,7 @@ impl<'a, 'b, A: Allocator> Chart<'a, 'b, A> {
             return Ok(());
         }
         let left = self.place_of(self.latest(start_of(step)));
-        append_mark(out, left, self.top_of(step) + 4)
+        append_mark(out, self.mark_class(step), left, self.top_of(step) + 4)
     }
 
     // Appends the number of the site that owns the step.
@@ -358,7 +364,7 @@ fn append_line<B: Allocator>(
     middle: u64,
     width: u64,
 ) -> Result<(), Memory>
-    ensures { OnOk result (out.new.items ≡ out.old.items ++ row.line_text left middle width) }
+    ensures { OnOk result (out.new.items ≡ out.old.items ++ row.bar_line_text left middle width) }
 {
     in_memory(write!(out, "' d='M{left} {middle}h{width}'/>"))
 }
@@ -378,9 +384,14 @@ pub fn append_fading<B: Allocator>(
     ))
 }
 
-/// Appends the mark of a latest start.
-pub fn append_mark<B: Allocator>(out: &mut Vec<u8, B>, left: u64, top: u64) -> Result<(), Memory>
-    ensures { OnOk result (out.new.items ≡ out.old.items ++ row.mark_text left top) }
+/// Appends the mark of a latest start, of a class.
+pub fn append_mark<B: Allocator>(
+    out: &mut Vec<u8, B>,
+    class: &str,
+    left: u64,
+    top: u64,
+) -> Result<(), Memory>
+    ensures { OnOk result (out.new.items ≡ out.old.items ++ row.mark_text class.now left top) }
 {
-    in_memory(write!(out, "<path class='k' d='M{left} {top}v16'/>"))
+    in_memory(write!(out, "<path class='{class}' d='M{left} {top}v16'/>"))
 }

@@ -1,11 +1,9 @@
 //! What the windows of a plan's events say.
-ghost use Rattle.std.specs.{Prelude.{◌≡◌, ℕ, ◌+◌, ◌<◌, ◌≤◌, ◌^◌, ◌++◌, length, filter, map, IfOk}, List.range_with_len};
+ghost use Rattle.std.specs.{Prelude.{◌≡◌, ◌+◌, ◌<◌, ◌≤◌, ◌^◌, length, filter, map, IfOk}, List.range_with_len};
 ghost use Rattle.stn_site.specs.Windows.{window_at};
-ghost use Rattle.stn_picture.specs.Chart as table;
-ghost use Rattle.stn_picture.specs.Chart.{start_of, end_of, soonest_in, latest_in, is_open_in, is_above, row_in, held_by, holder_in, moment_of, reach, furthest, far_of};
+ghost use Rattle.stn_picture.specs.Chart.{start_of, end_of, soonest_in, latest_in, is_open_in, is_above, row_in, moment_of, reach, furthest, axis_reach};
 
 use std::alloc::Allocator;
-use stn_net::Bound;
 use stn_time::{Memory, Ms};
 
 // The milliseconds of half a year.
@@ -97,84 +95,6 @@ pub fn rows_in<A: Allocator>(
     Ok(rows)
 }
 
-// The event of another step by whose time the bound holds the soonest start of a step; 0 where it doesn't hold it.
-fn held_by(windows: &[(Ms, Ms)], step: u16, bound: Bound) -> u16
-    ensures { result ≡ held_by windows.now step bound }
-{
-    let (from, to) = (bound.from().number(), bound.to().number());
-    let (start, end) = (start_of(step), end_of(step));
-    if usize::from(from) == start && usize::from(to) != end && holds_upper(windows, start, bound) {
-        to
-    } else if usize::from(to) == start
-        && usize::from(from) != end
-        && holds_lower(windows, start, bound)
-    {
-        from
-    } else {
-        0
-    }
-}
-
-// Whether the event comes as long before the end of the bound as its upper side allows.
-fn holds_upper(windows: &[(Ms, Ms)], event: usize, bound: Bound) -> bool
-    ensures { result ≡ table.holds_upper windows.now event bound }
-{
-    let other = window_at(windows, usize::from(bound.to().number())).0;
-    other.get() - bound.hi().get() == window_at(windows, event).0.get()
-}
-
-// Whether it comes as soon after its beginning as its lower side asks.
-fn holds_lower(windows: &[(Ms, Ms)], event: usize, bound: Bound) -> bool
-    ensures { result ≡ table.holds_lower windows.now event bound }
-{
-    let other = window_at(windows, usize::from(bound.from().number())).0;
-    other.get() + bound.lo().get() == window_at(windows, event).0.get()
-}
-
-// The first event that a bound gives.
-fn first_holder(windows: &[(Ms, Ms)], step: u16, bounds: &[Bound]) -> u16
-    ensures { result ≡ holder_in windows.now step bounds.now }
-{
-    for bound in bounds {
-        let holder = held_by(windows, step, *bound);
-        if holder != 0 {
-            return holder;
-        }
-    }
-    0
-}
-
-// The same of a plan's bounds followed by the others.
-fn holder_in(windows: &[(Ms, Ms)], step: u16, base: &[Bound], others: &[Bound]) -> u16
-    ensures { result ≡ holder_in windows.now step (base.now ++ others.now) }
-{
-    let holder = first_holder(windows, step, base);
-    if holder != 0 {
-        holder
-    } else {
-        first_holder(windows, step, others)
-    }
-}
-
-/// The event that holds the start of each step.
-pub fn holders_in<A: Allocator>(
-    alloc: A,
-    windows: &[(Ms, Ms)],
-    steps: u16,
-    base: &[Bound],
-    others: &[Bound],
-) -> Result<Vec<u16, A>, Memory>
-    requires { steps < 2 ^ 15 }
-    ensures { IfOk result (λ holders. holders.items
-        ≡ map (λ step. holder_in windows.now step (base.now ++ others.now)) (range_with_len 0 (steps + 1))) }
-{
-    let mut holders = Vec::new(alloc);
-    for step in 0..steps + 1 {
-        holders.push(holder_in(windows, step, base, others))?;
-    }
-    Ok(holders)
-}
-
 /// The present in milliseconds.
 pub fn moment_of(now: Option<Ms>) -> u64
     ensures value { result ≡ moment_of now }
@@ -216,8 +136,8 @@ fn furthest(windows: &[(Ms, Ms)], events: u16) -> u64
 }
 
 /// How far the axis reaches: past the times of so many events, and past the present.
-pub fn far_of(windows: &[(Ms, Ms)], events: u16, now: Option<Ms>) -> u64
-    ensures value { result ≡ far_of windows.now events now }
+pub fn axis_reach(windows: &[(Ms, Ms)], events: u16, now: Option<Ms>) -> u64
+    ensures value { result ≡ axis_reach windows.now events now }
     ensures some { 1 ≤ result }
     ensures small { result < 2 ^ 41 }
 {

@@ -8,7 +8,7 @@ ghost use Rattle.stn_picture.specs.{Walk.{back_text, foot_text, tick_text}, Walk
 use crate::axis::{unit_of, unit_text};
 use crate::frame::{append_heading, append_opening, append_paper};
 use crate::memory::in_memory;
-use crate::style::{STYLE, WALK};
+use crate::style::WALK;
 use crate::walk::Walk;
 use crate::walk_parts::top_of;
 use std::alloc::Allocator;
@@ -26,6 +26,7 @@ impl<'a, 'b, A: Allocator> Walk<'a, 'b, A> {
     {
         self.append_head(out)?;
         self.append_axis(out)?;
+        self.append_drops(out)?;
         self.append_rows(out)?;
         self.append_last_row(out)?;
         self.append_walk_foot(out)?;
@@ -57,9 +58,27 @@ impl<'a, 'b, A: Allocator> Walk<'a, 'b, A> {
         append_foot(out, self.begins_at(0), top_of(self.links.len() + 1) + 24)
     }
 
+    // Appends the lines from each row down to the next one.
+    fn append_drops<B: Allocator>(&self, out: &mut Vec<u8, B>) -> Result<(), Memory>
+        ensures { OnOk result (out.new.items ≡ out.old.items ++ is.walk_drops (seen_walk self.now)) }
+    {
+        out.extend_from_slice(b"<path class='o' d='")?;
+        self.append_each_drop(out)?;
+        out.extend_from_slice(b"'/>\n")
+    }
+
+    fn append_each_drop<B: Allocator>(&self, out: &mut Vec<u8, B>) -> Result<(), Memory>
+        ensures { OnOk result (out.new.items ≡ out.old.items ++ flat_map (is.row_drop (seen_walk self.now)) (range_with_len 0 (length self.now.links.now))) }
+    {
+        for row in 0..self.links.len() {
+            self.append_row_drop(out, row)?;
+        }
+        Ok(())
+    }
+
     // Appends the rows of the links.
     fn append_rows<B: Allocator>(&self, out: &mut Vec<u8, B>) -> Result<(), Memory>
-        ensures { OnOk result (out.new.items ≡ out.old.items ++ flat_map (is.row_text (seen_walk self.now)) (range_with_len 0 (length self.now.links.now))) }
+        ensures { OnOk result (out.new.items ≡ out.old.items ++ flat_map (is.walk_row (seen_walk self.now)) (range_with_len 0 (length self.now.links.now))) }
     {
         for row in 0..self.links.len() {
             self.append_row(out, row)?;
@@ -69,12 +88,11 @@ impl<'a, 'b, A: Allocator> Walk<'a, 'b, A> {
 
     // Appends the head.
     fn append_head<B: Allocator>(&self, out: &mut Vec<u8, B>) -> Result<(), Memory>
-        ensures { OnOk result (out.new.items ≡ out.old.items ++ is.head_text (seen_walk self.now)) }
+        ensures { OnOk result (out.new.items ≡ out.old.items ++ is.walk_head (seen_walk self.now)) }
     {
         let end = top_of(self.links.len() + 1);
         let height = end + 36;
         append_opening(out, self.title, height)?;
-        out.extend_from_slice(STYLE)?;
         out.extend_from_slice(WALK)?;
         append_paper(out, height, top_of(1), end)?;
         append_heading(out, self.title)?;
@@ -83,7 +101,7 @@ impl<'a, 'b, A: Allocator> Walk<'a, 'b, A> {
 
     // Appends how many bounds contradict each other, and by how much.
     fn append_summary<B: Allocator>(&self, out: &mut Vec<u8, B>) -> Result<(), Memory>
-        ensures { OnOk result (out.new.items ≡ out.old.items ++ is.summary_text (seen_walk self.now)) }
+        ensures { OnOk result (out.new.items ≡ out.old.items ++ is.walk_summary (seen_walk self.now)) }
     {
         append_summary_opening(out, self.links.len() as u64)?;
         append_negated(out, self.sum_at(self.links.len()))?;
@@ -92,7 +110,7 @@ impl<'a, 'b, A: Allocator> Walk<'a, 'b, A> {
 
     // Appends the axis.
     fn append_axis<B: Allocator>(&self, out: &mut Vec<u8, B>) -> Result<(), Memory>
-        ensures { OnOk result (out.new.items ≡ out.old.items ++ is.axis_text (seen_walk self.now)) }
+        ensures { OnOk result (out.new.items ≡ out.old.items ++ is.walk_axis (seen_walk self.now)) }
     {
         out.extend_from_slice(b"<path class='g' d='")?;
         self.append_tick_lines(out)?;
@@ -102,7 +120,7 @@ impl<'a, 'b, A: Allocator> Walk<'a, 'b, A> {
     }
 
     fn append_tick_lines<B: Allocator>(&self, out: &mut Vec<u8, B>) -> Result<(), Memory>
-        ensures { OnOk result (out.new.items ≡ out.old.items ++ flat_map (is.tick_line (seen_walk self.now)) (range_with_len 0 (is.tick_count (seen_walk self.now)))) }
+        ensures { OnOk result (out.new.items ≡ out.old.items ++ flat_map (is.walk_tick (seen_walk self.now)) (range_with_len 0 (is.tick_count (seen_walk self.now)))) }
     {
         for tick in 0..self.before + self.after + 1 {
             self.append_tick_line(out, tick)?;
@@ -112,7 +130,7 @@ impl<'a, 'b, A: Allocator> Walk<'a, 'b, A> {
 
     fn append_tick_line<B: Allocator>(&self, out: &mut Vec<u8, B>, tick: u64) -> Result<(), Memory>
         requires { tick < 2 ^ 15 }
-        ensures { OnOk result (out.new.items ≡ out.old.items ++ is.tick_line (seen_walk self.now) tick) }
+        ensures { OnOk result (out.new.items ≡ out.old.items ++ is.walk_tick (seen_walk self.now) tick) }
     {
         let left = self.place_of(self.tick_time(tick));
         let bottom = top_of(self.links.len() + 1);
@@ -129,7 +147,7 @@ impl<'a, 'b, A: Allocator> Walk<'a, 'b, A> {
     }
 
     fn append_tick_words<B: Allocator>(&self, out: &mut Vec<u8, B>) -> Result<(), Memory>
-        ensures { OnOk result (out.new.items ≡ out.old.items ++ flat_map (is.tick_words (seen_walk self.now)) (range_with_len 0 (is.tick_count (seen_walk self.now)))) }
+        ensures { OnOk result (out.new.items ≡ out.old.items ++ flat_map (is.walk_tick_words (seen_walk self.now)) (range_with_len 0 (is.tick_count (seen_walk self.now)))) }
     {
         for tick in 0..self.before + self.after + 1 {
             self.append_tick_word(out, tick)?;
@@ -139,7 +157,7 @@ impl<'a, 'b, A: Allocator> Walk<'a, 'b, A> {
 
     fn append_tick_word<B: Allocator>(&self, out: &mut Vec<u8, B>, tick: u64) -> Result<(), Memory>
         requires { tick < 2 ^ 15 }
-        ensures { OnOk result (out.new.items ≡ out.old.items ++ is.tick_words (seen_walk self.now) tick) }
+        ensures { OnOk result (out.new.items ≡ out.old.items ++ is.walk_tick_words (seen_walk self.now) tick) }
     {
         append_tick_opening(out, self.place_of(self.tick_time(tick)))?;
         append_tick_text(out, self.gap, self.before, tick)?;

@@ -43,7 +43,7 @@ impl<'a, 'b, A: Allocator> Walk<'a, 'b, A> {
     /// Where a time stands.
     pub fn place_of(&self, time: i64) -> u64
         requires { unsigned_abs time < 2 ^ 52 }
-        ensures value { result ≡ is.place_of (seen_walk self.now) time }
+        ensures value { result ≡ is.walk_place (seen_walk self.now) time }
         ensures small { result < 2 ^ 63 }
         ensures right { 500 ≤ result }
     {
@@ -66,7 +66,7 @@ impl<'a, 'b, A: Allocator> Walk<'a, 'b, A> {
     /// The bound of a row.
     pub fn bound_of(&self, row: usize) -> Bound
         requires { row < length self.now.links.now }
-        ensures { result ≡ is.bound_of (seen_walk self.now) row }
+        ensures { result ≡ is.walk_bound (seen_walk self.now) row }
     {
         bound_at(self.base, self.others, self.links[row].place)
     }
@@ -74,7 +74,7 @@ impl<'a, 'b, A: Allocator> Walk<'a, 'b, A> {
     /// The name of the bound of a row.
     pub fn name_of(&self, row: usize) -> BoundName
         requires { row < length self.now.links.now }
-        ensures { result ≡ is.name_of (seen_walk self.now) row }
+        ensures { result ≡ is.linked_name (seen_walk self.now) row }
     {
         bound_name(self.base, self.ids, self.links[row].place)
     }
@@ -106,7 +106,7 @@ fn place_among(end: u64, along: u64) -> u64
 /// Where a row begins, in pixels from the top.
 pub fn top_of(row: usize) -> u64
     requires { row < 2 ^ 40 }
-    ensures value { result ≡ is.top_of row }
+    ensures value { result ≡ is.walk_top row }
     ensures small { result < 2 ^ 50 }
 {
     54 + 34 * row as u64

@@ -2,7 +2,7 @@
 ghost use Rattle.std.specs.{Prelude.{◌≡◌, ◌+◌, ◌++◌, ◌<◌, ◌≤◌, ◌^◌, length, OnOk}, List.flat_map};
 ghost use Rattle.stn_site.specs.Lines as site_lines;
 ghost use Rattle.stn_picture.specs.Walk as is;
-ghost use Rattle.stn_picture.specs.{Walk.{mends_text, mending_text, event_label, arrow_text, drop_text, leaves_text}, WalkSeen.seen_walk};
+ghost use Rattle.stn_picture.specs.{Walk.{mends_text, mending_text, event_label, walk_arrow, drop_text, leaves_text}, WalkSeen.seen_walk};
 
 use crate::escape::append_cut;
 use crate::memory::in_memory;
@@ -34,14 +34,15 @@ impl<'a, 'b, A: Allocator> Walk<'a, 'b, A> {
     /// Appends the row of a link.
     pub fn append_row<B: Allocator>(&self, out: &mut Vec<u8, B>, row: usize) -> Result<(), Memory>
         requires { row < length self.now.links.now }
-        ensures { OnOk result (out.new.items ≡ out.old.items ++ is.row_text (seen_walk self.now) row) }
+        ensures { OnOk result (out.new.items ≡ out.old.items ++ is.walk_row (seen_walk self.now) row) }
     {
+        out.extend_from_slice(b"<g>")?;
         self.append_title(out, row)?;
         self.append_words(out, row)?;
         self.append_row_mending(out, row)?;
         self.append_row_label(out, row)?;
         self.append_row_arrow(out, row)?;
-        self.append_row_drop(out, row)
+        out.extend_from_slice(b"</g>\n")
     }
 
     // Where a row begins.
@@ -86,7 +87,12 @@ impl<'a, 'b, A: Allocator> Walk<'a, 'b, A> {
         append_arrow(out, left, right, top_of(row) + 17)
     }
 
-    fn append_row_drop<B: Allocator>(&self, out: &mut Vec<u8, B>, row: usize) -> Result<(), Memory>
+    /// Appends the line from a row down to the next one.
+    pub fn append_row_drop<B: Allocator>(
+        &self,
+        out: &mut Vec<u8, B>,
+        row: usize,
+    ) -> Result<(), Memory>
         requires { row < length self.now.links.now }
         ensures { OnOk result (out.new.items ≡ out.old.items ++ is.row_drop (seen_walk self.now) row) }
     {
@@ -96,12 +102,12 @@ impl<'a, 'b, A: Allocator> Walk<'a, 'b, A> {
     // Appends what a browser shows under the mouse.
     fn append_title<B: Allocator>(&self, out: &mut Vec<u8, B>, row: usize) -> Result<(), Memory>
         requires { row < length self.now.links.now }
-        ensures { OnOk result (out.new.items ≡ out.old.items ++ is.title_text (seen_walk self.now) row) }
+        ensures { OnOk result (out.new.items ≡ out.old.items ++ is.walk_title (seen_walk self.now) row) }
     {
-        out.extend_from_slice(b"<g><title>")?;
-        self.append_link_name(out, row)?;
-        out.extend_from_slice(b": ")?;
-        self.append_row_asked(out, MOST_WHOLE, row)?;
+        if self.names.is_empty() {
+            return Ok(());
+        }
+        out.extend_from_slice(b"<title>")?;
         self.append_row_events(out, row)?;
         out.extend_from_slice(b"</title>")
     }
@@ -164,7 +170,7 @@ impl<'a, 'b, A: Allocator> Walk<'a, 'b, A> {
         }
     }
 
-    // Appends the number of a step and its name.
+    // Appends a step by its number, and by its name if it has one.
     fn append_step_words<B: Allocator>(
         &self,
         out: &mut Vec<u8, B>,
@@ -173,21 +179,8 @@ impl<'a, 'b, A: Allocator> Walk<'a, 'b, A> {
     ) -> Result<(), Memory>
         ensures { OnOk result (out.new.items ≡ out.old.items ++ is.step_words (seen_walk self.now) most step) }
     {
-        in_memory(write!(out, "{step} "))?;
-        self.append_step_name(out, most, step)
-    }
-
-    // Appends the name of a step, or its number.
-    fn append_step_name<B: Allocator>(
-        &self,
-        out: &mut Vec<u8, B>,
-        most: usize,
-        step: u16,
-    ) -> Result<(), Memory>
-        ensures { OnOk result (out.new.items ≡ out.old.items ++ is.step_name (seen_walk self.now) most step) }
-    {
         match self.names.get(usize::from(step).saturating_sub(1)) {
-            Some(name) => append_cut(out, most, name),
+            Some(name) => append_numbered_name(out, most, step, name),
             None => in_memory(write!(out, "step {step}")),
         }
     }
@@ -203,16 +196,16 @@ impl<'a, 'b, A: Allocator> Walk<'a, 'b, A> {
         if event == 0 {
             return Ok(());
         }
-        out.extend_from_slice(b"; ")?;
         print_event(event, out)?;
         out.extend_from_slice(b": ")?;
-        self.append_step_words(out, MOST_WHOLE, step_of(event))
+        self.append_step_words(out, MOST_WHOLE, step_of(event))?;
+        out.extend_from_slice(b"\n")
     }
 
     // Appends the name of a link, and what it asks.
     fn append_words<B: Allocator>(&self, out: &mut Vec<u8, B>, row: usize) -> Result<(), Memory>
         requires { row < length self.now.links.now }
-        ensures { OnOk result (out.new.items ≡ out.old.items ++ is.words_text (seen_walk self.now) row) }
+        ensures { OnOk result (out.new.items ≡ out.old.items ++ is.walk_words (seen_walk self.now) row) }
     {
         append_name_opening(out, top_of(row) + 15)?;
         self.append_link_name(out, row)?;
@@ -220,6 +213,19 @@ impl<'a, 'b, A: Allocator> Walk<'a, 'b, A> {
         self.append_row_asked(out, MOST_SHORT, row)?;
         out.extend_from_slice(b"</text>\n")
     }
+}
+
+// Appends the number of a step, and its name.
+fn append_numbered_name<B: Allocator>(
+    out: &mut Vec<u8, B>,
+    most: usize,
+    step: u16,
+    name: &[u8],
+) -> Result<(), Memory>
+    ensures { OnOk result (out.new.items ≡ out.old.items ++ is.numbered_name most step name.now) }
+{
+    in_memory(write!(out, "{step} "))?;
+    append_cut(out, most, name)
 }
 
 fn append_name_opening<B: Allocator>(out: &mut Vec<u8, B>, base: u64) -> Result<(), Memory>
@@ -382,38 +388,26 @@ fn append_label_opening<B: Allocator>(
     }
 }
 
-// Appends a dot, and an arrow from it where it is longer than its tip.
+// Appends an arrow, or a dot where it is shorter than its tip.
 fn append_arrow<B: Allocator>(
     out: &mut Vec<u8, B>,
     left: u64,
     right: u64,
     middle: u64,
 ) -> Result<(), Memory>
-    ensures { OnOk result (out.new.items ≡ out.old.items ++ arrow_text left right middle) }
+    ensures { OnOk result (out.new.items ≡ out.old.items ++ walk_arrow left right middle) }
 {
-    append_dot(out, left, middle)?;
-    append_long_stem(out, left, right, middle)
+    if left.abs_diff(right) < TIP {
+        append_dot(out, left, middle)
+    } else {
+        append_stem(out, left, right, middle)
+    }
 }
 
 fn append_dot<B: Allocator>(out: &mut Vec<u8, B>, left: u64, middle: u64) -> Result<(), Memory>
     ensures { OnOk result (out.new.items ≡ out.old.items ++ is.dot_text left middle) }
 {
     in_memory(write!(out, "<circle class='x' cx='{left}' cy='{middle}' r='3'/>"))
-}
-
-fn append_long_stem<B: Allocator>(
-    out: &mut Vec<u8, B>,
-    left: u64,
-    right: u64,
-    middle: u64,
-) -> Result<(), Memory>
-    ensures { OnOk result (out.new.items ≡ out.old.items ++ is.long_stem left right middle) }
-{
-    if left.abs_diff(right) < TIP {
-        Ok(())
-    } else {
-        append_stem(out, left, right, middle)
-    }
 }
 
 fn append_stem<B: Allocator>(
@@ -424,12 +418,12 @@ fn append_stem<B: Allocator>(
 ) -> Result<(), Memory>
     ensures { OnOk result (out.new.items ≡ out.old.items ++ is.stem_text left right middle) }
 {
-    in_memory(write!(out, "<path class='u' d='M{left} {middle}H{right}'/>"))
+    in_memory(write!(out, "<path d='M{left} {middle}H{right}'/>"))
 }
 
 // Appends the line down to the next row.
 fn append_drop<B: Allocator>(out: &mut Vec<u8, B>, right: u64, top: u64) -> Result<(), Memory>
     ensures { OnOk result (out.new.items ≡ out.old.items ++ drop_text right top) }
 {
-    in_memory(write!(out, "<path class='o' d='M{right} {top}v26'/></g>\n"))
+    in_memory(write!(out, "M{right} {top}v26"))
 }

@@ -1,4 +1,4 @@
-use Rattle.std.proofs.Common.{ℕ, Bool, true, false, if◌then◌else◌, drop, get_or, sym, subst, ap, ◌∙◌, ◌+◌, ◌<◌, ◌≡◌, arith}
+use Rattle.std.proofs.Common.{ℕ, Bool, if◌then◌else◌, drop, get_or, sym, subst, ap, ◌∙◌, ◌+◌, ◌<◌, ◌≡◌, arith}
 use Rattle.stn_picture.{specs.Axis.{gaps, gaps_in, first_gap, gap_of}, proofs.AxisGaps.{gap_at, first_drop, few_gaps}}
 use Rattle.stn_picture.proofs.axis.gap_of.Goals as goal
 

@@ -1,13 +1,12 @@
 use Rattle.std.{proofs.Common.{◌≡◌, ◌+◌, ◌++◌, ℕ, List, map, ap, ◌∙◌, arith}, specs.List.range_with_len}
 use Rattle.stn_lift.specs.PlanSource.{base_bounds, steps_of, events_of}
-use Rattle.stn_site.specs.Report.{done_events}
-use Rattle.stn_picture.specs.{Axis.{gap_of, gaps_in}, Chart.{Chart, seen_look, row_in, holder_in, far_of, chart_of}, Frame.plan_text, Seen.overdue_of}
+use Rattle.stn_picture.specs.{Axis.{gap_of, gaps_in}, Chart.{Chart, seen_look, row_in, holder_in, axis_reach, chart_of}, Frame.plan_text, Seen.overdue_of}
 use Rattle.stn_picture.proofs.chart.chart_text.Goals as goal
 
 pub invariant_of-chart : goal.invariant_of-chart
 invariant_of-chart g c = record {
   some_gap = omega (arith, c.gap_of-gap.ensures.least);
-  some_ticks = c.gaps_in.ensures.some c.far_of-far.ensures.some;
+  some_ticks = c.gaps_in.ensures.some c.axis_reach-far.ensures.some;
   small_gap = c.gap_of-gap.ensures.most;
   few_ticks = omega (arith, c.gap_of-gap.ensures.few, c.gaps_in.ensures.value);
 }
@@ -31,7 +30,7 @@ returns g c =
     let rows = c.deref-7.ensures.value ∙ c.in_ok-rows.ensures ∙ (λ i. map (row_in (c.deref.ensures.value i) (steps i)) (range_with_len 0 (steps i + 1))) in
     let holders = c.deref-8.ensures.value ∙ c.in_ok-holders.ensures
     ∙ (λ i. map (λ step. holder_in (c.deref-2.ensures.value i) step (base i ++ live i)) (range_with_len 0 (steps2 i + 1))) in
-    let far = c.far_of-far.ensures.value ∙ (λ i. far_of (c.deref-4.ensures.value i) (events i) present) in
+    let far = c.axis_reach-far.ensures.value ∙ (λ i. axis_reach (c.deref-4.ensures.value i) (events i) present) in
     let gap = c.gap_of-gap.ensures.gap ∙ ap (gap_of 0) far in
     let ticks = c.gaps_in.ensures.value ∙ (λ i. gaps_in (gap i) (far i)) in
     let chart : Chart = chart_of look names source state windows overdue in

@@ -1,4 +1,4 @@
-use Rattle.std.{proofs.{Common.{◌≡◌, ◌+◌, ◌*◌, ◌++◌, ◌<◌, ◌≤◌, ◌^◌, ℤ, pos, to_z, of_z, w64, get_or, sym, subst, ap, ◌∙◌, arith}, lemmas.{Int.{to_z-of_z, ints}, List.get_or_default}}, specs.Prelude.{◌+ℤ◌, unsigned_abs}}
+use Rattle.std.{proofs.{Common.{◌≡◌, ◌+◌, ◌*◌, ◌++◌, ◌<◌, ◌≤◌, ◌^◌, ℤ, pos, w64, get_or, sym, subst, ap, ◌∙◌, arith}, lemmas.{Int.{to_z-of_z, ints}, List.get_or_default}}, specs.Prelude.{◌+ℤ◌, unsigned_abs}}
 use Rattle.stn_picture.{specs.Walk.sum_of, proofs.Sums.{value_at, values_grown, all_grown, sum_step, abs_add}}
 use Rattle.stn_picture.proofs.conflict.sums_of.Goals as goal
 

@@ -1,9 +1,8 @@
-use Rattle.std.{proofs.{Common.{◌≡◌, ◌+◌, ◌++◌, ◌<◌, ◌^◌, ℕ, ℤ, List, map, length, length-append, sym, subst, ap, ◌∙◌, All, arith}, lemmas.List.length-map}, specs.Prelude.unsigned_abs}
+use Rattle.std.{proofs.{Common.{◌++◌, ◌<◌, ◌^◌, ℕ, ℤ, List, map, length, length-append, sym, subst, ap, ◌∙◌, All, arith}, lemmas.List.length-map}, specs.Prelude.unsigned_abs}
 use Rattle.stn_lift.specs.PlanSource.{base_bounds}
 use Rattle.stn_records.specs.{Id.SiteCounter, declared.record.Record.Record, Content.live_of}
-use Rattle.stn_net.specs.Difference.{Difference}
-use Rattle.stn_site.specs.{Bounds.{all_bounds, live_bounds}, Names.live_ids}
-use Rattle.stn_picture.specs.{Axis.{gap_of, gaps_in}, Chart.seen_look, Walk.{Walk, early, late, greatest, sums_of, walk_of, walk_text}}
+use Rattle.stn_site.specs.{Bounds.{live_bounds}}
+use Rattle.stn_picture.specs.{Axis.{gap_of, gaps_in}, Walk.{early, late, greatest, sums_of, walk_text}}
 use Rattle.stn_picture.proofs.conflict.text_along.Goals as goal
 
 pub invariant_of-walk : goal.invariant_of-walk

@@ -1,5 +1,5 @@
-use Rattle.std.proofs.{Common.{◌++◌, append_assoc, ap, ◌∙◌}, lemmas.Result.IfOk-equal}
-use Rattle.stn_picture.{specs.{Frame.counts_text, declared.parts.Part.TheVariants.{Done, Running}}, proofs.Grown.{then, last}}
+use Rattle.std.proofs.{Common.{◌++◌, append_assoc, ◌∙◌}, lemmas.Result.IfOk-equal}
+use Rattle.stn_picture.{specs.{Frame.counts_text}, proofs.Grown.{then, last}}
 use Rattle.stn_picture.proofs.frame.append_summary.Goals as goal
 
 pub returns : goal.returns

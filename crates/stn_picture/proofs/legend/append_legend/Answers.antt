@@ -1,5 +1,5 @@
 use Rattle.std.proofs.{Common.{◌≡◌, ◌+◌, ◌++◌, ap, ◌∙◌, arith}, lemmas.List.get_or_default}
-use Rattle.stn_picture.{specs.{Frame.{entry_at, legend_base, legend_text, parts}, Places.row_top, Seen.seen_chart}, proofs.Drawing.legend_step}
+use Rattle.stn_picture.{specs.{Frame.{legend_base, legend_text, parts}, Places.row_top, Seen.seen_chart}, proofs.Drawing.legend_step}
 use Rattle.stn_picture.proofs.legend.append_legend.Goals as goal
 
 pub loop-part-preserved : goal.loop-part-preserved

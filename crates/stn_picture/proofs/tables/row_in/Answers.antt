@@ -1,4 +1,4 @@
-use Rattle.std.proofs.Common.{◌≡◌, ℕ, ◌+◌, Bool, cond, sym, ap, ◌∙◌, arith}
+use Rattle.std.proofs.Common.{◌≡◌, ℕ, ◌+◌, Bool, cond, sym, ap, arith}
 use Rattle.stn_picture.{specs.Chart.is_above, proofs.{Drawing.count_more, tables.row_in.Goals.{then-is_above, else-is_above}}}
 use Rattle.stn_picture.proofs.tables.row_in.Goals as goal
 

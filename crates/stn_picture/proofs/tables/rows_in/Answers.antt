@@ -1,4 +1,4 @@
-use Rattle.std.proofs.{Common.{◌≡◌, [], ◌∷◌, ◌++◌, sym, ap, ◌∙◌, arith}, lemmas.List.FromFn.map-range_with_len_more}
+use Rattle.std.proofs.{Common.{[], ◌∷◌, ◌++◌, sym, ◌∙◌, arith}, lemmas.List.FromFn.map-range_with_len_more}
 use Rattle.stn_picture.specs.Chart.{row_in}
 use Rattle.stn_picture.proofs.tables.rows_in.Goals as goal
 

@@ -1,4 +1,4 @@
-use Rattle.std.proofs.{Common.{◌++◌, append_assoc, ap, ◌∙◌}, lemmas.Result.IfOk-equal}
+use Rattle.std.proofs.{Common.{append_assoc}, lemmas.Result.IfOk-equal}
 use Rattle.stn_picture.proofs.Grown.{on_ok, then, last}
 use Rattle.stn_picture.proofs.walk_frame.append_again.Goals as goal
 

@@ -1,4 +1,4 @@
-use Rattle.std.proofs.Common.{◌≡◌, ℕ, ◌+◌, Bool, cond, sym, ap, ◌∙◌, arith}
+use Rattle.std.proofs.Common.{◌≡◌, ℕ, ◌+◌, Bool, cond, sym, ap, arith}
 use Rattle.stn_picture.{specs.{Parts.shows, Seen.seen_chart}, proofs.{Drawing.count_more, look.Chart.count_of.Goals.{then-shows, else-shows}}}
 use Rattle.stn_picture.proofs.look.Chart.count_of.Goals as goal
 

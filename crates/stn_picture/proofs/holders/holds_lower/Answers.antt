@@ -1,7 +1,7 @@
 use Rattle.std.{proofs.Common.{◌≡◌, ℤ, ap, ◌∙◌}, specs.{Prelude.◌+ℤ◌, Ordering.int_eq}}
 use Rattle.stn_site.specs.Windows.{window_at}
 use Rattle.stn_picture.proofs.Times.{sum_is}
-use Rattle.stn_picture.proofs.tables.holds_lower.Goals as goal
+use Rattle.stn_picture.proofs.holders.holds_lower.Goals as goal
 
 pub returns : goal.returns
 returns c =
