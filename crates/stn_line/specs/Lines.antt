@@ -1,7 +1,10 @@
 -- What the words of a command line ask for, by what clap finds in them: a command, and the value of each of its words.
 use Rattle.std.specs.{Prelude.{◌≡◌, ◌≢◌, ◌↔◌, ◌≤◌, ℕ, Bool, IsTrue, List, [], Option, Some, codes, map, option_map, unwrap_or, ⊤}, Borrow.Bor, Str.Parse.{digits_value, without_leading_plus}}
 use Rattle.clap.specs.{Words.{IsAmong, Row, Text, all_of, fault_of, first_of, kind_of}, declared.error.kind.ErrorKind.TheVariants.OutOfMemory}
-use Rattle.stn_line.specs.{Commands.{most_connections, most_seconds, usual_seconds, stn}, declared.words.{SiteLog.SiteLog, EventChoice.EventChoice, Line.Line, LineFault.LineFault}}
+use Rattle.stn_line.specs.{Commands.{most_connections, most_seconds, usual_seconds, stn}, declared.words.{SiteLog.SiteLog, EventChoice.EventChoice, NewLog.NewLog, LogChange.LogChange, LogQuestion.LogQuestion, Line.Line, LineFault.LineFault}}
+use Rattle.stn_line.specs.declared.words.NewLog.TheVariants as new
+use Rattle.stn_line.specs.declared.words.LogChange.TheVariants as change
+use Rattle.stn_line.specs.declared.words.LogQuestion.TheVariants as question
 use Rattle.stn_line.specs.declared.words.Line.TheVariants as line
 use Rattle.stn_line.specs.declared.words.LineFault.TheVariants as fault
 
@@ -40,43 +43,52 @@ pub record IsChoice (choice : EventChoice) (rows : List Row) : Type 0 where
   pub steps : IsOption (codes "steps") choice.steps rows
   pub starts : IsFlag (codes "starts") choice.starts rows
 
+-- a command of this name makes such a log, with the values of its words
+abbrev pub IsNewLogOf : NewLog → Text → List Row → Type 0
+IsNewLogOf (new.Bare steps) name rows = (name ≡ codes "bare") × IsNumberValue (codes "STEPS") steps rows
+IsNewLogOf (new.Init domain plan) name rows =
+    (name ≡ codes "init") × IsWordValue (codes "DOMAIN") domain rows × IsWordValue (codes "PLAN") plan rows
+IsNewLogOf (new.Loosen domain plan early late robust) name rows =
+    (name ≡ codes "loosen") × IsWordValue (codes "DOMAIN") domain rows × IsWordValue (codes "PLAN") plan rows
+    × IsOption (codes "early") early rows × IsOption (codes "late") late rows × IsFlag (codes "robust") robust rows
+
+-- it makes such a change
+abbrev pub IsChangeOf : LogChange → Text → List Row → Type 0
+IsChangeOf (change.Add from to lo hi) name rows =
+    (name ≡ codes "add") × IsWordValue (codes "FROM") from rows × IsWordValue (codes "TO") to rows
+    × IsOption (codes "lo") lo rows × IsOption (codes "hi") hi rows
+IsChangeOf (change.Amend id from to lo hi) name rows =
+    (name ≡ codes "amend") × IsWordValue (codes "ID") id rows × IsWordValue (codes "FROM") from rows × IsWordValue (codes "TO") to rows
+    × IsOption (codes "lo") lo rows × IsOption (codes "hi") hi rows
+IsChangeOf (change.Withdraw id) name rows = (name ≡ codes "withdraw") × IsWordValue (codes "ID") id rows
+IsChangeOf (change.Done event time) name rows =
+    (name ≡ codes "done") × IsWordValue (codes "EVENT") event rows × IsWordValue (codes "TIME") time rows
+IsChangeOf (change.Merge other) name rows = (name ≡ codes "merge") × IsWordValue (codes "OTHER") other rows
+IsChangeOf (change.Guard owned) name rows = (name ≡ codes "guard") × IsWords (codes "own") owned.items rows
+
+-- it asks such a question
+abbrev pub IsQuestionOf : LogQuestion → Text → List Row → Type 0
+IsQuestionOf question.Report name rows = name ≡ codes "report"
+IsQuestionOf (question.Next now choice) name rows = (name ≡ codes "next") × IsWordValue (codes "NOW") now rows × IsChoice choice rows
+IsQuestionOf (question.Ready now choice) name rows = (name ≡ codes "ready") × IsWordValue (codes "NOW") now rows × IsChoice choice rows
+IsQuestionOf (question.Rehearse now choice) name rows =
+    (name ≡ codes "rehearse") × IsWordValue (codes "NOW") now rows × IsChoice choice rows
+IsQuestionOf (question.Why event to) name rows = (name ≡ codes "why") × IsWordValue (codes "EVENT") event rows × IsOption (codes "TO") to rows
+IsQuestionOf question.Repairs name rows = name ≡ codes "repairs"
+IsQuestionOf question.Records name rows = name ≡ codes "records"
+IsQuestionOf (question.Steps plan) name rows = (name ≡ codes "steps") × IsOption (codes "plan") plan rows
+IsQuestionOf question.Bounds name rows = name ≡ codes "bounds"
+IsQuestionOf (question.Check times) name rows = (name ≡ codes "check") × IsWords (codes "TIME") times.items rows
+IsQuestionOf (question.Draw drawing) name rows =
+    (name ≡ codes "draw") × IsOption (codes "plan") drawing.plan rows × IsOption (codes "now") drawing.now rows
+    × IsOption (codes "arrows") drawing.arrows rows × IsWords (codes "own") drawing.owned.items rows
+
 -- the command line is one of the command of this name, with the values of its words
 abbrev pub IsLineOf : Line → Text → List Row → Type 0
 IsLineOf line.Run name rows = name ≡ codes "run"
-IsLineOf (line.Bare log steps) name rows = (name ≡ codes "bare") × IsOnLog log rows × IsNumberValue (codes "STEPS") steps rows
-IsLineOf (line.Init log domain plan) name rows =
-    (name ≡ codes "init") × IsOnLog log rows × IsWordValue (codes "DOMAIN") domain rows × IsWordValue (codes "PLAN") plan rows
-IsLineOf (line.Loosen log domain plan early late robust) name rows =
-    (name ≡ codes "loosen") × IsOnLog log rows × IsWordValue (codes "DOMAIN") domain rows × IsWordValue (codes "PLAN") plan rows
-    × IsOption (codes "early") early rows × IsOption (codes "late") late rows × IsFlag (codes "robust") robust rows
-IsLineOf (line.Add log from to lo hi) name rows =
-    (name ≡ codes "add") × IsOnLog log rows × IsWordValue (codes "FROM") from rows × IsWordValue (codes "TO") to rows
-    × IsOption (codes "lo") lo rows × IsOption (codes "hi") hi rows
-IsLineOf (line.Amend log id from to lo hi) name rows =
-    (name ≡ codes "amend") × IsOnLog log rows × IsWordValue (codes "ID") id rows × IsWordValue (codes "FROM") from rows × IsWordValue (codes "TO") to rows
-    × IsOption (codes "lo") lo rows × IsOption (codes "hi") hi rows
-IsLineOf (line.Withdraw log id) name rows = (name ≡ codes "withdraw") × IsOnLog log rows × IsWordValue (codes "ID") id rows
-IsLineOf (line.Done log event time) name rows =
-    (name ≡ codes "done") × IsOnLog log rows × IsWordValue (codes "EVENT") event rows × IsWordValue (codes "TIME") time rows
-IsLineOf (line.Merge log other) name rows = (name ≡ codes "merge") × IsOnLog log rows × IsWordValue (codes "OTHER") other rows
-IsLineOf (line.Guard log owned) name rows = (name ≡ codes "guard") × IsOnLog log rows × IsWords (codes "own") owned.items rows
-IsLineOf (line.Report log) name rows = (name ≡ codes "report") × IsOnLog log rows
-IsLineOf (line.Next log now choice) name rows =
-    (name ≡ codes "next") × IsOnLog log rows × IsWordValue (codes "NOW") now rows × IsChoice choice rows
-IsLineOf (line.Ready log now choice) name rows =
-    (name ≡ codes "ready") × IsOnLog log rows × IsWordValue (codes "NOW") now rows × IsChoice choice rows
-IsLineOf (line.Why log event to) name rows =
-    (name ≡ codes "why") × IsOnLog log rows × IsWordValue (codes "EVENT") event rows × IsOption (codes "TO") to rows
-IsLineOf (line.Repairs log) name rows = (name ≡ codes "repairs") × IsOnLog log rows
-IsLineOf (line.Records log) name rows = (name ≡ codes "records") × IsOnLog log rows
-IsLineOf (line.Steps log plan) name rows = (name ≡ codes "steps") × IsOnLog log rows × IsOption (codes "plan") plan rows
-IsLineOf (line.Bounds log) name rows = (name ≡ codes "bounds") × IsOnLog log rows
-IsLineOf (line.Check log times) name rows = (name ≡ codes "check") × IsOnLog log rows × IsWords (codes "TIME") times.items rows
-IsLineOf (line.Rehearse log now choice) name rows =
-    (name ≡ codes "rehearse") × IsOnLog log rows × IsWordValue (codes "NOW") now rows × IsChoice choice rows
-IsLineOf (line.Draw log plan now arrows owned) name rows =
-    (name ≡ codes "draw") × IsOnLog log rows × IsOption (codes "plan") plan rows × IsOption (codes "now") now rows
-    × IsOption (codes "arrows") arrows rows × IsWords (codes "own") owned.items rows
+IsLineOf (line.Make log made) name rows = IsOnLog log rows × IsNewLogOf made name rows
+IsLineOf (line.Change log made) name rows = IsOnLog log rows × IsChangeOf made name rows
+IsLineOf (line.Ask log asked) name rows = IsOnLog log rows × IsQuestionOf asked name rows
 IsLineOf (line.Explain code) name rows = (name ≡ codes "explain") × IsOption (codes "CODE") code rows
 IsLineOf (line.Shell log) name rows = (name ≡ codes "shell") × IsOnLog log rows
 IsLineOf (line.Serve log address count seconds) name rows =

@@ -5,7 +5,9 @@
 pub use explanations::{Subject, fault_word, meaning_of, print_explained};
 pub use help::said;
 pub use reading::line;
-pub use words::{EventChoice, Line, LineFault, SiteLog};
+pub use words::{
+    DrawingWords, EventChoice, Line, LineFault, LogChange, LogQuestion, NewLog, SiteLog,
+};
 
 mod commands;
 mod explanations;

@@ -1,10 +1,12 @@
 ghost use Rattle.std.specs.Prelude.{◌≡◌, ◌≤◌, ◌∷◌, IfErr, IfOk, IsSomeAnd, [], ℕ, codes, map};
 ghost use Rattle.clap.specs.Words.{fault_of, found_of, rows_of, subcommand_of, subcommand_rows_of};
-ghost use Rattle.stn_line.specs.{Commands.{most_read_steps, most_seconds, stn as program}, Given.{HasWords, IsEntered, IsOneOf, HasValue, IsNumberThere, IsNumberWhereGiven}, Lines.{IsWordsFault, IsChoice, IsFlag, IsLineOf, IsNumberValue, IsOnLog, IsOption, IsSeconds, IsWordValue, IsWords}};
+ghost use Rattle.stn_line.specs.{Commands.{most_read_steps, most_seconds, stn as program}, Given.{HasWords, IsEntered, IsOneOf, HasValue, IsNumberThere, IsNumberWhereGiven}, Lines.{IsWordsFault, IsChoice, IsFlag, IsLineOf, IsNewLogOf, IsChangeOf, IsQuestionOf, IsNumberValue, IsOnLog, IsOption, IsSeconds, IsWordValue, IsWords}};
 ghost use Rattle.stn_records.specs.Id.{most_sites};
 
 use crate::commands::stn;
-use crate::words::{EventChoice, Line, LineFault, SiteLog};
+use crate::words::{
+    DrawingWords, EventChoice, Line, LineFault, LogChange, LogQuestion, NewLog, SiteLog,
+};
 use clap::ArgMatches;
 use clap::error::ErrorKind;
 use std::alloc::{AllocError, Global};
@@ -47,35 +49,38 @@ fn command<'a>(alloc: Global, name: &str, words: &ArgMatches<'a>) -> Result<Line
         "explain" => Ok(Line::Explain {
             code: option(words, "CODE"),
         }),
-        "bare" | "init" | "loosen" => Ok(making(name, words)),
-        "add" | "amend" | "withdraw" | "done" | "merge" => Ok(changing(name, words)),
-        "guard" | "check" | "draw" => listing(alloc, name, words),
-        "report" | "repairs" | "records" | "bounds" | "shell" => Ok(telling(name, words)),
-        "next" | "ready" | "rehearse" => Ok(choosing(name, words)),
-        "why" | "steps" => Ok(naming(name, words)),
+        "bare" | "init" | "loosen" => Ok(Line::Make(site_log(words), making(name, words))),
+        "add" | "amend" | "withdraw" | "done" | "merge" => {
+            Ok(Line::Change(site_log(words), changing(name, words)))
+        }
+        "guard" => guarding(alloc, words),
+        "check" | "draw" => Ok(Line::Ask(site_log(words), listing(alloc, name, words)?)),
+        "next" | "ready" | "rehearse" => Ok(Line::Ask(site_log(words), choosing(name, words))),
+        "report" | "repairs" | "records" | "bounds" | "why" | "steps" => {
+            Ok(Line::Ask(site_log(words), asking(name, words)))
+        }
+        "shell" => Ok(Line::Shell {
+            log: site_log(words),
+        }),
         _ => Ok(talking(name, words)),
     }
 }
 
-// A command that makes a log.
-fn making<'a>(name: &str, words: &ArgMatches<'a>) -> Line<'a>
+// What makes a log.
+fn making<'a>(name: &str, words: &ArgMatches<'a>) -> NewLog<'a>
     requires named { IsOneOf name.now (codes "bare" ∷ codes "init" ∷ codes "loosen" ∷ []) }
     requires words { HasWords name.now (rows_of (found_of words.now)) }
-    ensures { IsLineOf result name.now (rows_of (found_of words.now)) }
+    ensures { IsNewLogOf result name.now (rows_of (found_of words.now)) }
 {
-    let log = site_log(words);
     match name {
-        "bare" => Line::Bare {
-            log,
+        "bare" => NewLog::Bare {
             steps: number(words, "STEPS"),
         },
-        "init" => Line::Init {
-            log,
+        "init" => NewLog::Init {
             domain: word(words, "DOMAIN"),
             plan: word(words, "PLAN"),
         },
-        _ => Line::Loosen {
-            log,
+        _ => NewLog::Loosen {
             domain: word(words, "DOMAIN"),
             plan: word(words, "PLAN"),
             early: option(words, "early"),
@@ -85,118 +90,102 @@ fn making<'a>(name: &str, words: &ArgMatches<'a>) -> Line<'a>
     }
 }
 
-// A command that changes what a log holds, by words of which each has its place.
-fn changing<'a>(name: &str, words: &ArgMatches<'a>) -> Line<'a>
+// What changes a log, by words of which each has its place.
+fn changing<'a>(name: &str, words: &ArgMatches<'a>) -> LogChange<'a>
     requires named { IsOneOf name.now (codes "add" ∷ codes "amend" ∷ codes "withdraw" ∷ codes "done" ∷ codes "merge" ∷ []) }
     requires words { HasWords name.now (rows_of (found_of words.now)) }
-    ensures { IsLineOf result name.now (rows_of (found_of words.now)) }
+    ensures { IsChangeOf result name.now (rows_of (found_of words.now)) }
 {
-    let log = site_log(words);
     match name {
-        "add" => Line::Add {
-            log,
+        "add" => LogChange::Add {
             from: word(words, "FROM"),
             to: word(words, "TO"),
             lo: option(words, "lo"),
             hi: option(words, "hi"),
         },
-        "amend" => Line::Amend {
-            log,
+        "amend" => LogChange::Amend {
             id: word(words, "ID"),
             from: word(words, "FROM"),
             to: word(words, "TO"),
             lo: option(words, "lo"),
             hi: option(words, "hi"),
         },
-        "withdraw" => Line::Withdraw {
-            log,
+        "withdraw" => LogChange::Withdraw {
             id: word(words, "ID"),
         },
-        "done" => Line::Done {
-            log,
+        "done" => LogChange::Done {
             event: word(words, "EVENT"),
             time: word(words, "TIME"),
         },
-        _ => Line::Merge {
-            log,
+        _ => LogChange::Merge {
             other: word(words, "OTHER"),
         },
     }
 }
 
-// A command with a word that may be given any number of times.
-fn listing<'a>(alloc: Global, name: &str, words: &ArgMatches<'a>) -> Result<Line<'a>, AllocError>
-    requires named { IsOneOf name.now (codes "guard" ∷ codes "check" ∷ codes "draw" ∷ []) }
-    requires words { HasWords name.now (rows_of (found_of words.now)) }
-    ensures { IfOk result (λ line. IsLineOf line name.now (rows_of (found_of words.now))) }
+// The command that guards a log.
+fn guarding<'a>(alloc: Global, words: &ArgMatches<'a>) -> Result<Line<'a>, AllocError>
+    requires { HasWords (codes "guard") (rows_of (found_of words.now)) }
+    ensures { IfOk result (λ line. IsLineOf line (codes "guard") (rows_of (found_of words.now))) }
 {
-    let log = site_log(words);
+    let owned = all_words(alloc, words, "own")?;
+    Ok(Line::Change(site_log(words), LogChange::Guard { owned }))
+}
+
+// A question with a word that may be given any number of times.
+fn listing<'a>(
+    alloc: Global,
+    name: &str,
+    words: &ArgMatches<'a>,
+) -> Result<LogQuestion<'a>, AllocError>
+    requires named { IsOneOf name.now (codes "check" ∷ codes "draw" ∷ []) }
+    requires words { HasWords name.now (rows_of (found_of words.now)) }
+    ensures { IfOk result (λ question. IsQuestionOf question name.now (rows_of (found_of words.now))) }
+{
     match name {
-        "guard" => Ok(Line::Guard {
-            log,
-            owned: all_words(alloc, words, "own")?,
-        }),
-        "check" => Ok(Line::Check {
-            log,
+        "check" => Ok(LogQuestion::Check {
             times: all_words(alloc, words, "TIME")?,
         }),
-        _ => Ok(Line::Draw {
-            log,
+        _ => Ok(LogQuestion::Draw(DrawingWords {
             plan: option(words, "plan"),
             now: option(words, "now"),
             arrows: option(words, "arrows"),
             owned: all_words(alloc, words, "own")?,
-        }),
-    }
-}
-
-// A command of no words beside the log and its site.
-fn telling<'a>(name: &str, words: &ArgMatches<'a>) -> Line<'a>
-    requires named { IsOneOf name.now (codes "report" ∷ codes "repairs" ∷ codes "records" ∷ codes "bounds" ∷ codes "shell" ∷ []) }
-    requires words { HasWords name.now (rows_of (found_of words.now)) }
-    ensures { IsLineOf result name.now (rows_of (found_of words.now)) }
-{
-    let log = site_log(words);
-    match name {
-        "report" => Line::Report { log },
-        "repairs" => Line::Repairs { log },
-        "records" => Line::Records { log },
-        "bounds" => Line::Bounds { log },
-        _ => Line::Shell { log },
+        })),
     }
 }
 
 // A question about events from a time on.
-fn choosing<'a>(name: &str, words: &ArgMatches<'a>) -> Line<'a>
+fn choosing<'a>(name: &str, words: &ArgMatches<'a>) -> LogQuestion<'a>
     requires named { IsOneOf name.now (codes "next" ∷ codes "ready" ∷ codes "rehearse" ∷ []) }
     requires words { HasWords name.now (rows_of (found_of words.now)) }
-    ensures { IsLineOf result name.now (rows_of (found_of words.now)) }
+    ensures { IsQuestionOf result name.now (rows_of (found_of words.now)) }
 {
-    let log = site_log(words);
     let now = word(words, "NOW");
     let choice = choice(words);
     match name {
-        "next" => Line::Next { log, now, choice },
-        "ready" => Line::Ready { log, now, choice },
-        _ => Line::Rehearse { log, now, choice },
+        "next" => LogQuestion::Next { now, choice },
+        "ready" => LogQuestion::Ready { now, choice },
+        _ => LogQuestion::Rehearse { now, choice },
     }
 }
 
-// A question about an event, or about the steps by their names.
-fn naming<'a>(name: &str, words: &ArgMatches<'a>) -> Line<'a>
-    requires named { IsOneOf name.now (codes "why" ∷ codes "steps" ∷ []) }
+// Another question.
+fn asking<'a>(name: &str, words: &ArgMatches<'a>) -> LogQuestion<'a>
+    requires named { IsOneOf name.now (codes "report" ∷ codes "repairs" ∷ codes "records" ∷ codes "bounds" ∷ codes "why" ∷ codes "steps" ∷ []) }
     requires words { HasWords name.now (rows_of (found_of words.now)) }
-    ensures { IsLineOf result name.now (rows_of (found_of words.now)) }
+    ensures { IsQuestionOf result name.now (rows_of (found_of words.now)) }
 {
-    let log = site_log(words);
     match name {
-        "why" => Line::Why {
-            log,
+        "report" => LogQuestion::Report,
+        "repairs" => LogQuestion::Repairs,
+        "records" => LogQuestion::Records,
+        "bounds" => LogQuestion::Bounds,
+        "why" => LogQuestion::Why {
             event: word(words, "EVENT"),
             to: option(words, "TO"),
         },
-        _ => Line::Steps {
-            log,
+        _ => LogQuestion::Steps {
             plan: option(words, "plan"),
         },
     }

@@ -21,36 +21,35 @@ pub struct EventChoice<'a> {
     pub starts: bool,
 }
 
-/// A command line. Events (`z`, `s1`, `e1`), steps, times (in seconds), ids (`1.2`), addresses and the names of texts and
-/// logs are given as they were written: whoever does the command reads them.
-#[derive(Drop)]
-pub enum Line<'a> {
-    /// Runs a script from the standard input.
-    Run,
-    /// Makes the log of a plan of so many steps without a domain.
+/// What makes a log. The names of texts, and times in seconds, are given as they were written.
+#[derive(Clone, Copy)]
+pub enum NewLog<'a> {
+    /// A plan of so many steps without a domain.
     Bare {
-        log: SiteLog<'a>,
         steps: u16,
     },
-    /// Makes the log of a plan text over a domain text.
+    /// A plan text over a domain text.
     Init {
-        log: SiteLog<'a>,
         domain: &'a str,
         plan: &'a str,
     },
-    /// Makes the log of a plan whose steps may end so much earlier and so much later than a plan text over a domain text says; a time
-    /// that is not given is 0. Where it is to be robust, the plan completes however long its steps take.
+    /// A plan whose steps may end so much earlier and so much later than a plan text over a domain text says; a time that is not
+    /// given is 0. Where it is to be robust, the plan completes however long its steps take.
     Loosen {
-        log: SiteLog<'a>,
         domain: &'a str,
         plan: &'a str,
         early: Option<&'a str>,
         late: Option<&'a str>,
         robust: bool,
     },
+}
+
+/// What changes a log. Events (`z`, `s1`, `e1`), steps, times (in seconds), ids (`1.2`) and the names of logs are given as they were
+/// written.
+#[derive(Drop)]
+pub enum LogChange<'a> {
     /// Adds a bound on the time from one event to another; a side that is not given is open.
     Add {
-        log: SiteLog<'a>,
         from: &'a str,
         to: &'a str,
         lo: Option<&'a str>,
@@ -58,7 +57,6 @@ pub enum Line<'a> {
     },
     /// Adds a bound in place of a record, which is replaced for good; a side that is not given is open.
     Amend {
-        log: SiteLog<'a>,
         id: &'a str,
         from: &'a str,
         to: &'a str,
@@ -67,86 +65,88 @@ pub enum Line<'a> {
     },
     /// Withdraws a record.
     Withdraw {
-        log: SiteLog<'a>,
         id: &'a str,
     },
     /// Records that an event took place at a time.
     Done {
-        log: SiteLog<'a>,
         event: &'a str,
         time: &'a str,
     },
     /// Takes all that another log holds.
     Merge {
-        log: SiteLog<'a>,
         other: &'a str,
     },
     /// Adds bounds under which each site may act alone; a word `SITE:STEPS` names steps of a site, and all others are the
     /// log's.
     Guard {
-        log: SiteLog<'a>,
         owned: Vec<&'a str, Global>,
     },
+}
+
+/// How a plan is drawn: by the names of a plan's file, as in `Steps`; from a time on, where one is given; with arrows, unless the word
+/// for them says no; with the steps of sites, as in `Guard`.
+#[derive(Drop)]
+pub struct DrawingWords<'a> {
+    pub plan: Option<&'a str>,
+    pub now: Option<&'a str>,
+    pub arrows: Option<&'a str>,
+    pub owned: Vec<&'a str, Global>,
+}
+
+/// What is asked of a log. Events, steps, times (in seconds) and the names of texts are given as they were written.
+#[derive(Drop)]
+pub enum LogQuestion<'a> {
     /// Tells every event's window, or a cycle of bounds that contradict each other.
-    Report {
-        log: SiteLog<'a>,
-    },
+    Report,
     /// Tells which of the chosen events is to take place next.
     Next {
-        log: SiteLog<'a>,
         now: &'a str,
         choice: EventChoice<'a>,
     },
     /// Tells which of the chosen events may run from a time on, and until when.
     Ready {
-        log: SiteLog<'a>,
+        now: &'a str,
+        choice: EventChoice<'a>,
+    },
+    /// Tells how the rest of the chosen events runs from a time on.
+    Rehearse {
         now: &'a str,
         choice: EventChoice<'a>,
     },
     /// Tells why an event's window ends where it does; of two events, why the second comes no sooner and no later after the first.
     Why {
-        log: SiteLog<'a>,
         event: &'a str,
         to: Option<&'a str>,
     },
     /// Tells what mends a conflict.
-    Repairs {
-        log: SiteLog<'a>,
-    },
+    Repairs,
     /// Tells which records the log holds.
-    Records {
-        log: SiteLog<'a>,
-    },
+    Records,
     /// Tells which steps the plan has; those of a bare plan by the names of a plan's file, if one is given.
     Steps {
-        log: SiteLog<'a>,
         plan: Option<&'a str>,
     },
     /// Tells which bounds count.
-    Bounds {
-        log: SiteLog<'a>,
-    },
+    Bounds,
     /// Tells whether times, one for each event from `s1` on, are a schedule.
     Check {
-        log: SiteLog<'a>,
         times: Vec<&'a str, Global>,
     },
-    /// Tells how the rest of the chosen events runs from a time on.
-    Rehearse {
-        log: SiteLog<'a>,
-        now: &'a str,
-        choice: EventChoice<'a>,
-    },
-    /// Draws the plan's steps on an axis of time, or a walk round the bounds that contradict each other: from a time on, where one is
-    /// given; with arrows, unless the word for them says no; with the steps of sites, as in `Guard`; by the names of a plan's file, as
-    /// in `Steps`.
-    Draw {
-        log: SiteLog<'a>,
-        plan: Option<&'a str>,
-        now: Option<&'a str>,
-        arrows: Option<&'a str>,
-        owned: Vec<&'a str, Global>,
-    },
+    /// Draws the plan's steps on an axis of time, or a walk round the bounds that contradict each other.
+    Draw(DrawingWords<'a>),
+}
+
+/// A command line. Its words are given as they were written: whoever does the command reads them.
+#[derive(Drop)]
+pub enum Line<'a> {
+    /// Runs a script from the standard input.
+    Run,
+    /// Makes a log.
+    Make(SiteLog<'a>, NewLog<'a>),
+    /// Changes a log that is there.
+    Change(SiteLog<'a>, LogChange<'a>),
+    /// Asks a question of a log that is there, which stays as it is.
+    Ask(SiteLog<'a>, LogQuestion<'a>),
     /// Explains a refusal or a fault, by the number or the word that is printed for it; where none is given, lists all.
     Explain {
         code: Option<&'a str>,

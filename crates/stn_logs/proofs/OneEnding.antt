@@ -5,15 +5,15 @@ use Rattle.stn_net.specs.{Difference.Difference, Schedule.HasSchedule}
 use Rattle.stn_lift.specs.{PlanSource.{PlanSource, bare, files, events_of, base_of, steps_of}, Failures.base_failure, declared.fault.BaseFault.BaseFault}
 use Rattle.stn_site.specs.{Held.Held, Failures.replica_failure, Bounds.all_bounds, declared.faults.ReplicaFault.ReplicaFault}
 use Rattle.stn_store.specs.{Log.{Log, log_held, IsLog, Failures.load_failure}, declared.log.fault.LoadFault.LoadFault, Store.{Entry, Holds, IsThere, IsTaken, IsMissing, Spells, Means, Opens, IsUnopened}, Steps.{Entries, FindsFree, FindsText, LoadsLog, SavesNew}, Merging.IsMergeRefusal}
-use Rattle.stn_command.specs.{Change.change_refusal, Named.{names_refusal, Shown, IsNamed, listed, pictured}, declared.changes.Change.{Change, TheVariants.{Add, Amend, Withdraw, Done}}, Query.{Query, report, check, foresee, ask, repairs, draw, IsSaid, IsQueryRefusal}}
+use Rattle.stn_command.specs.{Change.change_refusal, Named.{names_refusal, Shown, IsNamed, listed, pictured}, Words.no_such_word, declared.changes.Change.{Change as ChangeAsked, TheVariants.{Add, Amend, Withdraw, Done}}, Query.{Query, report, check, foresee, ask, repairs, draw, IsSaid, IsQueryRefusal}}
 use Rattle.stn_command.specs.declared.queries.Outlook.TheVariants as outlook
 use Rattle.stn_guard.specs.{Adding.{IsGuardRefusal, no_step, conflict, guarded, records_refusal, owner_by}, Making.IsGuardOf, declared.owners.OwnedSteps.OwnedSteps}
 use Rattle.stn_loosen.specs.{Slack.Slack, Loosened.{AreFewLoosened, AreTooMany}, Robust.{AreRobust, AreFewRobust, AreTooManyRobust}}
 use Rattle.stn_refusal.specs.declared.failure.{Failure.Failure, Fault.Fault}
-use Rattle.stn_effects.{specs.Effects.{Effect, Then, Makes, Reads, Gives, EndAlike}, proofs.Endings.{EndSo, makes_same, reads_same, then_alike, then_done_alike, gives_alike, gives_lacks, lacks_alike, finds_alike, makes_alike, reads_alike, as_alike}}
+use Rattle.stn_effects.{specs.Effects.{Effect, Then, Makes, Settles, Gives, EndAlike, failing}, proofs.Endings.{EndSo, makes_same, reads_same, then_alike, then_done_alike, gives_alike, gives_lacks, lacks_alike, finds_alike, makes_alike, reads_alike, as_alike}}
 use Rattle.stn_records.specs.Content.{Content, no_content}
-use Rattle.stn_line.specs.{Explanations.Explained.IsExplained, declared.words.{Line.Line, SiteLog.SiteLog}}
-use Rattle.stn_logs.{specs.{Words.{Asked, Update, change, merge, guard, make_bare, make, make_loose, explain, update, named_by, query, asked_of}, Loosening.{HoldsLoosened, IsLoosenedRefusal, IsRobustRefusal, WithBase, IsLooseningRefusal}, Commands.{Updated, SavesUpdated, IsGuarded, based, SavesMade, MakesLog, FindsSource, IsChanged, IsMerged, IsUnguarded, Updates, nameless, ShowsNamed, IsExplainRefusal, DoesAsked, DoesLine}}, proofs.Unsaved.{free_same, text_same, load_same, source_same, update_same, saved_lacks}}
+use Rattle.stn_line.specs.{Explanations.Explained.IsExplained, declared.words.{SiteLog.SiteLog, NewLog.TheVariants.{Bare, Init, Loosen}, Line.{Line, TheVariants.{Run, Make, Change, Ask, Explain, Shell, Serve, Send}}}}
+use Rattle.stn_logs.{specs.{Words.{Asked, query, named_by, Update, change, merge, guard, slack_read, update_read, question_read}, Loosening.{HoldsLoosened, IsLoosenedRefusal, IsRobustRefusal, WithBase, IsLooseningRefusal}, Commands.{Updated, SavesUpdated, IsGuarded, SavesMade, MakesLog, FindsSource, IsChanged, IsMerged, IsUnguarded, Updates, UpdatesLog, nameless, SaysAsked, AnswersAsked, IsExplainRefusal, DoesLine}}, proofs.Unsaved.{free_same, text_same, load_same, source_same, update_same, saved_lacks, Looser, LoosensTexts}}
 
 -- at most one cause is named
 abbrev IsOne : (Option Failure → Type 0) → Type 0
@@ -82,7 +82,7 @@ one_explained word cause other (inl p) (inr q) = absurd (q.0 p.0)
 one_explained word cause other (inr p) (inl q) = absurd (p.0 q.0)
 one_explained word cause other (inr p) (inr q) = p.1 ∙ sym q.1
 
-change_at_rest : (held : Held) (asked : Change) → change_refusal held asked ≡ change_refusal (idle held) asked
+change_at_rest : (held : Held) (asked : ChangeAsked) → change_refusal held asked ≡ change_refusal (idle held) asked
 change_at_rest held (Add bound) = refl
 change_at_rest held (Amend old bound) = refl
 change_at_rest held (Withdraw id) = refl
@@ -210,9 +210,9 @@ module _ (logs : (bytes : List ℕ) (one other : Result Log LoadFault) → IsLog
         (λ _. gives_lacks Fails (codes "made" ++ 10 ∷ [])) (λ _. gives_lacks Fails (codes "made" ++ 10 ∷ []))
 
     log_alike : (name : List ℕ) (source : PlanSource) → EndSo Fails (λ _ _. ⊤) known (MakesLog Fails name source) (MakesLog Fails name source)
-    log_alike name source = then_alike Fails (Reads Fails (based (base_of source))) (λ made. SavesMade Fails name made no_content)
-        (Reads Fails (based (base_of source))) (λ made. SavesMade Fails name made no_content) (λ one other. one ≡ other) (λ _ _. ⊤) known
-        (reads_same Fails (based (base_of source))) (reads_same Fails (based (base_of source))) (reads_alike Fails (based (base_of source)) known)
+    log_alike name source = then_alike Fails (Settles Fails (failing base_failure (base_of source))) (λ made. SavesMade Fails name made no_content)
+        (Settles Fails (failing base_failure (base_of source))) (λ made. SavesMade Fails name made no_content) (λ one other. one ≡ other) (λ _ _. ⊤) known
+        (reads_same Fails (failing base_failure (base_of source))) (reads_same Fails (failing base_failure (base_of source))) (reads_alike Fails (failing base_failure (base_of source)) known)
         (λ made other _. made_alike name made other no_content no_content)
 
     source_alike : (domain plan : List ℕ) → EndSo Fails (λ one other. one ≡ other) known (FindsSource Fails domain plan) (FindsSource Fails domain plan)
@@ -236,10 +236,10 @@ module _ (logs : (bytes : List ℕ) (one other : Result Log LoadFault) → IsLog
           (λ cause. cause ≡ option_map replica_failure (change_refusal held asked)) (λ cause. cause ≡ option_map replica_failure (change_refusal other asked)) known
           (at_rest_alike (λ one cause. cause ≡ option_map replica_failure (change_refusal one asked))
           (λ one cause p. p ∙ ap (option_map replica_failure) (change_at_rest one asked)) (λ one cause reason p q. p ∙ sym q))
-      update_alike (merge name) = then_alike Fails (LoadsLog Fails name held.site) (λ theirs. Makes Fails (IsMerged theirs held) (IsMergeRefusal held theirs))
-          (LoadsLog Fails name other.site) (λ theirs. Makes Fails (IsMerged theirs other) (IsMergeRefusal other theirs)) (λ one last. idle one ≡ idle last) (λ _ _. ⊤) known
+      update_alike (merge name) = then_alike Fails (LoadsLog Fails name held.site) (λ theirs. Makes Fails (IsMerged held theirs) (IsMergeRefusal held theirs))
+          (LoadsLog Fails name other.site) (λ theirs. Makes Fails (IsMerged other theirs) (IsMergeRefusal other theirs)) (λ one last. idle one ≡ idle last) (λ _ _. ⊤) known
           (load_same Fails name held.site) (load_same Fails name other.site) (load_alike name held.site other.site (ap (λ (one : Held). one.site) same))
-          (λ theirs copy alike. makes_alike Fails (IsMerged theirs held) (IsMerged copy other) (IsMergeRefusal held theirs) (IsMergeRefusal other copy) known
+          (λ theirs copy alike. makes_alike Fails (IsMerged held theirs) (IsMerged other copy) (IsMergeRefusal held theirs) (IsMergeRefusal other copy) known
           (λ cause reason p q. one_merge (idle other) (idle copy) cause reason
           (subst (λ (one : Held). IsMergeRefusal one (idle copy) cause) same (subst (λ (one : Held). IsMergeRefusal (idle held) one cause) alike p)) q))
       update_alike (guard owned) = makes_alike Fails (IsGuarded owned held) (IsGuarded owned other)
@@ -250,11 +250,13 @@ module _ (logs : (bytes : List ℕ) (one other : Result Log LoadFault) → IsLog
           names_at_rest what held names ∙ ap (λ (one : Held). names_refusal what one names) same
           ∙ ap (names_refusal what (idle other)) alike ∙ sym (names_at_rest what other others)
 
-      shown_alike : (what : Shown) (plan : List ℕ) → EndSo Fails (λ _ _. ⊤) known (ShowsNamed Fails what plan held) (ShowsNamed Fails what plan other)
-      shown_alike what plan = then_alike Fails (Reads Fails (nameless held.source)) (λ _. Then (FindsText Fails plan) (λ names. Makes Fails (IsNamed what names held) (λ cause. cause ≡ names_refusal what held names)))
-          (Reads Fails (nameless other.source)) (λ _. Then (FindsText Fails plan) (λ names. Makes Fails (IsNamed what names other) (λ cause. cause ≡ names_refusal what other names)))
+      says_alike : (asked : Asked) → EndSo Fails (λ _ _. ⊤) known (SaysAsked Fails asked held) (SaysAsked Fails asked other)
+      says_alike (query asked) = makes_alike Fails (IsSaid asked held) (IsSaid asked other) (IsQueryRefusal asked held) (IsQueryRefusal asked other) known
+          (at_rest_alike (IsQueryRefusal asked) (query_at_rest asked) (queries asked))
+      says_alike (named_by what plan) = then_alike Fails (Settles Fails (nameless held.source)) (λ _. Then (FindsText Fails plan) (λ names. Makes Fails (IsNamed what names held) (λ cause. cause ≡ names_refusal what held names)))
+          (Settles Fails (nameless other.source)) (λ _. Then (FindsText Fails plan) (λ names. Makes Fails (IsNamed what names other) (λ cause. cause ≡ names_refusal what other names)))
           (λ one last. one ≡ last) (λ _ _. ⊤) known (reads_same Fails (nameless held.source)) (reads_same Fails (nameless other.source))
-          (subst (λ (one : Held). EndSo Fails (λ one last. one ≡ last) known (Reads Fails (nameless held.source)) (Reads Fails (nameless one.source))) same
+          (subst (λ (one : Held). EndSo Fails (λ one last. one ≡ last) known (Settles Fails (nameless held.source)) (Settles Fails (nameless one.source))) same
           (reads_alike Fails (nameless held.source) known))
           (λ _ _ _. then_alike Fails (FindsText Fails plan) (λ names. Makes Fails (IsNamed what names held) (λ cause. cause ≡ names_refusal what held names))
           (FindsText Fails plan) (λ names. Makes Fails (IsNamed what names other) (λ cause. cause ≡ names_refusal what other names))
@@ -263,25 +265,14 @@ module _ (logs : (bytes : List ℕ) (one other : Result Log LoadFault) → IsLog
           (λ cause reason p q. p ∙ (names_alike what names others alike ∙ sym q))))
 
     -- ---- a command
-    abbrev Looser : SiteLog → Slack → Bool → PlanSource → Effect Entries (List ℕ)
-    Looser log slack robust source = Then (Makes Fails (HoldsLoosened robust source slack log.site) (IsLooseningRefusal robust source slack)) (λ state. SavesMade Fails log.name.now (bare (steps_of source)) state)
-
-    asked_alike : (asked : Asked) → EndSo Fails (λ _ _. ⊤) known (DoesAsked Fails asked) (DoesAsked Fails asked)
-    asked_alike (make_bare log steps) = then_alike Fails (FindsFree Fails log.name.now) (λ _. MakesLog Fails log.name.now (bare steps))
-        (FindsFree Fails log.name.now) (λ _. MakesLog Fails log.name.now (bare steps)) (λ _ _. ⊤) (λ _ _. ⊤) known
-        (free_same Fails log.name.now) (free_same Fails log.name.now) (free_alike log.name.now) (λ _ _ _. log_alike log.name.now (bare steps))
-    asked_alike (make log domain plan) = then_alike Fails (FindsFree Fails log.name.now) (λ _. Then (FindsSource Fails domain plan) (λ source. MakesLog Fails log.name.now source))
-        (FindsFree Fails log.name.now) (λ _. Then (FindsSource Fails domain plan) (λ source. MakesLog Fails log.name.now source)) (λ _ _. ⊤) (λ _ _. ⊤) known
+    loosening_alike : (log : SiteLog) (domain plan : List ℕ) (robust : Bool) (slack : Slack)
+        → EndSo Fails (λ _ _. ⊤) known (LoosensTexts Fails log domain plan robust slack) (LoosensTexts Fails log domain plan robust slack)
+    loosening_alike log domain plan robust slack = then_alike Fails (FindsFree Fails log.name.now) (λ _. Then (FindsSource Fails domain plan) (Looser Fails log robust slack))
+        (FindsFree Fails log.name.now) (λ _. Then (FindsSource Fails domain plan) (Looser Fails log robust slack)) (λ _ _. ⊤) (λ _ _. ⊤) known
         (free_same Fails log.name.now) (free_same Fails log.name.now) (free_alike log.name.now)
-        (λ _ _ _. then_alike Fails (FindsSource Fails domain plan) (λ source. MakesLog Fails log.name.now source) (FindsSource Fails domain plan) (λ source. MakesLog Fails log.name.now source)
+        (λ _ _ _. then_alike Fails (FindsSource Fails domain plan) (Looser Fails log robust slack) (FindsSource Fails domain plan) (Looser Fails log robust slack)
         (λ one other. one ≡ other) (λ _ _. ⊤) known (source_same Fails domain plan) (source_same Fails domain plan) (source_alike domain plan)
-        (λ source other same. subst (λ (one : PlanSource). EndSo Fails (λ _ _. ⊤) known (MakesLog Fails log.name.now source) (MakesLog Fails log.name.now one)) same (log_alike log.name.now source)))
-    asked_alike (make_loose log domain plan slack robust) = then_alike Fails (FindsFree Fails log.name.now) (λ _. Then (FindsSource Fails domain plan) (Looser log slack robust))
-        (FindsFree Fails log.name.now) (λ _. Then (FindsSource Fails domain plan) (Looser log slack robust)) (λ _ _. ⊤) (λ _ _. ⊤) known
-        (free_same Fails log.name.now) (free_same Fails log.name.now) (free_alike log.name.now)
-        (λ _ _ _. then_alike Fails (FindsSource Fails domain plan) (Looser log slack robust) (FindsSource Fails domain plan) (Looser log slack robust)
-        (λ one other. one ≡ other) (λ _ _. ⊤) known (source_same Fails domain plan) (source_same Fails domain plan) (source_alike domain plan)
-        (λ source other same. subst (λ (one : PlanSource). EndSo Fails (λ _ _. ⊤) known (Looser log slack robust source) (Looser log slack robust one)) same
+        (λ source other same. subst (λ (one : PlanSource). EndSo Fails (λ _ _. ⊤) known (Looser Fails log robust slack source) (Looser Fails log robust slack one)) same
         (then_alike Fails (Makes Fails (HoldsLoosened robust source slack log.site) (IsLooseningRefusal robust source slack)) (λ state. SavesMade Fails log.name.now (bare (steps_of source)) state)
         (Makes Fails (HoldsLoosened robust source slack log.site) (IsLooseningRefusal robust source slack)) (λ state. SavesMade Fails log.name.now (bare (steps_of source)) state)
         (λ _ _. ⊤) (λ _ _. ⊤) known (makes_same Fails (HoldsLoosened robust source slack log.site) (IsLooseningRefusal robust source slack))
@@ -289,8 +280,9 @@ module _ (logs : (bytes : List ℕ) (one other : Result Log LoadFault) → IsLog
         (makes_alike Fails (HoldsLoosened robust source slack log.site) (HoldsLoosened robust source slack log.site)
         (IsLooseningRefusal robust source slack) (IsLooseningRefusal robust source slack) known (one_loosening robust source slack))
         (λ state content _. made_alike log.name.now (bare (steps_of source)) (bare (steps_of source)) state content))))
-    asked_alike (explain word) = makes_alike Fails (IsExplained word) (IsExplained word) (IsExplainRefusal word) (IsExplainRefusal word) known (one_explained word)
-    asked_alike (update log asked) = then_alike Fails (LoadsLog Fails log.name.now log.site) (λ held. Then (Updates Fails asked held) (λ made. SavesUpdated Fails log.name.now made))
+
+    updating_alike : (log : SiteLog) (asked : Update) → EndSo Fails (λ _ _. ⊤) known (UpdatesLog Fails log asked) (UpdatesLog Fails log asked)
+    updating_alike log asked = then_alike Fails (LoadsLog Fails log.name.now log.site) (λ held. Then (Updates Fails asked held) (λ made. SavesUpdated Fails log.name.now made))
         (LoadsLog Fails log.name.now log.site) (λ held. Then (Updates Fails asked held) (λ made. SavesUpdated Fails log.name.now made))
         (λ held other. idle held ≡ idle other) (λ _ _. ⊤) known (load_same Fails log.name.now log.site) (load_same Fails log.name.now log.site)
         (load_alike log.name.now log.site log.site refl)
@@ -298,21 +290,50 @@ module _ (logs : (bytes : List ℕ) (one other : Result Log LoadFault) → IsLog
         (λ _ _. ⊤) (λ _ _. ⊤) known (update_same Fails asked held) (update_same Fails asked other) (update_alike held other same asked)
         (λ made last _. lacks_alike Fails known (SavesUpdated Fails log.name.now made) (SavesUpdated Fails log.name.now last)
         (saved_lacks Fails log.name.now made) (saved_lacks Fails log.name.now last)))
-    asked_alike (named_by log what plan) = then_alike Fails (LoadsLog Fails log.name.now log.site) (λ held. ShowsNamed Fails what plan held)
-        (LoadsLog Fails log.name.now log.site) (λ held. ShowsNamed Fails what plan held)
+
+    answers_alike : (log : SiteLog) (asked : Asked) → EndSo Fails (λ _ _. ⊤) known (AnswersAsked Fails log asked) (AnswersAsked Fails log asked)
+    answers_alike log asked = then_alike Fails (LoadsLog Fails log.name.now log.site) (λ held. SaysAsked Fails asked held)
+        (LoadsLog Fails log.name.now log.site) (λ held. SaysAsked Fails asked held)
         (λ held other. idle held ≡ idle other) (λ _ _. ⊤) known (load_same Fails log.name.now log.site) (load_same Fails log.name.now log.site)
-        (load_alike log.name.now log.site log.site refl) (λ held other same. shown_alike held other same what plan)
-    asked_alike (query log asked) = then_alike Fails (LoadsLog Fails log.name.now log.site) (λ held. Makes Fails (IsSaid asked held) (IsQueryRefusal asked held))
-        (LoadsLog Fails log.name.now log.site) (λ held. Makes Fails (IsSaid asked held) (IsQueryRefusal asked held))
-        (λ held other. idle held ≡ idle other) (λ _ _. ⊤) known (load_same Fails log.name.now log.site) (load_same Fails log.name.now log.site)
-        (load_alike log.name.now log.site log.site refl)
-        (λ held other same. makes_alike Fails (IsSaid asked held) (IsSaid asked other) (IsQueryRefusal asked held) (IsQueryRefusal asked other) known
-        (at_rest_alike held other same (IsQueryRefusal asked) (query_at_rest asked) (queries asked)))
+        (load_alike log.name.now log.site log.site refl) (λ held other same. says_alike held other same asked)
+
+    -- words are read alike, and then what they ask for is done alike
+    read_alike : {X : Type 0} (said : Result X Failure) (Next : X → Effect Entries (List ℕ)) → ((value : X) → EndSo Fails (λ _ _. ⊤) known (Next value) (Next value))
+        → EndSo Fails (λ _ _. ⊤) known (Then (Settles Fails said) Next) (Then (Settles Fails said) Next)
+    read_alike {X} said Next alike = then_alike Fails (Settles Fails said) Next (Settles Fails said) Next (λ value other. value ≡ other) (λ _ _. ⊤) known
+        (reads_same Fails said) (reads_same Fails said) (reads_alike Fails said known)
+        (λ value other same. subst (λ (one : X). EndSo Fails (λ _ _. ⊤) known (Next value) (Next one)) same (alike value))
+
+    none_alike : EndSo Fails (λ _ _. ⊤) known (Settles {World = Entries} {X = List ℕ} Fails (Err no_such_word)) (Settles {World = Entries} {X = List ℕ} Fails (Err no_such_word))
+    none_alike new last (Ok value) (Ok other) a b = tt
+    none_alike new last (Ok value) (Err failure) a b = absurd (not_err value no_such_word (sym a.1))
+    none_alike new last (Err failure) (Ok value) a b = absurd (not_err value no_such_word (sym b.1))
+    none_alike new last (Err failure) (Err other) (same, inr lack) b = inl lack
+    none_alike new last (Err failure) (Err other) (same, inl is) (stays, inr lack) = inr (inl lack)
+    none_alike new last (Err failure) (Err other) (same, inl is) (stays, inl was) = inr (inr (sym (one_error no_such_word failure is) ∙ one_error no_such_word other was))
+
+    line_alike : (line : Line) → EndSo Fails (λ _ _. ⊤) known (DoesLine Fails line) (DoesLine Fails line)
+    line_alike (Make log (Bare steps)) = then_alike Fails (FindsFree Fails log.name.now) (λ _. MakesLog Fails log.name.now (bare steps))
+        (FindsFree Fails log.name.now) (λ _. MakesLog Fails log.name.now (bare steps)) (λ _ _. ⊤) (λ _ _. ⊤) known
+        (free_same Fails log.name.now) (free_same Fails log.name.now) (free_alike log.name.now) (λ _ _ _. log_alike log.name.now (bare steps))
+    line_alike (Make log (Init domain plan)) = then_alike Fails (FindsFree Fails log.name.now) (λ _. Then (FindsSource Fails domain.now plan.now) (λ source. MakesLog Fails log.name.now source))
+        (FindsFree Fails log.name.now) (λ _. Then (FindsSource Fails domain.now plan.now) (λ source. MakesLog Fails log.name.now source)) (λ _ _. ⊤) (λ _ _. ⊤) known
+        (free_same Fails log.name.now) (free_same Fails log.name.now) (free_alike log.name.now)
+        (λ _ _ _. then_alike Fails (FindsSource Fails domain.now plan.now) (λ source. MakesLog Fails log.name.now source) (FindsSource Fails domain.now plan.now) (λ source. MakesLog Fails log.name.now source)
+        (λ one other. one ≡ other) (λ _ _. ⊤) known (source_same Fails domain.now plan.now) (source_same Fails domain.now plan.now) (source_alike domain.now plan.now)
+        (λ source other same. subst (λ (one : PlanSource). EndSo Fails (λ _ _. ⊤) known (MakesLog Fails log.name.now source) (MakesLog Fails log.name.now one)) same (log_alike log.name.now source)))
+    line_alike (Make log (Loosen domain plan early late robust)) =
+        read_alike (slack_read early late) (λ slack. LoosensTexts Fails log domain.now plan.now robust slack) (λ slack. loosening_alike log domain.now plan.now robust slack)
+    line_alike (Change log words) = read_alike (update_read words) (λ asked. UpdatesLog Fails log asked) (λ asked. updating_alike log asked)
+    line_alike (Ask log words) = read_alike (question_read log words) (λ asked. AnswersAsked Fails log asked) (λ asked. answers_alike log asked)
+    line_alike (Explain word) =
+        let one = option_map (λ (w : Bor (List ℕ)). w.now) word in
+        makes_alike Fails (IsExplained one) (IsExplained one) (IsExplainRefusal one) (IsExplainRefusal one) known (one_explained one)
+    line_alike Run = none_alike
+    line_alike (Shell log) = none_alike
+    line_alike (Serve log address count seconds) = none_alike
+    line_alike (Send log address seconds) = none_alike
 
   pub one_line : (Fails : Fault → Type 0) (entries : List Entry) (line : Line) (one other : Entries) (ended last : Result (List ℕ) Failure)
       → DoesLine Fails line (Some entries) one ended → DoesLine Fails line (Some entries) other last → EndAlike Fails ended last
-  one_line Fails entries line one other ended last does did = as_alike Fails ended last (then_alike Fails (Reads Fails (asked_of line)) (λ asked. DoesAsked Fails asked)
-      (Reads Fails (asked_of line)) (λ asked. DoesAsked Fails asked) (λ asked same. asked ≡ same) (λ _ _. ⊤) (Some entries)
-      (reads_same Fails (asked_of line)) (reads_same Fails (asked_of line)) (reads_alike Fails (asked_of line) (Some entries))
-      (λ asked same is. subst (λ (one : Asked). EndSo Fails (λ _ _. ⊤) (Some entries) (DoesAsked Fails asked) (DoesAsked Fails one)) is (asked_alike Fails entries asked))
-      one other ended last does did)
+  one_line Fails entries line one other ended last does did = as_alike Fails ended last (line_alike Fails entries line one other ended last does did)

@@ -1,13 +1,14 @@
 -- What a step of a command leaves; a command that gives no answer saves nothing.
-use Rattle.std.{proofs.Common.{◌≡◌, ℕ, List, Option, Result, Ok, Err}, specs.Prelude.{option_map, codes, [], ◌∷◌, ◌++◌}}
-use Rattle.stn_effects.{specs.Effects.{Effect, Then, Makes, Reads, Gives}, proofs.Endings.{ChangesNothing, KeepsIfStopped, StopsForLack, makes_same, reads_same, gives_same, gives_lacks, gives_never_stops, then_same, then_keeps, then_done, then_lacks}}
-use Rattle.stn_lift.specs.PlanSource.{PlanSource, bare, files, base_of, steps_of}
+use Rattle.std.{proofs.Common.{◌≡◌, ℕ, Bool, List, Option, Result, Ok, Err}, specs.Prelude.{option_map, codes, [], ◌∷◌, ◌++◌}}
+use Rattle.stn_effects.{specs.Effects.{Effect, Then, Makes, Settles, Gives, failing}, proofs.Endings.{ChangesNothing, KeepsIfStopped, StopsForLack, makes_same, reads_same, gives_same, gives_lacks, gives_never_stops, then_same, then_keeps, then_done, then_lacks}}
+use Rattle.stn_lift.specs.{PlanSource.{PlanSource, bare, files, base_of, steps_of}, Failures.base_failure}
 use Rattle.stn_records.specs.Content.{Content, no_content}
-use Rattle.stn_command.specs.{Change.change_refusal, Query.{IsSaid, IsQueryRefusal}, Named.{Shown, IsNamed, names_refusal}}
-use Rattle.stn_line.specs.{Explanations.Explained.IsExplained, declared.words.Line.Line}
+use Rattle.stn_command.specs.{Change.change_refusal, Query.{IsSaid, IsQueryRefusal}, Named.{IsNamed, names_refusal}, Words.no_such_word}
+use Rattle.stn_line.specs.{Explanations.Explained.IsExplained, declared.words.{SiteLog.SiteLog, NewLog.TheVariants.{Bare, Init, Loosen}, Line.{Line, TheVariants.{Run, Make, Change, Ask, Explain, Shell, Serve, Send}}}}
 use Rattle.stn_site.specs.{Held.Held, Failures.replica_failure}
+use Rattle.stn_loosen.specs.Slack.{Slack}
 use Rattle.stn_store.specs.{Log.{Log, log_held}, Merging.IsMergeRefusal, Store.IsLack, Steps.{Entries, FindsFree, FindsText, LoadsLog, Saves, SavesNew}}
-use Rattle.stn_logs.specs.{Loosening.{HoldsLoosened, IsLooseningRefusal}, Words.{Asked, Update, change, guard, merge, make_bare, make, make_loose, explain, update, named_by, query, asked_of}, Commands.{Updated, updated, unchanged, SavesUpdated, IsGuarded, based, SavesMade, MakesLog, FindsSource, IsChanged, IsMerged, IsUnguarded, Updates, nameless, ShowsNamed, IsExplainRefusal, DoesAsked, DoesLine}}
+use Rattle.stn_logs.specs.{Loosening.{HoldsLoosened, IsLooseningRefusal}, Words.{Asked, query, named_by, Update, change, guard, merge, slack_read, update_read, question_read}, Commands.{Updated, updated, unchanged, SavesUpdated, IsGuarded, SavesMade, MakesLog, FindsSource, IsChanged, IsMerged, IsUnguarded, Updates, UpdatesLog, nameless, SaysAsked, AnswersAsked, IsExplainRefusal, DoesLine}}
 use Rattle.stn_refusal.specs.declared.failure.{Failure.Failure, Fault.Fault}
 
 module _ (Fails : Fault → Type 0) where
@@ -33,8 +34,8 @@ module _ (Fails : Fault → Type 0) where
         new_keeps (λ _. gives_never_stops (codes "made" ++ 10 ∷ []))
 
   log_keeps : (name : List ℕ) (source : PlanSource) → KeepsIfStopped (MakesLog Fails name source)
-  log_keeps name source = then_keeps (Reads Fails (based (base_of source))) (λ made. SavesMade Fails name made no_content)
-      (reads_same Fails (based (base_of source))) (λ made. made_keeps name made no_content)
+  log_keeps name source = then_keeps (Settles Fails (failing base_failure (base_of source))) (λ made. SavesMade Fails name made no_content)
+      (reads_same Fails (failing base_failure (base_of source))) (λ made. made_keeps name made no_content)
 
   pub source_same : (domain plan : List ℕ) → ChangesNothing (FindsSource Fails domain plan)
   source_same domain plan = then_same (FindsText Fails domain) (λ actions. Then (FindsText Fails plan) (λ steps. Gives (files actions steps)))
@@ -42,8 +43,8 @@ module _ (Fails : Fault → Type 0) where
 
   pub update_same : (asked : Update) (held : Held) → ChangesNothing (Updates Fails asked held)
   update_same (change asked) held = makes_same Fails (IsChanged asked held) (λ cause. cause ≡ option_map replica_failure (change_refusal held asked))
-  update_same (merge other) held = then_same (LoadsLog Fails other held.site) (λ theirs. Makes Fails (IsMerged theirs held) (IsMergeRefusal held theirs))
-      (load_same other held.site) (λ theirs. makes_same Fails (IsMerged theirs held) (IsMergeRefusal held theirs))
+  update_same (merge other) held = then_same (LoadsLog Fails other held.site) (λ theirs. Makes Fails (IsMerged held theirs) (IsMergeRefusal held theirs))
+      (load_same other held.site) (λ theirs. makes_same Fails (IsMerged held theirs) (IsMergeRefusal held theirs))
   update_same (guard owned) held = makes_same Fails (IsGuarded owned held) (IsUnguarded owned held)
 
   -- the saving of a log, and then its answer
@@ -62,36 +63,56 @@ module _ (Fails : Fault → Type 0) where
     saved_lacks (updated held text) = then_lacks (Saves Fails name (log_held held)) (λ _. Gives text) Fails (save_lacks held) (λ _. gives_lacks Fails text)
     saved_lacks (unchanged text) = gives_lacks Fails text
 
-  shows_same : (what : Shown) (plan : List ℕ) (held : Held) → ChangesNothing (ShowsNamed Fails what plan held)
-  shows_same what plan held = then_same (Reads Fails (nameless held.source))
+  says_same : (asked : Asked) (held : Held) → ChangesNothing (SaysAsked Fails asked held)
+  says_same (query asked) held = makes_same Fails (IsSaid asked held) (IsQueryRefusal asked held)
+  says_same (named_by what plan) held = then_same (Settles Fails (nameless held.source))
       (λ _. Then (FindsText Fails plan) (λ names. Makes Fails (IsNamed what names held) (λ cause. cause ≡ names_refusal what held names)))
       (reads_same Fails (nameless held.source)) (λ _. then_same (FindsText Fails plan)
       (λ names. Makes Fails (IsNamed what names held) (λ cause. cause ≡ names_refusal what held names)) (text_same plan)
       (λ names. makes_same Fails (IsNamed what names held) (λ cause. cause ≡ names_refusal what held names)))
 
-  asked_keeps : (asked : Asked) → KeepsIfStopped (DoesAsked Fails asked)
-  asked_keeps (make_bare log steps) = then_keeps (FindsFree Fails log.name.now) (λ _. MakesLog Fails log.name.now (bare steps))
-      (free_same log.name.now) (λ _. log_keeps log.name.now (bare steps))
-  asked_keeps (make log domain plan) = then_keeps (FindsFree Fails log.name.now)
-      (λ _. Then (FindsSource Fails domain plan) (λ source. MakesLog Fails log.name.now source)) (free_same log.name.now)
-      (λ _. then_keeps (FindsSource Fails domain plan) (λ source. MakesLog Fails log.name.now source) (source_same domain plan)
-      (λ source. log_keeps log.name.now source))
-  asked_keeps (make_loose log domain plan slack robust) = then_keeps (FindsFree Fails log.name.now)
-      (λ _. Then (FindsSource Fails domain plan) (λ source. Then (Makes Fails (HoldsLoosened robust source slack log.site) (IsLooseningRefusal robust source slack)) (λ state. SavesMade Fails log.name.now (bare (steps_of source)) state)))
-      (free_same log.name.now) (λ _. then_keeps (FindsSource Fails domain plan)
-      (λ source. Then (Makes Fails (HoldsLoosened robust source slack log.site) (IsLooseningRefusal robust source slack)) (λ state. SavesMade Fails log.name.now (bare (steps_of source)) state))
+  answers_same : (log : SiteLog) (asked : Asked) → ChangesNothing (AnswersAsked Fails log asked)
+  answers_same log asked = then_same (LoadsLog Fails log.name.now log.site) (λ held. SaysAsked Fails asked held)
+      (load_same log.name.now log.site) (λ held. says_same asked held)
+
+  -- ---- what comes of an update that was read, and of the tolerance
+  updating_keeps : (log : SiteLog) (asked : Update) → KeepsIfStopped (UpdatesLog Fails log asked)
+  updating_keeps log asked = then_keeps (LoadsLog Fails log.name.now log.site) (λ held. Then (Updates Fails asked held) (λ made. SavesUpdated Fails log.name.now made))
+      (load_same log.name.now log.site) (λ held. then_keeps (Updates Fails asked held) (λ made. SavesUpdated Fails log.name.now made)
+      (update_same asked held) (λ made. saved_keeps log.name.now made))
+
+  abbrev pub Looser : SiteLog → Bool → Slack → PlanSource → Effect Entries (List ℕ)
+  Looser log robust slack source = Then (Makes Fails (HoldsLoosened robust source slack log.site) (IsLooseningRefusal robust source slack)) (λ state. SavesMade Fails log.name.now (bare (steps_of source)) state)
+
+  abbrev pub LoosensTexts : SiteLog → List ℕ → List ℕ → Bool → Slack → Effect Entries (List ℕ)
+  LoosensTexts log domain plan robust slack = Then (FindsFree Fails log.name.now) (λ _. Then (FindsSource Fails domain plan) (Looser log robust slack))
+
+  loosening_keeps : (log : SiteLog) (domain plan : List ℕ) (robust : Bool) (slack : Slack) → KeepsIfStopped (LoosensTexts log domain plan robust slack)
+  loosening_keeps log domain plan robust slack = then_keeps (FindsFree Fails log.name.now) (λ _. Then (FindsSource Fails domain plan) (Looser log robust slack))
+      (free_same log.name.now) (λ _. then_keeps (FindsSource Fails domain plan) (Looser log robust slack)
       (source_same domain plan) (λ source. then_keeps (Makes Fails (HoldsLoosened robust source slack log.site) (IsLooseningRefusal robust source slack))
       (λ state. SavesMade Fails log.name.now (bare (steps_of source)) state)
       (makes_same Fails (HoldsLoosened robust source slack log.site) (IsLooseningRefusal robust source slack))
       (λ state. made_keeps log.name.now (bare (steps_of source)) state)))
-  asked_keeps (explain word) = λ old new failure is. makes_same Fails (IsExplained word) (IsExplainRefusal word) old new (Err failure) is
-  asked_keeps (update log asked) = then_keeps (LoadsLog Fails log.name.now log.site) (λ held. Then (Updates Fails asked held) (λ made. SavesUpdated Fails log.name.now made))
-      (load_same log.name.now log.site) (λ held. then_keeps (Updates Fails asked held) (λ made. SavesUpdated Fails log.name.now made)
-      (update_same asked held) (λ made. saved_keeps log.name.now made))
-  asked_keeps (named_by log what plan) = then_keeps (LoadsLog Fails log.name.now log.site) (λ held. ShowsNamed Fails what plan held)
-      (load_same log.name.now log.site) (λ held old new failure. shows_same what plan held old new (Err failure))
-  asked_keeps (query log asked) = then_keeps (LoadsLog Fails log.name.now log.site) (λ held. Makes Fails (IsSaid asked held) (IsQueryRefusal asked held))
-      (load_same log.name.now log.site) (λ held old new failure. makes_same Fails (IsSaid asked held) (IsQueryRefusal asked held) old new (Err failure))
 
-pub line_keeps : (Fails : Fault → Type 0) (line : Line) (old new : Entries) (failure : Failure) → DoesLine Fails line old new (Err failure) → new ≡ old
-line_keeps Fails line = then_keeps (Reads Fails (asked_of line)) (λ asked. DoesAsked Fails asked) (reads_same Fails (asked_of line)) (λ asked. asked_keeps Fails asked)
+  none_keeps : KeepsIfStopped (Settles {World = Entries} {X = List ℕ} Fails (Err no_such_word))
+  none_keeps old new failure is = is.0
+
+  pub line_keeps : (line : Line) (old new : Entries) (failure : Failure) → DoesLine Fails line old new (Err failure) → new ≡ old
+  line_keeps (Make log (Bare steps)) = then_keeps (FindsFree Fails log.name.now) (λ _. MakesLog Fails log.name.now (bare steps))
+      (free_same log.name.now) (λ _. log_keeps log.name.now (bare steps))
+  line_keeps (Make log (Init domain plan)) = then_keeps (FindsFree Fails log.name.now)
+      (λ _. Then (FindsSource Fails domain.now plan.now) (λ source. MakesLog Fails log.name.now source)) (free_same log.name.now)
+      (λ _. then_keeps (FindsSource Fails domain.now plan.now) (λ source. MakesLog Fails log.name.now source) (source_same domain.now plan.now)
+      (λ source. log_keeps log.name.now source))
+  line_keeps (Make log (Loosen domain plan early late robust)) = then_keeps (Settles Fails (slack_read early late)) (λ slack. LoosensTexts log domain.now plan.now robust slack)
+      (reads_same Fails (slack_read early late)) (λ slack. loosening_keeps log domain.now plan.now robust slack)
+  line_keeps (Change log words) = then_keeps (Settles Fails (update_read words)) (λ asked. UpdatesLog Fails log asked)
+      (reads_same Fails (update_read words)) (λ asked. updating_keeps log asked)
+  line_keeps (Ask log words) = λ old new failure. then_same (Settles Fails (question_read log words)) (λ asked. AnswersAsked Fails log asked)
+      (reads_same Fails (question_read log words)) (λ asked. answers_same log asked) old new (Err failure)
+  line_keeps (Explain word) = λ old new failure is. is.0
+  line_keeps Run = none_keeps
+  line_keeps (Shell log) = none_keeps
+  line_keeps (Serve log address count seconds) = none_keeps
+  line_keeps (Send log address seconds) = none_keeps

@@ -1,24 +1,19 @@
 -- What each command on a log does, step by step, and the text that it answers. Its refusals come in the order of its steps.
 use Rattle.std.specs.Prelude.{◌≡◌, ◌⊎◌, ℕ, List, [], ◌∷◌, ◌++◌, codes, Option, Some, None, option_map, Result, Ok, Err}
-use Rattle.stn_effects.specs.Effects.{Effect, Then, Makes, Reads, Gives}
+use Rattle.stn_effects.specs.Effects.{Effect, Then, Makes, Settles, Gives, failing}
 use Rattle.stn_net.specs.Schedule.{HasSchedule}
-use Rattle.stn_lift.specs.{PlanSource.{PlanSource, bare, files, base_of, steps_of}, Failures.base_failure, declared.fault.BaseFault.BaseFault}
+use Rattle.stn_lift.specs.{PlanSource.{PlanSource, bare, files, base_of, steps_of}, Failures.base_failure}
 use Rattle.stn_records.specs.{Content.{Content, no_content}, Id.SiteCounter}
-use Rattle.stn_site.specs.{Bounds.all_bounds, Calls.{Leaves, took}, Failures.replica_failure, Held.Held, declared.faults.ReplicaFault.ReplicaFault}
-use Rattle.stn_command.specs.{Change.{change_call, change_refusal, made_by, made_text}, Query.{Query, IsSaid, IsQueryRefusal}, Guarding.guard_text, Named.{Shown, IsNamed, names_refusal}, Words.no_such_word, declared.changes.Change.Change}
+use Rattle.stn_site.specs.{Bounds.all_bounds, Calls.{Accepted, Leaves, took}, Failures.replica_failure, Held.Held, declared.faults.ReplicaFault.ReplicaFault}
+use Rattle.stn_command.specs.{Change.{change_call, change_refusal, made_by, made_text}, Query.{Query, IsSaid, IsQueryRefusal}, Guarding.guard_text, Named.{Shown, IsNamed, names_refusal}, Words.no_such_word, declared.changes.Change.Change as ChangeAsked}
 use Rattle.stn_guard.specs.{Adding.{AddsGuard, IsGuardRefusal}, declared.owners.OwnedSteps.OwnedSteps}
 use Rattle.stn_store.specs.{Log.log_held, Merging.IsMergeRefusal, Steps.{Entries, FindsFree, FindsText, LoadsLog, Saves, SavesNew}}
-use Rattle.stn_logs.specs.{Words.{Asked, Update, change, guard, merge, make_bare, make, make_loose, explain, update, named_by, query, asked_of}, declared.changes.Outcome.Outcome, Loosening.{HoldsLoosened, IsLooseningRefusal}}
+use Rattle.stn_logs.specs.{Words.{Asked, query, named_by, Update, change, merge, guard, slack_read, update_read, question_read}, declared.changes.Outcome.Outcome, Loosening.{HoldsLoosened, IsLooseningRefusal}}
 use Rattle.stn_logs.specs.declared.changes.Outcome.TheVariants as came
-use Rattle.stn_line.specs.{Explanations.Explained.{IsExplained, NamesNothing}, declared.words.Line.Line}
+use Rattle.stn_line.specs.{Explanations.Explained.{IsExplained, NamesNothing}, declared.words.{SiteLog.SiteLog, NewLog.TheVariants.{Bare, Init, Loosen}, Line.{Line, TheVariants.{Run, Make, Change, Ask, Explain, Shell, Serve, Send}}}}
 use Rattle.stn_refusal.specs.declared.failure.{Failure.Failure, Fault.Fault}
 
 -- ---- a new log
--- a source that has a base, or why it has none
-abbrev pub based : Result PlanSource BaseFault → Result PlanSource Failure
-based (Ok source) = Ok source
-based (Err fault) = Err (base_failure fault)
-
 -- a log of this is saved under a name that is free
 abbrev pub SavesMade : (Fault → Type 0) → List ℕ → PlanSource → Content → Effect Entries (List ℕ)
 SavesMade Fails name source state =
@@ -28,7 +23,7 @@ SavesMade Fails name source state =
 -- the log of a source that has a base; it says nothing else
 abbrev pub MakesLog : (Fault → Type 0) → List ℕ → PlanSource → Effect Entries (List ℕ)
 MakesLog Fails name source =
-    Then (Reads Fails (based (base_of source))) (λ made.
+    Then (Settles Fails (failing base_failure (base_of source))) (λ made.
     SavesMade Fails name made no_content)
 
 -- the source of the texts of a domain and of a plan
@@ -49,19 +44,17 @@ abbrev pub seen_outcome : {A : Type 0} → Held → Outcome A → Updated
 seen_outcome held (came.Updated text) = updated held text.items
 seen_outcome held (came.Unchanged text) = unchanged text.items
 
+-- a call was made on what the site held, and this text says so
+abbrev pub LeavesUpdated : Accepted → List ℕ → Held → Updated → Type 0
+LeavesUpdated call text before made = (after : Held) × Leaves before call after × (made ≡ updated after text)
+
 -- a change was made, and the line that says so
-pub record IsChanged (asked : Change) (before : Held) (made : Updated) : Type 0 where
-  pub id : SiteCounter
-  pub after : Held
-  pub left : Leaves before (change_call asked id) after
-  pub whole : made ≡ updated after (made_text (made_by asked id))
+abbrev pub IsChanged : ChangeAsked → Held → Updated → Type 0
+IsChanged asked before made = (id : SiteCounter) × LeavesUpdated (change_call asked id) (made_text (made_by asked id)) before made
 
 -- all that another copy of the plan holds was taken in, and the line that says so
-pub record IsMerged (theirs before : Held) (made : Updated) : Type 0 where
-  pub same : before.source ≡ theirs.source
-  pub after : Held
-  pub left : Leaves before (took theirs.state) after
-  pub whole : made ≡ updated after (codes "merged" ++ 10 ∷ [])
+abbrev pub IsMerged : Held → Held → Updated → Type 0
+IsMerged before theirs made = (before.source ≡ theirs.source) × LeavesUpdated (took theirs.state) (codes "merged" ++ 10 ∷ []) before made
 
 -- the guard of what the site held was added, and the lines that name its records; where all bounds have no schedule, a line alone
 pub data IsGuarded (owned : List OwnedSteps) (before : Held) (made : Updated) : Type 0 where
@@ -77,7 +70,7 @@ abbrev pub Updates : (Fault → Type 0) → Update → Held → Effect Entries U
 Updates Fails (change asked) held = Makes Fails (IsChanged asked held) (λ cause. cause ≡ option_map replica_failure (change_refusal held asked))
 Updates Fails (merge other) held =
     Then (LoadsLog Fails other held.site) (λ theirs.
-    Makes Fails (IsMerged theirs held) (IsMergeRefusal held theirs))
+    Makes Fails (IsMerged held theirs) (IsMergeRefusal held theirs))
 Updates Fails (guard owned) held = Makes Fails (IsGuarded owned held) (IsUnguarded owned held)
 
 -- what is to be saved is saved, and the text given; where nothing is, the log stays as it is
@@ -87,50 +80,61 @@ SavesUpdated Fails name (updated held text) =
     Gives text)
 SavesUpdated Fails name (unchanged text) = Gives text
 
+abbrev pub UpdatesLog : (Fault → Type 0) → SiteLog → Update → Effect Entries (List ℕ)
+UpdatesLog Fails log asked =
+    Then (LoadsLog Fails log.name.now log.site) (λ held.
+    Then (Updates Fails asked held) (λ made.
+    SavesUpdated Fails log.name.now made))
+
 -- steps that have names already get none from a plan's file
 abbrev pub nameless : PlanSource → Result (Unit {0}) Failure
 nameless (bare steps) = Ok tt
 nameless (files domain plan) = Err no_such_word
 
--- what is shown by the names of a plan's file
-abbrev pub ShowsNamed : (Fault → Type 0) → Shown → List ℕ → Held → Effect Entries (List ℕ)
-ShowsNamed Fails what plan held =
-    Then (Reads Fails (nameless held.source)) (λ _.
+-- a query is answered, or what is asked for is shown by the names of a plan's file
+abbrev pub SaysAsked : (Fault → Type 0) → Asked → Held → Effect Entries (List ℕ)
+SaysAsked Fails (query asked) held = Makes Fails (IsSaid asked held) (IsQueryRefusal asked held)
+SaysAsked Fails (named_by what plan) held =
+    Then (Settles Fails (nameless held.source)) (λ _.
     Then (FindsText Fails plan) (λ names.
     Makes Fails (IsNamed what names held) (λ cause. cause ≡ names_refusal what held names)))
+
+abbrev pub AnswersAsked : (Fault → Type 0) → SiteLog → Asked → Effect Entries (List ℕ)
+AnswersAsked Fails log asked =
+    Then (LoadsLog Fails log.name.now log.site) (λ held.
+    SaysAsked Fails asked held)
 
 -- ---- a command
 -- why nothing is explained: the word is no refusal's and no fault's
 abbrev pub IsExplainRefusal : Option (List ℕ) → Option Failure → Type 0
 IsExplainRefusal word cause = (NamesNothing word × (cause ≡ Some no_such_word)) ⊎ ((¬ NamesNothing word) × (cause ≡ None))
 
-abbrev pub DoesAsked : (Fault → Type 0) → Asked → Effect Entries (List ℕ)
-DoesAsked Fails (make_bare log steps) =
+abbrev pub Explains : (Fault → Type 0) → Option (List ℕ) → Effect Entries (List ℕ)
+Explains Fails word = Makes Fails (IsExplained word) (IsExplainRefusal word)
+
+-- words are read first; `run`, `shell`, `serve` and `send` are no commands on a log
+abbrev pub DoesLine : (Fault → Type 0) → Line → Effect Entries (List ℕ)
+DoesLine Fails (Make log (Bare steps)) =
     Then (FindsFree Fails log.name.now) (λ _.
     MakesLog Fails log.name.now (bare steps))
-DoesAsked Fails (make log domain plan) =
+DoesLine Fails (Make log (Init domain plan)) =
     Then (FindsFree Fails log.name.now) (λ _.
-    Then (FindsSource Fails domain plan) (λ source.
+    Then (FindsSource Fails domain.now plan.now) (λ source.
     MakesLog Fails log.name.now source))
-DoesAsked Fails (make_loose log domain plan slack robust) =
+DoesLine Fails (Make log (Loosen domain plan early late robust)) =
+    Then (Settles Fails (slack_read early late)) (λ slack.
     Then (FindsFree Fails log.name.now) (λ _.
-    Then (FindsSource Fails domain plan) (λ source.
+    Then (FindsSource Fails domain.now plan.now) (λ source.
     Then (Makes Fails (HoldsLoosened robust source slack log.site) (IsLooseningRefusal robust source slack)) (λ state.
-    SavesMade Fails log.name.now (bare (steps_of source)) state)))
-DoesAsked Fails (explain word) = Makes Fails (IsExplained word) (IsExplainRefusal word)
-DoesAsked Fails (update log asked) =
-    Then (LoadsLog Fails log.name.now log.site) (λ held.
-    Then (Updates Fails asked held) (λ made.
-    SavesUpdated Fails log.name.now made))
-DoesAsked Fails (named_by log what plan) =
-    Then (LoadsLog Fails log.name.now log.site) (λ held.
-    ShowsNamed Fails what plan held)
-DoesAsked Fails (query log asked) =
-    Then (LoadsLog Fails log.name.now log.site) (λ held.
-    Makes Fails (IsSaid asked held) (IsQueryRefusal asked held))
-
--- its words are read first
-abbrev pub DoesLine : (Fault → Type 0) → Line → Effect Entries (List ℕ)
-DoesLine Fails line =
-    Then (Reads Fails (asked_of line)) (λ asked.
-    DoesAsked Fails asked)
+    SavesMade Fails log.name.now (bare (steps_of source)) state))))
+DoesLine Fails (Change log words) =
+    Then (Settles Fails (update_read words)) (λ asked.
+    UpdatesLog Fails log asked)
+DoesLine Fails (Ask log words) =
+    Then (Settles Fails (question_read log words)) (λ asked.
+    AnswersAsked Fails log asked)
+DoesLine Fails (Explain word) = Explains Fails (option_map (λ one. one.now) word)
+DoesLine Fails Run = Settles Fails (Err no_such_word)
+DoesLine Fails (Shell log) = Settles Fails (Err no_such_word)
+DoesLine Fails (Serve log address count seconds) = Settles Fails (Err no_such_word)
+DoesLine Fails (Send log address seconds) = Settles Fails (Err no_such_word)

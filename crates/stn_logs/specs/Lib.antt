@@ -1,3 +1,4 @@
 pub mod Commands
 pub mod Loosening
 pub mod Words
+pub mod Keeping

@@ -1,12 +1,12 @@
 //! What a command makes of a plan.
 
 ghost use Rattle.std.specs.Prelude.{◌≡◌, ◌⊎◌, Some, None, option_map, Ok, Err, OnOk, IfOk, IfErr, MatchResult};
-ghost use Rattle.stn_effects.specs.Effects.{seen};
+ghost use Rattle.stn_effects.specs.Effects.{failing, seen};
 ghost use Rattle.stn_command.specs.{Change.change_refusal, Guarding.guard_text};
-ghost use Rattle.stn_lift.specs.PlanSource.{plan_source, base_of};
+ghost use Rattle.stn_lift.specs.{Failures.base_failure, PlanSource.{plan_source, base_of}};
 ghost use Rattle.stn_records.specs.Content.{no_content};
 ghost use Rattle.stn_site.specs.Failures.{replica_failure};
-ghost use Rattle.stn_logs.specs.{Commands.{based, seen_outcome, IsChanged, IsGuarded, IsUnguarded, Updates}, Words.{merge, seen_update}};
+ghost use Rattle.stn_logs.specs.{Commands.{seen_outcome, IsChanged, IsGuarded, IsUnguarded, Updates}, Words.{merge, seen_update}};
 ghost use Rattle.stn_refusal.specs.declared.failure.Failure.TheVariants.{Failed};
 ghost use Rattle.stn_refusal.specs.declared.failure.Fault.TheVariants as lack;
 
@@ -40,7 +40,7 @@ pub fn opened<A: Allocator + Copy>(
     ensures source { IfOk result (λ plan. plan.source ≡ plan_source source.now) }
     ensures empty { IfOk result (λ plan. plan.state ≡ no_content) }
     ensures accepted { OnOk result (base_of (plan_source source.now) ≡ Ok (plan_source source.now)) }
-    ensures refused { IfErr result (λ failure. (failure ≡ Failed lack.Memory) ⊎ (based (base_of (plan_source source.now)) ≡ Err failure)) }
+    ensures refused { IfErr result (λ failure. (failure ≡ Failed lack.Memory) ⊎ (failing base_failure (base_of (plan_source source.now)) ≡ Err failure)) }
 {
     let base = Base::from_source(alloc, source)?;
     let base = Rc::new(alloc, base)?;

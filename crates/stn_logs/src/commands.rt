@@ -1,24 +1,27 @@
 //! The commands on a log.
 
 ghost use Rattle.std.specs.Prelude.{◌≡◌, ◌⊎◌, IfOk, IfErr, option_map};
-ghost use Rattle.stn_effects.specs.Effects.{seen};
+ghost use Rattle.stn_effects.specs.Effects.{Settles, Then, seen};
 ghost use Rattle.stn_lift.specs.PlanSource.{plan_source};
 ghost use Rattle.stn_command.specs.{Query.{seen_query, seen_choice}, Named.seen_shown};
-ghost use Rattle.stn_logs.specs.{Words.{seen_asked, seen_drawing, seen_update, update, drawn_of, named_by, query}, Commands.{FindsSource, MakesLog, SavesMade, ShowsNamed, DoesAsked, DoesLine}};
-ghost use Rattle.stn_logs.specs.Words as ask;
+ghost use Rattle.stn_line.specs.declared.words.{Line.TheVariants.{Make, Change, Ask}, LogQuestion.TheVariants.{Steps, Draw}};
+ghost use Rattle.stn_logs.specs.{Words.{query, named_by, among_read, seen_update}, Commands.{FindsSource, MakesLog, SavesMade, SaysAsked, AnswersAsked, UpdatesLog, DoesLine}};
 ghost use Rattle.stn_store.specs.{Log.log_held, Store.{IsMissing, IsLack}, Steps.{FindsFree, LoadsLog, SavesNew}};
 
 use crate::changes::{Outcome, copied, make_update, opened};
 use crate::explaining::explain;
 use crate::keeping::Kept;
 use crate::loosening::loosen;
-use crate::words::{Asked, Drawing, Update, read_asked};
+use crate::words::{
+    Update, read_arrows, read_chosen, read_present, read_times, read_tolerance, read_update,
+    read_why,
+};
 use std::alloc::Allocator;
-use stn_command::{Choice, Query, Shown, no_such_word, say_named};
+use stn_command::{Choice, Outlook, Query, Shown, no_such_word, read_owned, read_time, say_named};
 use stn_lift::Source;
-use stn_line::{Line, SiteLog};
-use stn_loosen::Tolerance;
+use stn_line::{DrawingWords, EventChoice, Line, LogChange, LogQuestion, NewLog, SiteLog};
 use stn_picture::Look;
+use stn_questions::Question;
 use stn_refusal::{Code, Failure, Fault};
 use stn_replica::StepRange;
 use stn_site::SitePlan;
@@ -55,35 +58,49 @@ pub fn answer_with<S: Store<A>, A: Allocator + Copy>(
 ) -> Result<Vec<u8, A>, Failure>
     ensures { DoesLine S.fails line.now (S.entries store.old) (S.entries store.new) (seen (λ text. text.items) result) }
 {
-    let asked = read_asked(alloc, line)?;
-    do_asked(alloc, store, kept, asked)
+    match line {
+        Line::Make(log, new) => make_log(alloc, store, log, new),
+        Line::Change(log, change) => change_log(alloc, store, kept, log, change),
+        Line::Ask(log, question) => ask_log(alloc, store, kept, log, question),
+        Line::Explain { code } => explain(alloc, *code),
+        Line::Run | Line::Shell { .. } | Line::Serve { .. } | Line::Send { .. } => {
+            Err(no_such_word())
+        }
+    }
 }
 
-// Does what a command asks for.
-fn do_asked<S: Store<A>, A: Allocator + Copy>(
+// Makes a log.
+fn make_log<S: Store<A>, A: Allocator + Copy>(
     alloc: A,
     store: &mut S,
-    kept: &mut Kept<A>,
-    asked: Asked<'_, '_, A>,
+    log: &SiteLog<'_>,
+    new: &NewLog<'_>,
 ) -> Result<Vec<u8, A>, Failure>
-    ensures { DoesAsked S.fails (seen_asked asked.entry) (S.entries store.old) (S.entries store.new) (seen (λ text. text.items) result) }
+    ensures { DoesLine S.fails (Make log.now new.now) (S.entries store.old) (S.entries store.new) (seen (λ text. text.items) result) }
 {
-    match asked {
-        Asked::Bare(log, steps) => make_bare(alloc, store, log, steps),
-        Asked::Init(log, domain, plan) => make_of_texts(alloc, store, log, domain, plan),
-        Asked::Loosen(log, domain, plan, tolerance, robust) => {
-            loosen_texts(alloc, store, log, domain, plan, tolerance, robust)
+    match new {
+        NewLog::Bare { steps } => {
+            find_free(store, log.name)?;
+            make(alloc, store, log, &Source::Bare(*steps))
         }
-        Asked::Explain(code) => explain(alloc, code),
-        Asked::Update(log, asked) => update_log(alloc, store, kept, log, &asked),
-        Asked::Check(log, times) => say_of(store, kept, log, &Query::Check(&times)),
-        Asked::Among(log, outlook, now, steps, starts) => {
-            let choice = choice_of(&steps, starts);
-            say_of(store, kept, log, &Query::Foresee(outlook, now, choice))
+        NewLog::Init { domain, plan } => {
+            find_free(store, log.name)?;
+            let source = source_of_texts(store, *domain, *plan)?;
+            make(alloc, store, log, &source)
         }
-        Asked::Named(log, plan) => show_named(store, kept, log, &Shown::Steps, plan),
-        Asked::Draw(log, plan, drawing) => draw_log(store, kept, log, plan, &drawing),
-        Asked::Query(log, asked) => say_of(store, kept, log, &asked),
+        NewLog::Loosen {
+            domain,
+            plan,
+            early,
+            late,
+            robust,
+        } => {
+            let tolerance = read_tolerance(*early, *late)?;
+            find_free(store, log.name)?;
+            let source = source_of_texts(store, *domain, *plan)?;
+            let plan = loosen(alloc, log.site, &source, tolerance, *robust)?;
+            save_made(alloc, store, log.name, &plan)
+        }
     }
 }
 
@@ -152,51 +169,6 @@ fn source_of_texts<S: Store<A>, A: Allocator + Copy>(
     Ok(Source::Files(domain, plan))
 }
 
-fn make_bare<S: Store<A>, A: Allocator + Copy>(
-    alloc: A,
-    store: &mut S,
-    log: &SiteLog<'_>,
-    steps: u16,
-) -> Result<Vec<u8, A>, Failure>
-    ensures { DoesAsked S.fails (ask.make_bare log.now steps) (S.entries store.old) (S.entries store.new) (seen (λ text. text.items) result) }
-{
-    find_free(store, log.name)?;
-    make(alloc, store, log, &Source::Bare(steps))
-}
-
-fn make_of_texts<S: Store<A>, A: Allocator + Copy>(
-    alloc: A,
-    store: &mut S,
-    log: &SiteLog<'_>,
-    domain: &str,
-    plan: &str,
-) -> Result<Vec<u8, A>, Failure>
-    ensures { DoesAsked S.fails (ask.make log.now domain.now plan.now) (S.entries store.old) (S.entries store.new) (seen (λ text. text.items) result) }
-{
-    find_free(store, log.name)?;
-    let source = source_of_texts(store, domain, plan)?;
-    make(alloc, store, log, &source)
-}
-
-fn loosen_texts<S: Store<A>, A: Allocator + Copy>(
-    alloc: A,
-    store: &mut S,
-    log: &SiteLog<'_>,
-    domain: &str,
-    plan: &str,
-    tolerance: Tolerance,
-    robust: bool,
-) -> Result<Vec<u8, A>, Failure>
-    ensures { DoesAsked S.fails (ask.make_loose log.now domain.now plan.now tolerance robust) (S.entries store.old) (S.entries store.new) (seen (λ text. text.items) result) }
-{
-    find_free(store, log.name)?;
-    let source = source_of_texts(store, domain, plan)?;
-    let plan = loosen(alloc, log.site, &source, tolerance, robust)?;
-    let text = save_made(alloc, store, log.name, &plan);
-    drop(plan);
-    text
-}
-
 // Holds a log that is there. No other program changes it until what is held is dropped.
 fn hold_log<S: Store<A>, A: Allocator + Copy>(store: &S, name: &str) -> Result<S::Held, Failure>
     ensures named { IfOk result (λ held. S.held_name held ≡ name.now) }
@@ -223,6 +195,20 @@ fn open_log<S: Store<A>, A: Allocator + Copy>(
     Ok(OpenLog { held, plan })
 }
 
+// Changes a log that is there.
+fn change_log<S: Store<A>, A: Allocator + Copy>(
+    alloc: A,
+    store: &mut S,
+    kept: &mut Kept<A>,
+    log: &SiteLog<'_>,
+    change: &LogChange<'_>,
+) -> Result<Vec<u8, A>, Failure>
+    ensures { DoesLine S.fails (Change log.now change.now) (S.entries store.old) (S.entries store.new) (seen (λ text. text.items) result) }
+{
+    let asked = read_update(alloc, change)?;
+    update_log(alloc, store, kept, log, &asked)
+}
+
 // Updates a log that is there, and saves it, if the update says so.
 fn update_log<S: Store<A>, A: Allocator + Copy>(
     alloc: A,
@@ -231,7 +217,7 @@ fn update_log<S: Store<A>, A: Allocator + Copy>(
     log: &SiteLog<'_>,
     asked: &Update<'_, A>,
 ) -> Result<Vec<u8, A>, Failure>
-    ensures { DoesAsked S.fails (update log.now (seen_update asked.now)) (S.entries store.old) (S.entries store.new) (seen (λ text. text.items) result) }
+    ensures { UpdatesLog S.fails log.now (seen_update asked.now) (S.entries store.old) (S.entries store.new) (seen (λ text. text.items) result) }
 {
     let mut ours = open_log(store, kept, log)?;
     match make_update(alloc, store, &mut ours.plan, asked)? {
@@ -242,6 +228,62 @@ fn update_log<S: Store<A>, A: Allocator + Copy>(
         }
         Outcome::Unchanged(text) => Ok(text),
     }
+}
+
+// Answers a question of a log that is there.
+fn ask_log<S: Store<A>, A: Allocator + Copy>(
+    alloc: A,
+    store: &mut S,
+    kept: &mut Kept<A>,
+    log: &SiteLog<'_>,
+    question: &LogQuestion<'_>,
+) -> Result<Vec<u8, A>, Failure>
+    ensures { DoesLine S.fails (Ask log.now question.now) (S.entries store.old) (S.entries store.new) (seen (λ text. text.items) result) }
+{
+    match question {
+        LogQuestion::Report => say_of(store, kept, log, &Query::Report),
+        LogQuestion::Next { now, choice } => {
+            foresee(alloc, store, kept, log, Outlook::Next, *now, choice)
+        }
+        LogQuestion::Ready { now, choice } => {
+            foresee(alloc, store, kept, log, Outlook::Ready, *now, choice)
+        }
+        LogQuestion::Rehearse { now, choice } => {
+            foresee(alloc, store, kept, log, Outlook::Rehearse, *now, choice)
+        }
+        LogQuestion::Why { event, to } => {
+            let why = read_why(*event, *to)?;
+            say_of(store, kept, log, &Query::Ask(why))
+        }
+        LogQuestion::Repairs => say_of(store, kept, log, &Query::Repairs),
+        LogQuestion::Records => say_of(store, kept, log, &Query::Ask(Question::Records)),
+        LogQuestion::Steps { plan } => show_steps(store, kept, log, *plan),
+        LogQuestion::Bounds => say_of(store, kept, log, &Query::Ask(Question::Bounds)),
+        LogQuestion::Check { times } => {
+            let times = read_times(alloc, times)?;
+            say_of(store, kept, log, &Query::Check(&times))
+        }
+        LogQuestion::Draw(drawing) => draw_log(alloc, store, kept, log, drawing),
+    }
+}
+
+// Answers a question about chosen events from a time on.
+fn foresee<S: Store<A>, A: Allocator + Copy>(
+    alloc: A,
+    store: &mut S,
+    kept: &mut Kept<A>,
+    log: &SiteLog<'_>,
+    outlook: Outlook,
+    now: &str,
+    choice: &EventChoice<'_>,
+) -> Result<Vec<u8, A>, Failure>
+    ensures { Then (Settles S.fails (among_read outlook now.now choice.now)) (AnswersAsked S.fails log.now)
+        (S.entries store.old) (S.entries store.new) (seen (λ text. text.items) result) }
+{
+    let steps = read_chosen(alloc, choice.steps)?;
+    let time = read_time(now.as_bytes())?;
+    let chosen = choice_of(&steps, choice.starts);
+    say_of(store, kept, log, &Query::Foresee(outlook, time, chosen))
 }
 
 // The choice of events that was asked for.
@@ -267,29 +309,47 @@ fn say_of<S: Store<A>, A: Allocator + Copy>(
     log: &SiteLog<'_>,
     asked: &Query<'_>,
 ) -> Result<Vec<u8, A>, Failure>
-    ensures { DoesAsked S.fails (query log.now (seen_query asked.now)) (S.entries store.old) (S.entries store.new) (seen (λ text. text.items) result) }
+    ensures { AnswersAsked S.fails log.now (query (seen_query asked.now)) (S.entries store.old) (S.entries store.new) (seen (λ text. text.items) result) }
 {
     let known = kept.caught_up(store, log)?;
     kept.say(known, asked)
 }
 
-// The picture of a log, with its name as the title.
-fn draw_log<S: Store<A>, A: Allocator + Copy>(
+// The steps of a log, by the names of a plan's file where one is given.
+fn show_steps<S: Store<A>, A: Allocator + Copy>(
     store: &mut S,
     kept: &mut Kept<A>,
     log: &SiteLog<'_>,
     plan: Option<&str>,
-    drawing: &Drawing<A>,
 ) -> Result<Vec<u8, A>, Failure>
-    ensures { DoesAsked S.fails (drawn_of log.now plan.entry (seen_drawing drawing.now)) (S.entries store.old) (S.entries store.new) (seen (λ text. text.items) result) }
+    ensures { DoesLine S.fails (Ask log.now (Steps plan.entry)) (S.entries store.old) (S.entries store.new) (seen (λ text. text.items) result) }
 {
+    match plan {
+        Some(plan) => show_named(store, kept, log, &Shown::Steps, plan),
+        None => say_of(store, kept, log, &Query::Ask(Question::Steps)),
+    }
+}
+
+// The picture of a log, with its name as the title.
+fn draw_log<S: Store<A>, A: Allocator + Copy>(
+    alloc: A,
+    store: &mut S,
+    kept: &mut Kept<A>,
+    log: &SiteLog<'_>,
+    drawing: &DrawingWords<'_>,
+) -> Result<Vec<u8, A>, Failure>
+    ensures { DoesLine S.fails (Ask log.now (Draw drawing.entry.now)) (S.entries store.old) (S.entries store.new) (seen (λ text. text.items) result) }
+{
+    let owned = read_owned(alloc, &drawing.owned)?;
+    let arrows = read_arrows(drawing.arrows)?;
+    let present = read_present(drawing.now)?;
     let look = Look {
         title: log.name.as_bytes(),
-        present: drawing.present,
-        arrows: drawing.arrows,
-        owned: &drawing.owned,
+        present,
+        arrows,
+        owned: &owned,
     };
-    match plan {
+    match drawing.plan {
         Some(plan) => show_named(store, kept, log, &Shown::Picture(look), plan),
         None => say_of(store, kept, log, &Query::Draw(look)),
     }
@@ -303,7 +363,7 @@ fn show_named<'x, S: Store<A>, A: Allocator + Copy>(
     shown: &'x Shown<'x>,
     plan: &str,
 ) -> Result<Vec<u8, A>, Failure>
-    ensures { DoesAsked S.fails (named_by log.now (seen_shown shown.now) plan.now) (S.entries store.now) (S.entries store.now) (seen (λ text. text.items) result) }
+    ensures { AnswersAsked S.fails log.now (named_by (seen_shown shown.now) plan.now) (S.entries store.now) (S.entries store.now) (seen (λ text. text.items) result) }
 {
     let known = kept.caught_up(store, log)?;
     let text = show_by_names(store, known.plan(), shown, plan);
@@ -318,7 +378,7 @@ fn show_by_names<'x, S: Store<A>, A: Allocator + Copy>(
     shown: &'x Shown<'x>,
     plan: &str,
 ) -> Result<Vec<u8, A>, Failure>
-    ensures { ShowsNamed S.fails (seen_shown shown.now) plan.now ours.now (S.entries store.now) (S.entries store.now) (seen (λ text. text.items) result) }
+    ensures { SaysAsked S.fails (named_by (seen_shown shown.now) plan.now) ours.now (S.entries store.now) (S.entries store.now) (seen (λ text. text.items) result) }
 {
     match ours.base().source() {
         Source::Files(_, _) => Err(no_such_word()),

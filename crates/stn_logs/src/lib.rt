@@ -5,6 +5,7 @@ pub use commands::{answer, answer_with};
 pub use keeping::{Kept, find_log};
 pub use laws::{no_answer_nothing_saved, one_ending};
 
+mod answered;
 mod changes;
 mod commands;
 mod explaining;

@@ -3,15 +3,13 @@
 ghost use Rattle.std.specs.Prelude.{◌≡◌, ◌⊎◌, map, option_map, pos, neg_ℤ, Ok, Err, IfOk, IfErr, MatchResult};
 ghost use Rattle.stn_time.specs.Time.{horizon};
 ghost use Rattle.stn_refusal.specs.Refusals.{out_of_memory};
-ghost use Rattle.stn_command.specs.Words.{times_read};
-ghost use Rattle.stn_logs.specs.Words.{asked_of, among_read, arrows_read, chosen_read, drawing_read, present_read, seen_drawing, seen_asked, bound_read, event_read, id_read, side_read, slack_of, slack_read, why_read};
+ghost use Rattle.stn_command.specs.{Words.{event_of, id_of, named, time_read, times_read}, Steps.steps_read};
+ghost use Rattle.stn_logs.specs.Words.{arrows_read, bound_read, given_read, seen_update, side_read, slack_of, slack_read, update_read, why_read};
 
 use std::alloc::Allocator;
-use stn_command::{
-    AskedBound, Change, Outlook, Query, no_such_word, read_owned, read_steps, read_time,
-};
+use stn_command::{AskedBound, Change, no_such_word, read_owned, read_steps, read_time};
 use stn_guard::OwnedSteps;
-use stn_line::{EventChoice, Line, SiteLog};
+use stn_line::LogChange;
 use stn_loosen::Tolerance;
 use stn_net::Event;
 use stn_questions::Question;
@@ -31,73 +29,20 @@ pub enum Update<'a, A: Allocator> {
     Guard(Vec<OwnedSteps, A>),
 }
 
-/// How a plan is drawn: from a time on, where one is given; whether with arrows; with these steps of sites.
-#[derive(Drop)]
-pub struct Drawing<A: Allocator> {
-    pub present: Option<Ms>,
-    pub arrows: bool,
-    pub owned: Vec<OwnedSteps, A>,
-}
-
-/// What a command asks for, all its words read.
-#[derive(Drop)]
-pub enum Asked<'l, 'a, A: Allocator> {
-    /// Makes the log of a plan of so many steps without a domain.
-    Bare(&'l SiteLog<'a>, u16),
-    /// Makes the log of a plan text over a domain text.
-    Init(&'l SiteLog<'a>, &'a str, &'a str),
-    /// Makes the log of the loosened plan of a plan text over a domain text, or of its robust plan.
-    Loosen(&'l SiteLog<'a>, &'a str, &'a str, Tolerance, bool),
-    /// Explains a refusal or a fault, or all.
-    Explain(Option<&'a str>),
-    /// Updates a log.
-    Update(&'l SiteLog<'a>, Update<'a, A>),
-    /// Checks times, one for each event.
-    Check(&'l SiteLog<'a>, Vec<Ms, A>),
-    /// Asks of chosen events, from a time on: those of these steps, or of all where none are given; or their starts alone.
-    Among(&'l SiteLog<'a>, Outlook, Ms, Option<Vec<StepRange, A>>, bool),
-    /// Shows the steps by the names of a plan's file.
-    Named(&'l SiteLog<'a>, &'a str),
-    /// Draws the plan, by the names of a plan's file where one is given.
-    Draw(&'l SiteLog<'a>, Option<&'a str>, Drawing<A>),
-    /// Answers another query.
-    Query(&'l SiteLog<'a>, Query<'a>),
-}
-
-/// Reads the words of a command on a log; any other command line is none.
-pub fn read_asked<'l, 'a, A: Allocator + Copy>(
+/// Reads the words of a change.
+pub fn read_update<'a, A: Allocator + Copy>(
     alloc: A,
-    line: &'l Line<'a>,
-) -> Result<Asked<'l, 'a, A>, Failure>
-    ensures { MatchResult result (λ asked. asked_of line.now ≡ Ok (seen_asked asked))
-        (λ failure. (failure ≡ out_of_memory) ⊎ (asked_of line.now ≡ Err failure)) }
+    change: &LogChange<'a>,
+) -> Result<Update<'a, A>, Failure>
+    ensures { MatchResult result (λ asked. update_read change.now ≡ Ok (seen_update asked))
+        (λ failure. (failure ≡ out_of_memory) ⊎ (update_read change.now ≡ Err failure)) }
 {
-    match line {
-        Line::Bare { log, steps } => Ok(Asked::Bare(log, *steps)),
-        Line::Init { log, domain, plan } => Ok(Asked::Init(log, *domain, *plan)),
-        Line::Loosen {
-            log,
-            domain,
-            plan,
-            early,
-            late,
-            robust,
-        } => {
-            let tolerance = read_tolerance(*early, *late)?;
-            Ok(Asked::Loosen(log, *domain, *plan, tolerance, *robust))
-        }
-        Line::Add {
-            log,
-            from,
-            to,
-            lo,
-            hi,
-        } => {
+    match change {
+        LogChange::Add { from, to, lo, hi } => {
             let bound = read_bound(*from, *to, *lo, *hi)?;
-            Ok(Asked::Update(log, Update::Change(Change::Add(bound))))
+            Ok(Update::Change(Change::Add(bound)))
         }
-        Line::Amend {
-            log,
+        LogChange::Amend {
             id,
             from,
             to,
@@ -106,98 +51,24 @@ pub fn read_asked<'l, 'a, A: Allocator + Copy>(
         } => {
             let old = read_id(*id)?;
             let bound = read_bound(*from, *to, *lo, *hi)?;
-            Ok(Asked::Update(log, Update::Change(Change::Amend(old, bound))))
+            Ok(Update::Change(Change::Amend(old, bound)))
         }
-        Line::Withdraw { log, id } => {
+        LogChange::Withdraw { id } => {
             let id = read_id(*id)?;
-            Ok(Asked::Update(log, Update::Change(Change::Withdraw(id))))
+            Ok(Update::Change(Change::Withdraw(id)))
         }
-        Line::Done { log, event, time } => {
+        LogChange::Done { event, time } => {
             let event = read_event(*event)?;
             let time = read_time(time.as_bytes())?;
-            Ok(Asked::Update(log, Update::Change(Change::Done(event, time))))
+            Ok(Update::Change(Change::Done(event, time)))
         }
-        Line::Merge { log, other } => Ok(Asked::Update(log, Update::Merge(*other))),
-        Line::Guard { log, owned } => {
-            let owned = read_owned(alloc, owned)?;
-            Ok(Asked::Update(log, Update::Guard(owned)))
-        }
-        Line::Report { log } => Ok(Asked::Query(log, Query::Report)),
-        Line::Next { log, now, choice } => read_among(alloc, log, Outlook::Next, *now, choice),
-        Line::Ready { log, now, choice } => read_among(alloc, log, Outlook::Ready, *now, choice),
-        Line::Why { log, event, to } => {
-            let question = read_why(*event, *to)?;
-            Ok(Asked::Query(log, Query::Ask(question)))
-        }
-        Line::Repairs { log } => Ok(Asked::Query(log, Query::Repairs)),
-        Line::Records { log } => Ok(Asked::Query(log, Query::Ask(Question::Records))),
-        Line::Steps { log, plan } => match plan {
-            Some(plan) => Ok(Asked::Named(log, *plan)),
-            None => Ok(Asked::Query(log, Query::Ask(Question::Steps))),
-        },
-        Line::Bounds { log } => Ok(Asked::Query(log, Query::Ask(Question::Bounds))),
-        Line::Check { log, times } => {
-            let times = read_times(alloc, times)?;
-            Ok(Asked::Check(log, times))
-        }
-        Line::Rehearse { log, now, choice } => {
-            read_among(alloc, log, Outlook::Rehearse, *now, choice)
-        }
-        Line::Draw {
-            log,
-            plan,
-            now,
-            arrows,
-            owned,
-        } => {
-            let drawing = read_drawing(alloc, owned, *arrows, *now)?;
-            Ok(Asked::Draw(log, *plan, drawing))
-        }
-        Line::Explain { code } => Ok(Asked::Explain(*code)),
-        Line::Run | Line::Shell { .. } | Line::Serve { .. } | Line::Send { .. } => {
-            Err(no_such_word())
-        }
+        LogChange::Merge { other } => Ok(Update::Merge(*other)),
+        LogChange::Guard { owned } => Ok(Update::Guard(read_owned(alloc, owned)?)),
     }
 }
 
-// Reads the words of a query of chosen events.
-fn read_among<'l, 'a, A: Allocator + Copy>(
-    alloc: A,
-    log: &'l SiteLog<'a>,
-    outlook: Outlook,
-    now: &str,
-    choice: &EventChoice<'_>,
-) -> Result<Asked<'l, 'a, A>, Failure>
-    ensures { MatchResult result (λ asked. among_read log.now outlook now.now choice.now ≡ Ok (seen_asked asked))
-        (λ failure. (failure ≡ out_of_memory) ⊎ (among_read log.now outlook now.now choice.now ≡ Err failure)) }
-{
-    let steps = read_chosen(alloc, choice.steps)?;
-    let now = read_time(now.as_bytes())?;
-    Ok(Asked::Among(log, outlook, now, steps, choice.starts))
-}
-
-// How the words say that a plan is drawn.
-fn read_drawing<A: Allocator + Copy>(
-    alloc: A,
-    owned: &[&str],
-    arrows: Option<&str>,
-    now: Option<&str>,
-) -> Result<Drawing<A>, Failure>
-    ensures { MatchResult result (λ drawing. drawing_read (map (λ word. word.now) owned.now) arrows.entry now.entry ≡ Ok (seen_drawing drawing))
-        (λ failure. (failure ≡ out_of_memory) ⊎ (drawing_read (map (λ word. word.now) owned.now) arrows.entry now.entry ≡ Err failure)) }
-{
-    let owned = read_owned(alloc, owned)?;
-    let arrows = read_arrows(arrows)?;
-    let present = read_present(now)?;
-    Ok(Drawing {
-        present,
-        arrows,
-        owned,
-    })
-}
-
-// Whether there are arrows: a word says yes or no, and no word yes.
-fn read_arrows(word: Option<&str>) -> Result<bool, Failure>
+/// Whether there are arrows: a word says yes or no, and no word yes.
+pub fn read_arrows(word: Option<&str>) -> Result<bool, Failure>
     ensures { result ≡ arrows_read word.entry }
 {
     match word {
@@ -207,9 +78,9 @@ fn read_arrows(word: Option<&str>) -> Result<bool, Failure>
     }
 }
 
-// The time that a word spells, where there is one.
-fn read_present(word: Option<&str>) -> Result<Option<Ms>, Failure>
-    ensures { result ≡ present_read word.entry }
+/// The time that a word spells, where there is one.
+pub fn read_present(word: Option<&str>) -> Result<Option<Ms>, Failure>
+    ensures { result ≡ given_read time_read word.entry }
 {
     match word {
         Some(word) => {
@@ -220,13 +91,13 @@ fn read_present(word: Option<&str>) -> Result<Option<Ms>, Failure>
     }
 }
 
-// The steps that a word names, where there is one.
-fn read_chosen<A: Allocator + Copy>(
+/// The steps that a word names, where there is one.
+pub fn read_chosen<A: Allocator + Copy>(
     alloc: A,
     word: Option<&str>,
 ) -> Result<Option<Vec<StepRange, A>>, Failure>
-    ensures { MatchResult result (λ steps. chosen_read word.entry ≡ Ok (option_map (λ all. all.items) steps))
-        (λ failure. (failure ≡ out_of_memory) ⊎ (chosen_read word.entry ≡ Err failure)) }
+    ensures { MatchResult result (λ steps. given_read steps_read word.entry ≡ Ok (option_map (λ all. all.items) steps))
+        (λ failure. (failure ≡ out_of_memory) ⊎ (given_read steps_read word.entry ≡ Err failure)) }
 {
     match word {
         Some(word) => {
@@ -239,7 +110,7 @@ fn read_chosen<A: Allocator + Copy>(
 
 // The event that a word names.
 fn read_event(word: &str) -> Result<Event, Failure>
-    ensures { result ≡ event_read word.now }
+    ensures { result ≡ named (event_of word.now) }
 {
     match stn_command::read_event(word.as_bytes()) {
         Some(event) => Ok(event),
@@ -247,8 +118,8 @@ fn read_event(word: &str) -> Result<Event, Failure>
     }
 }
 
-// The question why, about the event of a word, or about the events of two.
-fn read_why(event: &str, to: Option<&str>) -> Result<Question, Failure>
+/// The question why, about the event of a word, or about the events of two.
+pub fn read_why(event: &str, to: Option<&str>) -> Result<Question, Failure>
     ensures { MatchResult result (λ question. why_read event.now to.entry ≡ Ok question)
         (λ failure. why_read event.now to.entry ≡ Err failure) }
 {
@@ -267,7 +138,7 @@ fn read_why(event: &str, to: Option<&str>) -> Result<Question, Failure>
 
 // The id that a word names.
 fn read_id(word: &str) -> Result<Id, Failure>
-    ensures { result ≡ id_read word.now }
+    ensures { result ≡ named (id_of word.now) }
 {
     match stn_command::read_id(word.as_bytes()) {
         Some(id) => Ok(id),
@@ -340,8 +211,8 @@ fn open_sides() -> (Ms, Ms)
     (Ms::new(-HORIZON).unwrap(), Ms::new(HORIZON).unwrap())
 }
 
-// The times that words spell.
-fn read_times<A: Allocator>(alloc: A, words: &[&str]) -> Result<Vec<Ms, A>, Failure>
+/// The times that words spell.
+pub fn read_times<A: Allocator>(alloc: A, words: &[&str]) -> Result<Vec<Ms, A>, Failure>
     ensures { MatchResult result (λ times. times_read (map (λ word. word.now) words.entry.now) ≡ Ok times.items)
         (λ failure. (failure ≡ out_of_memory) ⊎ (times_read (map (λ word. word.now) words.entry.now) ≡ Err failure)) }
 {

@@ -1,9 +1,9 @@
 -- What is found of bytes that are compared piece by piece.
 use Rattle.std.{proofs.{Common.{◌≡◌, ◌≢◌, ℕ, List, [], ◌++◌, Option, Some, None, false, sym, ap, ◌∙◌, append_assoc}, lemmas.{Bool.false≢true, List.append_cancel_left}, KnownBytes.Consumes-trans}, specs.Io.KnownBytes.Consumes}
-use Rattle.stn_store.specs.Bytes.{AreKnown, AreTheseIn}
+use Rattle.stn_store.specs.Bytes.{AreKnownBytes, AreTheseIn}
 
 -- what was read is the front of what the bytes are
-known_front : (known rest : Option (List ℕ)) (front : List ℕ) → Consumes known rest front → (behind : List ℕ) × AreKnown known (front ++ behind)
+known_front : (known rest : Option (List ℕ)) (front : List ℕ) → Consumes known rest front → (behind : List ℕ) × AreKnownBytes known (front ++ behind)
 known_front None rest front read = ([], tt)
 known_front (Some bytes) None front read = absurd read
 known_front (Some bytes) (Some rest) front read = (rest, read)

@@ -4,3 +4,4 @@ pub mod Takes
 pub mod OneLog
 pub mod Saved
 pub mod SomeLog
+pub mod SoundLog

@@ -5,3 +5,4 @@ pub mod Steps
 pub mod Memory
 pub mod Merging
 pub mod Files
+pub mod Look

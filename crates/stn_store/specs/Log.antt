@@ -77,9 +77,9 @@ IsEnding more behind log (Err Bound) = (more ≡ true) × IsFront behind unfinis
 IsEnding more behind log (Err other) = ⊥
 
 -- the first frame that is refused decides; where none is, what stands after the last whole one
-abbrev pub IsAnswer : Bool → List ℕ → Result (Option LogSoFar) LoadFault → Result Log LoadFault → Type 0
-IsAnswer more behind (Err fault) meaning = meaning ≡ Err fault
-IsAnswer more behind (Ok log) meaning = IsEnding more behind log meaning
+abbrev pub IsLogAnswer : Bool → List ℕ → Result (Option LogSoFar) LoadFault → Result Log LoadFault → Type 0
+IsLogAnswer more behind (Err fault) meaning = meaning ≡ Err fault
+IsLogAnswer more behind (Ok log) meaning = IsEnding more behind log meaning
 
 -- what these bytes, after the frames of a log, make of it
 pub record IsRest (more : Bool) (log : Option LogSoFar) (bytes : List ℕ) (meaning : Result Log LoadFault) : Type 0 where
@@ -87,7 +87,7 @@ pub record IsRest (more : Bool) (log : Option LogSoFar) (bytes : List ℕ) (mean
   pub behind : List ℕ
   pub each : AllByRecursion IsFrame frames
   pub cut : bytes ≡ flat_map spelling frames ++ behind
-  pub answer : IsAnswer more behind (all_taken log frames) meaning
+  pub answer : IsLogAnswer more behind (all_taken log frames) meaning
 
 -- the meaning of an input: of so many bytes as are read at most, and whether more follow
 pub record IsLog (input : List ℕ) (meaning : Result Log LoadFault) : Type 0 where

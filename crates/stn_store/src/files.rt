@@ -5,6 +5,7 @@ ghost use Rattle.stn_store.specs.{Files.IsFileFault, Store.IsLack};
 
 use crate::lock::{Lock, can_lock};
 use crate::log::spell_log;
+use crate::look::{Look, SeenFile};
 use crate::place::{Place, resolve};
 use crate::reading::{are_these, read_log, read_text};
 use crate::store::Store;
@@ -14,6 +15,7 @@ use std::cell::{Cell, RefCell};
 use std::fs::{self, File};
 use std::io::ErrorKind;
 use std::rt::Files;
+use std::time::Clock;
 use stn_cause::Cause;
 use stn_records::Site;
 use stn_refusal::{Failure, Fault};
@@ -113,7 +115,7 @@ fn open_at<T: Files<File = File> + AllocGlobal>(rt: &T, path: &str) -> Result<Fi
 }
 
 // What files hold is known to no clause.
-impl<T: Files<File = File> + AllocGlobal> Store<Global> for FileStore<'_, T> {
+impl<T: Files<File = File> + AllocGlobal + Clock> Store<Global> for FileStore<'_, T> {
     ghost use Rattle.std.specs.{Prelude.None, String.string_bytes};
 
     ghost entries = { λ _. None };
@@ -158,6 +160,29 @@ impl<T: Files<File = File> + AllocGlobal> Store<Global> for FileStore<'_, T> {
         let cause = Cell::new(None);
         let same = are_these(Watched::new(file, &cause), bytes);
         self.unless_unread(held.name.as_str(), cause.get(), same)
+    }
+
+    fn look(&self, path: &str) -> Option<Look<Global>> {
+        // What is no file, as a pipe, might keep this waiting.
+        if !fs::metadata(self.rt, path).ok()?.is_file() {
+            return None;
+        }
+        let file = fs::open(self.rt, path).ok()?;
+        Some(Look::File(SeenFile::of(self.rt, file)?))
+    }
+
+    fn is_seen(&self, path: &str, look: &Look<Global>) -> bool {
+        match (look, fs::metadata(self.rt, path)) {
+            (Look::File(seen), Ok(found)) => seen.is(&found),
+            _ => false,
+        }
+    }
+
+    fn is_seen_held(&self, held: &HeldFile, look: &Look<Global>) -> bool {
+        match (look, held.place.standing(self.rt)) {
+            (Look::File(seen), Some(found)) => seen.is(&found),
+            _ => false,
+        }
     }
 
     fn load(&self, path: &str, site: Site) -> Result<SitePlan<Global>, Failure> {

@@ -2,7 +2,8 @@
 #![tactic(auto)]
 
 pub use files::FileStore;
-pub use log::{LoadFault, load, load_plan, one_log, save, some_log, spell_log};
+pub use log::{LoadFault, load, load_plan, logs_are_sound, one_log, save, some_log, spell_log};
+pub use look::{Look, SeenFile};
 pub use memory::MemoryStore;
 pub use merging::{find_same, take_in};
 pub use store::Store;
@@ -12,6 +13,7 @@ mod beside;
 mod files;
 mod lock;
 mod log;
+mod look;
 mod memory;
 mod merging;
 mod place;

@@ -4,6 +4,7 @@ ghost use Rattle.std.specs.Prelude.{◌≡◌, ◌++◌, [], ◌∷◌, option_m
 ghost use Rattle.stn_store.specs.{Store.bytes_under, Memory.entries_of};
 
 use crate::log::spell_log;
+use crate::look::Look;
 use crate::reading::{read_log, read_text};
 use crate::store::Store;
 use crate::trouble::Trouble;
@@ -104,6 +105,24 @@ impl<A: Allocator + Copy> Store<A> for MemoryStore<A> {
 
     fn has_held(&self, held: &HeldName<A>, bytes: &[u8]) -> Result<bool, Failure> {
         self.has(held.name.as_str(), bytes)
+    }
+
+    fn look(&self, name: &str) -> Option<Look<A>> {
+        match self.get(name) {
+            Some(bytes) => Some(Look::Bytes(Vec::from_slice(self.alloc, bytes).ok()?)),
+            None => None,
+        }
+    }
+
+    fn is_seen(&self, name: &str, look: &Look<A>) -> bool {
+        match (look, self.get(name)) {
+            (Look::Bytes(bytes), Some(found)) => found == bytes.as_slice(),
+            _ => false,
+        }
+    }
+
+    fn is_seen_held(&self, held: &HeldName<A>, look: &Look<A>) -> bool {
+        self.is_seen(held.name.as_str(), look)
     }
 
     fn load(&self, name: &str, site: Site) -> Result<SitePlan<A>, Failure> {

@@ -115,6 +115,14 @@ impl Place {
         }
     }
 
+    /// What the system says of the log that was found, if the path is still its name.
+    pub fn standing<T: Files<File = File>>(&self, rt: &T) -> Option<Metadata> {
+        match (&self.log, self.stands(rt)) {
+            (Some(log), Ok(true)) => log.metadata().ok(),
+            _ => None,
+        }
+    }
+
     // Whether the path is still that of the log that was found, or still nobody's.
     fn stands<T: Files<File = File>>(&self, rt: &T) -> io::Result<bool> {
         match &self.log {

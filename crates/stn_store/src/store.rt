@@ -1,9 +1,10 @@
 //! Where commands find logs and texts, and leave logs.
 
-ghost use Rattle.std.specs.Prelude.{◌≡◌, ◌⊎◌, ℕ, false, List, Option, Ok, OnOk, OnErr, IfOk, IfErr};
-ghost use Rattle.stn_store.specs.{Log.{log_held, IsLog}, Store.{Entry, IsThere, Has, Opens, IsUnopened, Spells, IsMissing, IsTaken, IsLack, saved_too}};
+ghost use Rattle.std.specs.Prelude.{◌≡◌, ◌⊎◌, ℕ, true, false, List, Option, Some, Ok, OnOk, OnErr, IfOk, IfErr, IfSome};
+ghost use Rattle.stn_store.specs.{Log.{log_held, IsLog}, Look.Saw, Store.{Entry, Holds, IsThere, Has, Opens, IsUnopened, Spells, IsMissing, IsTaken, IsLack, saved_too}};
 ghost use Rattle.stn_refusal.specs.declared.failure.Fault.{Fault};
 
+use crate::look::Look;
 use crate::trouble::Trouble;
 use std::alloc::Allocator;
 use stn_records::Site;
@@ -49,6 +50,18 @@ pub trait Store<A: Allocator + Copy> {
     fn has_held(&self, held: &Self::Held, bytes: &[u8]) -> Result<bool, Failure>
         ensures told { IfOk result (λ has. Has (entries self.now) (held_name held.now) bytes.now has) }
         ensures failed { IfErr result (λ failure. IsMissing (entries self.now) (held_name held.now) failure ⊎ IsLack fails failure) };
+
+    /// What is seen of the bytes under a name, if they can be known again by it. They are read after that.
+    fn look(&self, name: &str) -> Option<Look<A>>
+        ensures { IfSome result (λ look. (bytes : List ℕ) → Holds (entries self.now) name.now (Some bytes) → Saw look bytes) };
+
+    /// Whether the bytes under a name are those that were seen, as far as that shows. Of files, none is read.
+    fn is_seen(&self, name: &str, look: &Look<A>) -> bool
+        ensures { (bytes : List ℕ) → result ≡ true → Saw look.now bytes → Holds (entries self.now) name.now (Some bytes) };
+
+    /// Whether the bytes of the log that is held are those that were seen, as far as that shows.
+    fn is_seen_held(&self, held: &Self::Held, look: &Look<A>) -> bool
+        ensures { (bytes : List ℕ) → result ≡ true → Saw look.now bytes → Holds (entries self.now) (held_name held.now) (Some bytes) };
 
     /// A site's copy of a plan by its log.
     fn load(&self, name: &str, site: Site) -> Result<SitePlan<A>, Failure>

@@ -1,7 +1,7 @@
 -- Bytes have one meaning as a log.
 use Rattle.std.{proofs.{Common.{◌≡◌, ℕ, Bool, List, [], ◌∷◌, ◌++◌, length, Option, Some, Result, Ok, Err, inl, refl, sym, ap, subst, ◌∙◌, ⊎_elim, arith, append_assoc}, lemmas.{Bool.false≢true, Option.{same_Some, none-some}}}, specs.{Prelude.option_map, List.{flat_map, AllByRecursion}}}
 use Rattle.stn_wire.{specs.{Frame.{FrameContent, spelling, IsFrame}, Front.{Front, whole, faulty, unfinished, IsFront}, declared.fault.WireFault.WireFault}, proofs.Fronts.whole_spelled}
-use Rattle.stn_store.specs.{Log.{Log, LogSoFar, taken, all_taken, all_taken_by, IsEnding, IsAnswer, IsRest}, declared.log.fault.LoadFault.{LoadFault, TheVariants.{Read, Bound, Frame, LogForm, Base, Take, Memory}}}
+use Rattle.stn_store.specs.{Log.{Log, LogSoFar, taken, all_taken, all_taken_by, IsEnding, IsLogAnswer, IsRest}, declared.log.fault.LoadFault.{LoadFault, TheVariants.{Read, Bound, Frame, LogForm, Base, Take, Memory}}}
 
 not_unfinished : (frame : FrameContent) (n : ℕ) → whole frame n ≡ unfinished → ⊥
 not_unfinished frame n e = absurd cc
@@ -68,13 +68,13 @@ module _ (fronts : (bytes : List ℕ) (a b : Front) → IsFront bytes a → IsFr
   one_ending more log behind a (Err Memory) p q = absurd q
 
   by_first : (more : Bool) (fs gs : List FrameContent) (behind left : List ℕ) (a b : Result Log LoadFault) (first : Result LogSoFar LoadFault)
-      → ((next : LogSoFar) → IsAnswer more behind (all_taken (Some next) fs) a → IsAnswer more left (all_taken (Some next) gs) b → a ≡ b)
-      → IsAnswer more behind (all_taken_by (λ log. all_taken log fs) first) a → IsAnswer more left (all_taken_by (λ log. all_taken log gs) first) b → a ≡ b
+      → ((next : LogSoFar) → IsLogAnswer more behind (all_taken (Some next) fs) a → IsLogAnswer more left (all_taken (Some next) gs) b → a ≡ b)
+      → IsLogAnswer more behind (all_taken_by (λ log. all_taken log fs) first) a → IsLogAnswer more left (all_taken_by (λ log. all_taken log gs) first) b → a ≡ b
   by_first more fs gs behind left a b (Ok next) later x y = later next x y
   by_first more fs gs behind left a b (Err fault) later x y = x ∙ sym y
 
   one_rest : (more : Bool) (fs gs : List FrameContent) (log : Option LogSoFar) (behind left : List ℕ) (a b : Result Log LoadFault) → AllByRecursion IsFrame fs → AllByRecursion IsFrame gs
-      → flat_map spelling fs ++ behind ≡ flat_map spelling gs ++ left → IsAnswer more behind (all_taken log fs) a → IsAnswer more left (all_taken log gs) b → a ≡ b
+      → flat_map spelling fs ++ behind ≡ flat_map spelling gs ++ left → IsLogAnswer more behind (all_taken log fs) a → IsLogAnswer more left (all_taken log gs) b → a ≡ b
   one_rest more [] [] log behind left a b p q e x y = one_ending more log behind a b x (subst (λ (l : List ℕ). IsEnding more l log b) (sym e) y)
   one_rest more [] (g ∷ gs) log behind left a b p q e x y =
       absurd (no_frame more log g (flat_map spelling gs ++ left) a q.0 (subst (λ (l : List ℕ). IsEnding more l log a) (e ∙ append_assoc (spelling g) (flat_map spelling gs) left) x))
@@ -84,7 +84,7 @@ module _ (fronts : (bytes : List ℕ) (a b : Front) → IsFront bytes a → IsFr
       let cut : spelling f ++ (flat_map spelling fs ++ behind) ≡ spelling g ++ (flat_map spelling gs ++ left) = sym (append_assoc (spelling f) (flat_map spelling fs) behind) ∙ (e ∙ append_assoc (spelling g) (flat_map spelling gs) left) in
       let parts = spellings f g (flat_map spelling fs ++ behind) (flat_map spelling gs ++ left) p.0 q.0 cut in
       by_first more fs gs behind left a b (taken log f) (λ next. one_rest more fs gs (Some next) behind left a b p.1 q.1 parts.1) x
-      (subst (λ (h : FrameContent). IsAnswer more left (all_taken_by (λ log. all_taken log gs) (taken log h)) b) (sym parts.0) y)
+      (subst (λ (h : FrameContent). IsLogAnswer more left (all_taken_by (λ log. all_taken log gs) (taken log h)) b) (sym parts.0) y)
 
   pub one_meaning : (more : Bool) (log : Option LogSoFar) (bytes : List ℕ) (a b : Result Log LoadFault) → IsRest more log bytes a → IsRest more log bytes b → a ≡ b
   one_meaning more log bytes a b x y = one_rest more x.frames y.frames log x.behind y.behind a b x.each y.each (sym x.cut ∙ y.cut) x.answer y.answer

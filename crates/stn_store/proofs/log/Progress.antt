@@ -2,9 +2,9 @@
 use Rattle.std.{proofs.{Common.{◌≡◌, ℕ, ◌+◌, ◌-◌, ◌<◌, ◌≤◌, Bool, true, false, List, [], ◌∷◌, ◌++◌, length, take, Option, Some, None, Result, Ok, Err, IfSome, inl, inr, refl, sym, ap, subst, ◌∙◌, arith, append_assoc, append-nil, length-append}, KnownBytes.{Consumes-nil, Consumes-trans}, Math.Seq.take-append-add, lemmas.{List.{take_all, take_at}, Bool.{false≢true, le-ltb, lt-ltb}, Grind.flat_map-append}}, specs.{Prelude.{nat_lt, is_some, option_map}, Io.KnownBytes.{Consumes, IsAtEnd}, List.{flat_map, AllByRecursion}}}
 use Rattle.stn_device.specs.{Bytes.{most_bytes, ConsumesAtMost}, declared.whole.ReadFault.ReadFault}
 use Rattle.stn_time.proofs.Each.{each_pushed}
-use Rattle.stn_wire.{specs.{Frame.{FrameContent, spelling, IsFrame}, Front.{IsFront, faulty, unfinished}, declared.fault.WireFault.WireFault, Stream.{IsNext, IsCounted, Held.Stream}}, proofs.Fronts.fault_more}
+use Rattle.stn_wire.{specs.{Frame.{FrameContent, spelling, IsFrame}, Front.{IsFront, faulty, unfinished}, declared.fault.WireFault.WireFault, Stream.{IsNextFrame, IsCounted, Held.Stream}}, proofs.Fronts.fault_more}
 use Rattle.stn_device.specs.declared.whole.ReadFault.TheVariants as stream
-use Rattle.stn_store.specs.{Log.{Log, LogSoFar, log_held, taken, all_taken, all_taken_by, meaning_of, IsEnding, IsAnswer, IsRest, IsDecided, IsOpen, Faults.of_stream, Opening.{opened_so_far, closed_log, IsRefused}}, declared.log.{reading.Opened.Opened, fault.LoadFault.{LoadFault, TheVariants.{Read, Bound, Frame, LogForm, Base, Take, Memory}}}}
+use Rattle.stn_store.specs.{Log.{Log, LogSoFar, log_held, taken, all_taken, all_taken_by, meaning_of, IsEnding, IsLogAnswer, IsRest, IsDecided, IsOpen, Faults.of_stream, Opening.{opened_so_far, closed_log, IsRefused}}, declared.log.{reading.Opened.Opened, fault.LoadFault.{LoadFault, TheVariants.{Read, Bound, Frame, LogForm, Base, Take, Memory}}}}
 
 -- a read that failed
 pub stream_read : (fault : ReadFault) → of_stream fault ≡ Read → fault ≡ stream.Read
@@ -26,7 +26,7 @@ frame_taken more log next frame tail valid is meaning rest = record {
   behind = rest.behind;
   each = (valid, rest.each);
   cut = ap (λ l. spelling frame ++ l) rest.cut ∙ sym (append_assoc (spelling frame) (flat_map spelling rest.frames) rest.behind);
-  answer = subst (λ (r : Result LogSoFar LoadFault). IsAnswer more rest.behind (all_taken_by (λ log. all_taken log rest.frames) r) meaning) (sym is) rest.answer;
+  answer = subst (λ (r : Result LogSoFar LoadFault). IsLogAnswer more rest.behind (all_taken_by (λ log. all_taken log rest.frames) r) meaning) (sym is) rest.answer;
 }
 
 -- the frame in front is refused
@@ -37,7 +37,7 @@ frame_refused more log frame tail fault valid is = record {
   behind = tail;
   each = (valid, tt);
   cut = ap (λ l. l ++ tail) (sym (append-nil (spelling frame)));
-  answer = subst (λ (r : Result LogSoFar LoadFault). IsAnswer more tail (all_taken_by (λ log. all_taken log []) r) (Err fault)) (sym is) refl;
+  answer = subst (λ (r : Result LogSoFar LoadFault). IsLogAnswer more tail (all_taken_by (λ log. all_taken log []) r) (Err fault)) (sym is) refl;
 }
 
 -- ---- frames, one after the other
@@ -237,7 +237,7 @@ module _ (before after : Option (List ℕ)) (log : Option LogSoFar) (rest : List
 
   -- nothing more comes of the stream
   module _ (A : Type 0) (now : Stream) where
-    pub stream_fails : (fault : ReadFault) → IsNext {A = A} rest now (Err fault) → IsCounted {A = A} count now (Err fault) → IfSome (meaning_of (Err (of_stream fault))) (IsDecided before after)
+    pub stream_fails : (fault : ReadFault) → IsNextFrame {A = A} rest now (Err fault) → IsCounted {A = A} count now (Err fault) → IfSome (meaning_of (Err (of_stream fault))) (IsDecided before after)
     stream_fails stream.Read next counted = tt
     stream_fails stream.Bound next counted = beyond counted next.0 next.1 next.2 next.3
     stream_fails stream.Memory next counted = tt
@@ -247,7 +247,7 @@ module _ (before after : Option (List ℕ)) (log : Option LogSoFar) (rest : List
     stream_used stream.Bound counted = used (omega (arith, counted))
     stream_used stream.Memory counted = used (omega (arith, counted))
 
-    pub stream_open : (fault : ReadFault) → of_stream fault ≡ Read → IsNext {A = A} rest now (Err fault) → IsOpen before after
+    pub stream_open : (fault : ReadFault) → of_stream fault ≡ Read → IsNextFrame {A = A} rest now (Err fault) → IsOpen before after
     stream_open stream.Read is next = record {
       frames = p.frames;
       behind = rest;

@@ -6,7 +6,7 @@ use Rattle.stn_device.specs.Bytes.{most_bytes}
 use Rattle.stn_lift.specs.PlanSource.{PlanSource, events_of, base_of}
 use Rattle.stn_site.{specs.{Bounds.RecordsName, Held.{Held, holding_state}, Refusals.take_refusal, declared.faults.ReplicaFault.{ReplicaFault, TheVariants.Full}}, proofs.Refused.agreed_take}
 use Rattle.stn_wire.specs.{Spelling.four, Frame.{FrameContent, hello, records, body_of, spelling, IsFrame}}
-use Rattle.stn_store.specs.{Log.{Log, LogSoFar, log_held, so_far, log_text, opened, joined, taken, all_taken, all_taken_by, IsAnswer, IsLog}, declared.log.{version.Version.TheVariants.New, fault.LoadFault.LoadFault}}
+use Rattle.stn_store.specs.{Log.{Log, LogSoFar, log_held, so_far, log_text, opened, joined, taken, all_taken, all_taken_by, IsLogAnswer, IsLog}, declared.log.{version.Version.TheVariants.New, fault.LoadFault.LoadFault}}
 
 -- a log doesn't say by how much work it came
 pub same_log : (one other : Held) → other.source ≡ one.source → other.state ≡ one.state → log_held other ≡ log_held one
@@ -81,6 +81,6 @@ saved_log log first second based named sound =
         behind = [];
         each = (first, (second, tt));
         cut = take_all most_bytes text long ∙ (ap (λ (l : List ℕ). spelling h ++ l) (sym (append-nil (spelling r))) ∙ sym (append-nil (spelling h ++ (spelling r ++ []))));
-        answer = subst (λ (o : Result (Option LogSoFar) LoadFault). IsAnswer (nat_lt most_bytes (length text)) [] o (Ok log)) (sym all) (more, refl, refl);
+        answer = subst (λ (o : Result (Option LogSoFar) LoadFault). IsLogAnswer (nat_lt most_bytes (length text)) [] o (Ok log)) (sym all) (more, refl, refl);
       };
     }

@@ -1,7 +1,7 @@
 -- Bytes that are cut into frames and a rest have a meaning as a log.
 use Rattle.std.{proofs.Common.{◌≡◌, ℕ, Bool, true, false, List, [], ◌∷◌, length, Option, Some, None, Result, Ok, Err, ◌⊎◌, inl, inr, refl, arith}, specs.Prelude.option_map}
 use Rattle.stn_wire.{specs.{Frame.FrameContent, Front.{faulty, unfinished, IsFront}, declared.fault.WireFault.WireFault}, proofs.{Fronts.ShowsNone, Cuts.IsCut}}
-use Rattle.stn_store.specs.{Log.{Log, LogSoFar, all_taken, IsEnding, IsAnswer, IsRest}, declared.log.fault.LoadFault.{LoadFault, TheVariants.{Bound, Frame, LogForm}}}
+use Rattle.stn_store.specs.{Log.{Log, LogSoFar, all_taken, IsEnding, IsLogAnswer, IsRest}, declared.log.fault.LoadFault.{LoadFault, TheVariants.{Bound, Frame, LogForm}}}
 
 -- what is answered where all frames were taken
 ending : (more : Bool) (log : Option LogSoFar) (rest : List ℕ) → ShowsNone rest → (meaning : Result Log LoadFault) × IsEnding more rest log meaning
@@ -11,7 +11,7 @@ ending false None rest (inl is) = (Err LogForm, (refl, is, inl refl))
 ending false (Some begun) [] (inl is) = (Ok begun.log, (refl, refl, refl))
 ending false (Some begun) (byte ∷ rest) (inl is) = (Err LogForm, (refl, is, inr (omega arith)))
 
-answered : (more : Bool) (rest : List ℕ) → ShowsNone rest → (taken : Result (Option LogSoFar) LoadFault) → (meaning : Result Log LoadFault) × IsAnswer more rest taken meaning
+answered : (more : Bool) (rest : List ℕ) → ShowsNone rest → (taken : Result (Option LogSoFar) LoadFault) → (meaning : Result Log LoadFault) × IsLogAnswer more rest taken meaning
 answered more rest shows (Ok log) = ending more log rest shows
 answered more rest shows (Err fault) = (Err fault, refl)
 

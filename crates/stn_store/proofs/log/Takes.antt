@@ -1,7 +1,7 @@
 -- What a log makes of a frame, from what a base and a replica answer.
 use Rattle.std.{proofs.{Common.{◌≡◌, true, not, Option, Some, None, Ok, refl, sym, ap, subst, ◌∙◌}, lemmas.{Bool.false≢true, Option.same_Some}}, specs.Prelude.{unwrap_or, is_some}}
 use Rattle.stn_text.specs.Faults.{Fails}
-use Rattle.stn_lift.specs.{PlanSource.{PlanSource, base_of, is_memory}, declared.fault.BaseFault.BaseFault}
+use Rattle.stn_lift.specs.{PlanSource.{PlanSource, base_of, is_base_memory}, declared.fault.BaseFault.BaseFault}
 use Rattle.stn_lift.specs.declared.fault.BaseFault.TheVariants as base
 use Rattle.stn_records.specs.{Content.{Content, no_content, dispute_contents, join_contents, joined_contents}, ContentLaws.{contents_dispute, contents_undisputed}}
 use Rattle.stn_site.specs.{Calls.{Leaves, took}, Held.Held, Refusals.take_refusal, declared.faults.ReplicaFault.ReplicaFault}
@@ -9,7 +9,7 @@ use Rattle.stn_site.specs.declared.faults.ReplicaFault.TheVariants as replica
 use Rattle.stn_store.specs.{Log.{Log, log_held, so_far, opened, joined, taken_in, Faults.{of_base, of_replica}, Opening.IsRefused}, declared.log.version.Version.Version}
 
 -- a source without a base
-pub base_refused : (version : Version) (source : PlanSource) (fault : BaseFault) → Fails {Y = PlanSource} is_memory fault (base_of source) → IsRefused (opened version (base_of source)) (of_base fault)
+pub base_refused : (version : Version) (source : PlanSource) (fault : BaseFault) → Fails {Y = PlanSource} is_base_memory fault (base_of source) → IsRefused (opened version (base_of source)) (of_base fault)
 base_refused version source (base.Domain fault) is = ap (opened version) is
 base_refused version source (base.Plan fault) is = ap (opened version) is
 base_refused version source (base.Lift fault) is = ap (opened version) is

@@ -17,11 +17,9 @@ returns-in_err-print g c =
 
 pub returns : goal.returns
 returns g c = (
-  record {
-    id = next_id c.args.plan.now;
-    after = c.make_change.new.plan;
-    left = c.in_ok-made.ensures.left;
-    whole = ap (updated c.make_change.new.plan) (c.in_ok-print.ensures.printed ∙ rw c.new-text.ensures.items (ap made_text c.in_ok-made.ensures.made));
-  },
+  (
+    next_id c.args.plan.now,
+    (c.make_change.new.plan, c.in_ok-made.ensures.left, ap (updated c.make_change.new.plan) (c.in_ok-print.ensures.printed ∙ rw c.new-text.ensures.items (ap made_text c.in_ok-made.ensures.made))),
+  ),
   c.in_ok-made.ensures.accepted,
 )

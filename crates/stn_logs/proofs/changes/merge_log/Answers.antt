@@ -29,6 +29,6 @@ returns g c =
     let taken = c.in_ok-take_in.ensures in
     went c.in_ok-theirs.theirs _ (refl, opened) (
       refl,
-      record { same = taken.same; after = c.take_in.new.copy; left = taken.left; whole = ap (updated c.take_in.new.copy) c.in_ok-copied.ensures },
+      (taken.same, (c.take_in.new.copy, taken.left, ap (updated c.take_in.new.copy) c.in_ok-copied.ensures)),
       inr (taken.same, sym (ap (option_map replica_failure) taken.accepted)),
     )

@@ -1,13 +1,19 @@
-use Rattle.std.proofs.{Common.{refl, inl, inr, ⊎_elim}, lemmas.Result.err_from_is_err_and}
-use Rattle.stn_effects.specs.Effects.{stopped, went}
-use Rattle.stn_store.proofs.Lacks.{lack_of_memory}
-use Rattle.stn_logs.specs.Words.{seen_asked}
+use Rattle.std.proofs.Common.{option_map, refl, inl}
+use Rattle.stn_effects.proofs.Endings.{makes_of}
+use Rattle.stn_line.specs.Explanations.Explained.{IsExplained}
+use Rattle.stn_logs.specs.Commands.{IsExplainRefusal}
 use Rattle.stn_logs.proofs.commands.answer_with.Goals as goal
 
-pub returns-in_err-asked : goal.returns-in_err-asked
-returns-in_err-asked g c =
-    let p = err_from_is_err_and c.from_residual.result c.from_residual.ensures.1 in
-    rw (p.1, p.2) (stopped _ (refl, ⊎_elim (λ memory. inr (lack_of_memory _ _ memory)) inl c.in_err-asked.ensures) refl)
+pub returns-in-Make : goal.returns-in-Make
+returns-in-Make g c = rw c.in-Make.is c.make_log.ensures
 
-pub returns : goal.returns
-returns g c = went (seen_asked c.in_ok-asked.asked) _ (refl, c.in_ok-asked.ensures) c.do_asked.ensures
+pub returns-in-Change : goal.returns-in-Change
+returns-in-Change g c = rw c.in-Change.is c.change_log.ensures
+
+pub returns-in-Ask : goal.returns-in-Ask
+returns-in-Ask g c = rw c.in-Ask.is c.ask_log.ensures
+
+pub returns-in-Explain : goal.returns-in-Explain
+returns-in-Explain g c =
+    let word = option_map (λ one. one.now) c.in-Explain.code in
+    rw c.in-Explain.is (makes_of g.S.Store.fails (λ text. text.items) (IsExplained word) (IsExplainRefusal word) c.explain.result _ c.explain.ensures)

@@ -1,8 +1,8 @@
 use Rattle.std.proofs.{Common.{refl, ap, inl, inr, ⊎_elim}, lemmas.Result.err_from_is_err_and}
-use Rattle.stn_effects.specs.Effects.{stopped, went}
-use Rattle.stn_lift.specs.PlanSource.{plan_source}
+use Rattle.stn_effects.specs.Effects.{failing, stopped, went}
+use Rattle.stn_lift.specs.{Failures.base_failure, PlanSource.plan_source}
 use Rattle.stn_store.proofs.Lacks.{lack_of_memory}
-use Rattle.stn_logs.{specs.Commands.based, proofs.Made.saved_as}
+use Rattle.stn_logs.proofs.Made.{saved_as}
 use Rattle.stn_logs.proofs.commands.make.Goals as goal
 
 pub returns-in_err-plan : goal.returns-in_err-plan
@@ -13,4 +13,4 @@ returns-in_err-plan g c =
 pub returns : goal.returns
 returns g c =
     let is = c.in_ok-plan.ensures in
-    went (plan_source c.args.source.now) _ (refl, ap based is.accepted) (saved_as _ _ _ _ _ _ _ _ _ is.source is.empty c.save_made-text.ensures)
+    went (plan_source c.args.source.now) _ (refl, ap (failing base_failure) is.accepted) (saved_as _ _ _ _ _ _ _ _ _ is.source is.empty c.save_made-text.ensures)

@@ -1,6 +1,5 @@
-use Rattle.std.proofs.lemmas.Result.{IfOk-weaker}
-use Rattle.stn_logs.proofs.Spelled.{opened_by}
+use Rattle.stn_logs.proofs.Spelled.{looked_at}
 use Rattle.stn_logs.proofs.keeping.Known.is_of.Goals as goal
 
-pub returns-in-Some-clause-same : goal.returns-in-Some-clause-same
-returns-in-Some-clause-same g c = IfOk-weaker c.has.result _ _ (λ has told. opened_by _ _ _ _ _ has c.in-Some.ensures told) c.has.ensures.told
+pub see-requires : goal.see-requires
+see-requires g c = looked_at _ _ _ _ c.look-seen.result c.look-seen.ensures (c.in_ok-has_bytes_of.ensures.same c.if-branch.true)

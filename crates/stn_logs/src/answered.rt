@@ -1,0 +1,121 @@
+//! A question about a log, and what was answered.
+
+ghost use Rattle.std.specs.Prelude.{◌≡◌, true, IfSome};
+ghost use Rattle.stn_command.specs.Query.{foresee, seen_query, seen_choice};
+ghost use Rattle.stn_logs.specs.Keeping.{asked_query, of_all};
+
+use std::alloc::Allocator;
+use stn_command::{Choice, Outlook, Query};
+use stn_time::Ms;
+
+/// A question whose answer is kept: one that costs searches. What is said of an event, or of chosen steps, is asked anew, and so is a
+/// picture.
+#[derive(Clone, Copy)]
+pub enum AskedBefore {
+    /// The report.
+    Report,
+    /// What is asked of all events from a time on, or of all starts.
+    Foresee(Outlook, Ms, bool),
+    /// What mends a conflict.
+    Repairs,
+}
+
+/// A question about a log, and what was answered.
+#[derive(Drop)]
+pub struct Answered<A: Allocator> {
+    pub asked: AskedBefore,
+    pub text: Vec<u8, A>,
+}
+
+impl AskedBefore {
+    /// The question of a query, if its answer is kept.
+    pub fn of(query: &Query<'_>) -> Option<AskedBefore>
+        ensures { IfSome result (λ asked. asked_query asked ≡ seen_query query.now) }
+    {
+        match query {
+            Query::Report => Some(AskedBefore::Report),
+            Query::Foresee(outlook, now, choice) => match choice.steps {
+                Some(_) => None,
+                None => Some(AskedBefore::Foresee(*outlook, *now, choice.starts)),
+            },
+            Query::Repairs => Some(AskedBefore::Repairs),
+            Query::Check(_) | Query::Ask(_) | Query::Draw(_) => None,
+        }
+    }
+
+    /// Whether a query asks this.
+    pub fn is(&self, query: &Query<'_>) -> bool
+        ensures { result ≡ true → asked_query self.now ≡ seen_query query.now }
+    {
+        match (self, query) {
+            (AskedBefore::Report, Query::Report) => true,
+            (AskedBefore::Repairs, Query::Repairs) => true,
+            (AskedBefore::Foresee(outlook, now, starts), Query::Foresee(other, time, choice)) => {
+                asks_again(*outlook, *now, *starts, *other, *time, choice)
+            }
+            _ => false,
+        }
+    }
+}
+
+// Whether the same is asked of all events, or of all starts, from the same time on.
+fn asks_again(
+    outlook: Outlook,
+    now: Ms,
+    starts: bool,
+    other: Outlook,
+    time: Ms,
+    choice: &Choice<'_>,
+) -> bool
+    ensures { result ≡ true → foresee outlook now (of_all starts) ≡ foresee other time (seen_choice choice.now) }
+{
+    are_same(outlook, now, starts, other, time, choice)
+}
+
+// The same, part by part.
+fn are_same(
+    outlook: Outlook,
+    now: Ms,
+    starts: bool,
+    other: Outlook,
+    time: Ms,
+    choice: &Choice<'_>,
+) -> bool
+    ensures { result ≡ true → (outlook ≡ other) × (now ≡ time) × (of_all starts ≡ seen_choice choice.now) }
+{
+    is_outlook(outlook, other) && now == time && is_of_all(choice, starts)
+}
+
+impl<A: Allocator + Copy> Answered<A> {
+    /// A query, and what was answered; none if it is not kept, or there is no memory for it.
+    pub fn of(alloc: A, query: &Query<'_>, text: &[u8]) -> Option<Answered<A>>
+        ensures { IfSome result (λ answered. (asked_query answered.asked ≡ seen_query query.now) × (answered.text.items ≡ text.now)) }
+    {
+        let asked = AskedBefore::of(query)?;
+        let text = Vec::from_slice(alloc, text).ok()?;
+        Some(Answered { asked, text })
+    }
+}
+
+// Whether a choice is of all steps, or of all starts.
+fn is_of_all(choice: &Choice<'_>, starts: bool) -> bool
+    ensures { result ≡ true → of_all starts ≡ seen_choice choice.now }
+{
+    match (choice.steps, starts, choice.starts) {
+        (None, true, true) => true,
+        (None, false, false) => true,
+        _ => false,
+    }
+}
+
+// Whether two outlooks are the same.
+fn is_outlook(one: Outlook, other: Outlook) -> bool
+    ensures { result ≡ true → one ≡ other }
+{
+    match (one, other) {
+        (Outlook::Next, Outlook::Next) => true,
+        (Outlook::Ready, Outlook::Ready) => true,
+        (Outlook::Rehearse, Outlook::Rehearse) => true,
+        _ => false,
+    }
+}
