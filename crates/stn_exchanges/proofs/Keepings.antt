@@ -4,7 +4,7 @@ use Rattle.stn_effects.specs.Effects.{Effect}
 use Rattle.stn_lift.specs.PlanSource.{PlanSource}
 use Rattle.stn_records.specs.Content.{Content}
 use Rattle.stn_wire.specs.Frame.{FrameContent}
-use Rattle.stn_session.specs.{Session.{Session, advanced, opening}, Serving.{Talk, talk, Point, KeepsChange, KeepsEach, TakesOne, BreaksOff, EndsAt, Serves}, declared.session.{Served.Served, ServeFault.{ServeFault, TheVariants.{Read, Write, Bound, Memory}}}}
+use Rattle.stn_session.specs.{Session.{Session, advanced, opening}, Serving.{Talk, talk, Point, KeepsChange, KeepsEach, TakesOne, BreaksOffSession, EndsAt, Serves}, declared.session.{Served.Served, ServeFault.{ServeFault, TheVariants.{Read, Write, Bound, Memory}}}}
 use Rattle.stn_refusal.specs.declared.failure.Failure.{Failure}
 
 module _ {P Q : Type 0} (see : P → Q) (Keeps : Content → Effect Q (Unit {0})) where
@@ -29,7 +29,7 @@ module _ {P Q : Type 0} (see : P → Q) (Keeps : Content → Effect Q (Unit {0})
   one_seen : (at : Point P) (next : Session) (new : Talk P) (kept : Result (Unit {0}) Failure) → TakesOne Sees at next new kept → TakesOne Keeps (point_seen at) next (talk_seen new) kept
   one_seen at next new kept is = record { goes_on = is.goes_on; state = is.state; keeps = change_seen at.session.state next.state at.kept new.place kept is.keeps }
 
-  broken_seen : (at : Point P) (old new : Talk P) (fault : ServeFault) → BreaksOff Sees at old new fault → BreaksOff Keeps (point_seen at) (talk_seen old) (talk_seen new) fault
+  broken_seen : (at : Point P) (old new : Talk P) (fault : ServeFault) → BreaksOffSession Sees at old new fault → BreaksOffSession Keeps (point_seen at) (talk_seen old) (talk_seen new) fault
   broken_seen at old new Read is = (is.0, is.1, ap see is.2, is.3, is.4, is.5)
   broken_seen at old new Bound is = (is.0, is.1, ap see is.2, is.3, is.4, is.5)
   broken_seen at old new Memory is = (is.0, ap see is.1, is.2, is.3)

@@ -1,8 +1,8 @@
 -- Sessions with the sites that come, one after the other.
 use Rattle.std.{proofs.{Common.{◌≡◌, ℕ, zero, suc, ◌+◌, ◌-◌, ◌<◌, List, [], ◌∷◌, ◌++◌, map, length, Option, None, Some, Result, Ok, Err, refl, sym, ap, subst, ◌∙◌, inl, inr, arith, append_assoc, append-nil}, KnownBytes.{Appends-nil, Appends-trans}}, specs.{Prelude.flat_map, Io.KnownBytes.Appends}}
 use Rattle.stn_device.{proofs.Known.not_err, specs.{Partner.PartnerState, Callers.{CallersState, Comes, gone_too}}}
-use Rattle.stn_effects.specs.{Effects.{Effect, Then, stopped, went}, Printing.{Device, Prints}}
-use Rattle.stn_exchanges.specs.{Connections.{Meeting, meeting, session_text, LetsGo, ServesSite, WithNext, Times, ServesSites}, Joining.Shared, Visits.{Visit, visit_text, AreVisits, ComeAndGo}}
+use Rattle.stn_effects.specs.{Effects.{Effect, Then, Times, stopped, went}, Printing.{Device, Prints}}
+use Rattle.stn_exchanges.specs.{Connections.{Meeting, meeting, session_text, LetsGo, ServesSite, WithNext, ServesSites}, Joining.Shared, Visits.{Visit, visit_text, AreVisits, ComeAndGo}}
 use Rattle.stn_lift.specs.PlanSource.{PlanSource}
 use Rattle.stn_line.specs.declared.words.SiteLog.{SiteLog}
 use Rattle.stn_refusal.specs.declared.failure.{Failure.Failure, Fault.Fault}

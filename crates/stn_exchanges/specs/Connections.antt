@@ -1,7 +1,7 @@
 -- What serving other sites, and sending to one, does step by step, and what is printed of it.
-use Rattle.std.specs.Prelude.{◌≡◌, ◌≢◌, ◌⊎◌, ℕ, ◌<◌, zero, suc, List, [], ◌∷◌, ◌++◌, codes, decimal, Option, None, Result, Ok, Err}
-use Rattle.stn_device.specs.{Partner.{PartnerState, Parts}, Callers.{CallersState, Comes, gone_too}}
-use Rattle.stn_effects.specs.{Effects.{Effect, Then, Gives}, Printing.{Device, Writes}}
+use Rattle.std.specs.Prelude.{◌≡◌, ◌≢◌, ◌⊎◌, ℕ, ◌<◌, List, [], ◌∷◌, ◌++◌, codes, decimal, Option, None, Result, Ok, Err}
+use Rattle.stn_device.specs.{Partner.{PartnerState, PartsWays}, Callers.{CallersState, Comes, gone_too}}
+use Rattle.stn_effects.specs.{Effects.{Effect, IsLack, Then, Times, failing}, Printing.{Device, Writes}}
 use Rattle.stn_lift.specs.PlanSource.{PlanSource}
 use Rattle.stn_session.specs.{Exchange.{request_bytes, IsReceived}, Failures.reply_failure, Serving.{Talk, talk, Serves}, declared.{exchange.ReplyFault.ReplyFault, session.{End.{End, TheVariants.{Closed, Cut, Refused}}, Served.Served, ServeFault.{ServeFault, TheVariants.{Read, Write, Bound, Memory}}}}}
 use Rattle.stn_session.specs.declared.exchange.ReplyFault.TheVariants as reply
@@ -12,12 +12,12 @@ use Rattle.stn_refusal.specs.declared.failure.{Failure.{Failure, TheVariants.Fai
 use Rattle.stn_refusal.specs.declared.failure.Fault.TheVariants as fault
 
 -- ---- the line that is printed of a session
-abbrev pub end_text : End → List ℕ
-end_text Closed = codes "closed"
-end_text Cut = codes "cut"
-end_text (Refused code) = codes "refused " ++ decimal code
+abbrev pub ended_text : End → List ℕ
+ended_text Closed = codes "closed"
+ended_text Cut = codes "cut"
+ended_text (Refused code) = codes "refused " ++ decimal code
 
--- what broke a session off
+-- what broke a session off; none of it stops the serving
 abbrev pub fault_word : ServeFault → List ℕ
 fault_word Read = codes "read"
 fault_word Write = codes "write"
@@ -25,7 +25,7 @@ fault_word Bound = codes "bound"
 fault_word Memory = codes "memory"
 
 abbrev pub session_text : Result Served ServeFault → List ℕ
-session_text (Ok served) = codes "session " ++ (decimal served.frames ++ (codes " " ++ (end_text served.end ++ 10 ∷ [])))
+session_text (Ok served) = codes "session " ++ (decimal served.frames ++ (codes " " ++ (ended_text served.end ++ 10 ∷ [])))
 session_text (Err fault) = codes "session " ++ (fault_word fault ++ 10 ∷ [])
 
 -- ---- another site
@@ -43,8 +43,8 @@ abbrev pub InShared : {Others X : Type 0} → Effect Shared X → Effect (Meetin
 InShared Does old new ended = Does old.shared new.shared ended × (new.others ≡ old.others) × (new.out ≡ old.out)
 
 -- on what is printed alone
-abbrev pub OnOutput : {Others X : Type 0} → Effect Device X → Effect (Meeting Others) X
-OnOutput Does old new ended = Does old.out new.out ended × (new.others ≡ old.others) × (new.shared ≡ old.shared)
+abbrev pub OnPrinted : {Others X : Type 0} → Effect Device X → Effect (Meeting Others) X
+OnPrinted Does old new ended = Does old.out new.out ended × (new.others ≡ old.others) × (new.shared ≡ old.shared)
 
 -- what another site has left to say, and what it was told
 abbrev pub unheard_of : PartnerState → Device
@@ -63,7 +63,7 @@ InTalk Does old new ended = Does (talk_in old) (talk_in new) ended × (new.out �
 -- ---- serving
 -- a site that was refused is parted from, and no other one
 abbrev pub PartsAt : End → PartnerState → PartnerState → Type 0
-PartsAt (Refused code) heard gone = Parts heard gone
+PartsAt (Refused code) heard gone = PartsWays heard gone
 PartsAt Closed heard gone = gone ≡ heard
 PartsAt Cut heard gone = gone ≡ heard
 
@@ -81,24 +81,15 @@ ServesSite Fails log source =
     Then (InShared (TakesLog Fails log source)) (λ _.
     Then (InTalk (Serves (KeepsIn Fails log source) source)) (λ answer.
     Then (InShared (SavesJoin Fails log source)) (λ _.
-    Then (OnOutput (Writes (session_text answer))) (λ _.
+    Then (OnPrinted (Writes (session_text answer))) (λ _.
     LetsGo answer))))
 
--- nobody came, or there was no memory for it
-abbrev pub IsAlone : Failure → Type 0
-IsAlone failure = (failure ≡ Failed fault.Net) ⊎ (failure ≡ Failed fault.Memory)
-
--- the next of the sites comes in, this is done with it, and it goes, whatever came of that; or nothing is done
+-- the next of the sites comes in, this is done with it, and it goes, whatever came of that; or nobody came, and nothing is done
 abbrev pub WithNext : {X : Type 0} → Effect (Meeting PartnerState) X → Effect (Meeting (Option CallersState)) X
 WithNext Does old new ended =
     ((met : PartnerState) × (gone : PartnerState) × (left : Option CallersState) × Comes old.others left met × (new.others ≡ gone_too left gone)
     × Does (meeting met old.shared old.out) (meeting gone new.shared new.out) ended)
-    ⊎ ((failure : Failure) × IsAlone failure × (ended ≡ Err failure) × (new ≡ old))
-
--- so many times
-abbrev pub Times : {World X : Type 0} → ℕ → Effect World X → Effect World (Unit {0})
-Times zero Does = Gives tt
-Times (suc count) Does = Then Does (λ _. Times count Does)
+    ⊎ ((failure : Failure) × IsLack (λ failed. failed ≡ fault.Net) failure × (ended ≡ Err failure) × (new ≡ old))
 
 abbrev pub ServesSites : (Fault → Type 0) → SiteLog → PlanSource → ℕ → Effect (Meeting (Option CallersState)) (Unit {0})
 ServesSites Fails log source count = Times count (WithNext (ServesSite Fails log source))
@@ -110,14 +101,9 @@ Asks source old new ended = Writes (request_bytes source old.shared.state) (told
     × (ended ≡ Err (Failed fault.Memory) → new.others ≡ old.others) × (unheard_of new.others ≡ unheard_of old.others)
     × (new.shared ≡ old.shared) × (new.out ≡ old.out)
 
--- what came of the replies, and why they were not taken
-abbrev pub reply_answer : Result (List ℕ) ReplyFault → Result (List ℕ) Failure
-reply_answer (Ok text) = Ok text
-reply_answer (Err fault) = Err (reply_failure fault)
-
 -- the replies are received: their text
 abbrev pub Receives : {P : Type 0} → PlanSource → Effect (Talk P) (List ℕ)
-Receives source old new ended = ((answer : Result (List ℕ) ReplyFault) × (ended ≡ reply_answer answer)
+Receives source old new ended = ((answer : Result (List ℕ) ReplyFault) × (ended ≡ failing reply_failure answer)
     × IsReceived source old.state old.unheard.bytes new.unheard.bytes new.state answer
     × (answer ≡ Err reply.Read → old.unheard.failures < new.unheard.failures) × (answer ≢ Err reply.Read → new.unheard.failures ≡ old.unheard.failures))
     × (new.told ≡ old.told) × (new.place ≡ old.place)
@@ -128,7 +114,7 @@ SendsTo Fails log source =
     Then (Asks source) (λ _.
     Then (InTalk (Receives source)) (λ text.
     Then (InShared (SavesJoin Fails log source)) (λ _.
-    OnOutput (Writes text))))
+    OnPrinted (Writes text))))
 
 -- no clause knows what a site says and is told
 abbrev pub IsStranger : PartnerState → Type 0

@@ -9,25 +9,25 @@ use Rattle.stn_line.specs.declared.words.SiteLog.{SiteLog}
 use Rattle.stn_refusal.specs.declared.failure.{Failure.Failure, Fault.Fault}
 
 -- what the log of a site says; one that is gone says nothing
-abbrev pub IsSaid : SiteLog → Entries → Option Held → Type 0
-IsSaid log entries None = IsThere entries log.name.now false
-IsSaid log entries (Some said) = Opens entries log.name.now log.site said
+abbrev pub IsSaidByLog : SiteLog → Entries → Option Held → Type 0
+IsSaidByLog log entries None = IsThere entries log.name.now false
+IsSaidByLog log entries (Some said) = Opens entries log.name.now log.site said
 
 -- a log is there, and can't be opened
-abbrev pub IsUnsaid : SiteLog → Entries → Failure → Type 0
-IsUnsaid log entries failure = IsThere entries log.name.now true × IsUnopened entries log.name.now failure
+abbrev pub IsUnopenedLog : SiteLog → Entries → Failure → Type 0
+IsUnopenedLog log entries failure = IsThere entries log.name.now true × IsUnopened entries log.name.now failure
 
 abbrev pub FindsSaid : (Fault → Type 0) → SiteLog → Effect Entries (Option Held)
-FindsSaid Fails log = Finds Fails (IsSaid log) (IsUnsaid log)
+FindsSaid Fails log = Finds Fails (IsSaidByLog log) (IsUnopenedLog log)
 
 -- a copy of a plan takes in all that another one holds
 abbrev pub Joins : (Fault → Type 0) → Held → Held → Effect Entries Content
 Joins Fails ours theirs = Makes Fails (λ state. (ours.source ≡ theirs.source) × (join_contents ours.state theirs.state ≡ Some state)) (IsMergeRefusal ours theirs)
 
 -- ---- before a session and after it, the site takes in what its log says
-abbrev pub TakesSaid : (Fault → Type 0) → PlanSource → Content → Option Held → Effect Entries Content
-TakesSaid Fails source state None = Gives state
-TakesSaid Fails source state (Some said) = Joins Fails (holding_state source state) said
+abbrev pub SiteTakes : (Fault → Type 0) → PlanSource → Content → Option Held → Effect Entries Content
+SiteTakes Fails source state None = Gives state
+SiteTakes Fails source state (Some said) = Joins Fails (holding_state source state) said
 
 -- what a site holds of its plan, and a store
 pub record Shared : Type 0 where
@@ -46,7 +46,7 @@ abbrev pub TakesLog : (Fault → Type 0) → SiteLog → PlanSource → Effect S
 TakesLog Fails log source =
     Becomes (λ state.
     Then (FindsSaid Fails log) (λ said.
-    TakesSaid Fails source state said))
+    SiteTakes Fails source state said))
 
 -- the log is saved with the state that the site holds
 abbrev pub SavesState : (Fault → Type 0) → SiteLog → PlanSource → Effect Shared (Unit {0})
@@ -58,13 +58,13 @@ SavesJoin Fails log source =
     Then (TakesLog Fails log source) (λ _.
     SavesState Fails log source)
 
--- ---- in a session, the log takes in a state of the site, which stays as it is
-abbrev pub SaidTakes : (Fault → Type 0) → PlanSource → Content → Option Held → Effect Entries Content
-SaidTakes Fails source state None = Gives state
-SaidTakes Fails source state (Some said) = Joins Fails said (holding_state source state)
+-- ---- in a session it is the log that takes in a state of the site, which stays as it is
+abbrev pub LogTakes : (Fault → Type 0) → PlanSource → Content → Option Held → Effect Entries Content
+LogTakes Fails source state None = Gives state
+LogTakes Fails source state (Some said) = Joins Fails said (holding_state source state)
 
 abbrev pub KeepsIn : (Fault → Type 0) → SiteLog → PlanSource → Content → Effect Entries (Unit {0})
 KeepsIn Fails log source state =
     Then (FindsSaid Fails log) (λ said.
-    Then (SaidTakes Fails source state said) (λ joined.
+    Then (LogTakes Fails source state said) (λ joined.
     Saves Fails log.name.now (record { source = source; state = joined })))

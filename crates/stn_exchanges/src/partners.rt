@@ -3,7 +3,7 @@
 ghost use Rattle.std.specs.Prelude.{◌≡◌, ◌++◌, ◌-◌, ◌^◌, ◌<◌, OnOk};
 ghost use Rattle.stn_device.specs.{Counted.failure_count, Partner.partner_state};
 ghost use Rattle.stn_effects.specs.{Effects.seen, Printing.{Device, device_of, Writes}};
-ghost use Rattle.stn_exchanges.specs.{Connections.{end_text, fault_word, session_text, meeting, PartsAfter, ServesSite, Asks, Receives, SendsTo}, Joining.{KeepsIn, shared}};
+ghost use Rattle.stn_exchanges.specs.{Connections.{ended_text, fault_word, session_text, meeting, PartsAfter, ServesSite, Asks, Receives, SendsTo}, Joining.{KeepsIn, shared}};
 ghost use Rattle.stn_session.specs.Serving.{Serves, talk, session_answer};
 ghost use Rattle.stn_store.specs.Steps.{Entries};
 
@@ -147,7 +147,7 @@ fn append_session<A: Allocator>(
 
 // Appends how a session ended.
 fn append_end<A: Allocator>(out: &mut Vec<u8, A>, end: End) -> Result<(), Memory>
-    ensures { OnOk result (out.new.items ≡ out.old.items ++ end_text end) }
+    ensures { OnOk result (out.new.items ≡ out.old.items ++ ended_text end) }
 {
     match end {
         End::Closed => out.extend_from_slice(b"closed"),

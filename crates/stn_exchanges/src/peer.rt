@@ -42,23 +42,8 @@ fn talk_for<C: Clock>(clock: &C, stream: TcpStream, limit: Duration) -> io::Resu
 
 /// The site at the first of the addresses of a name that answers. This and all that follows may take this time; an address may
 /// take half of what is left of it, so that the next one is tried too. No limit can be set to how long looking up the name takes.
+/// The error is that of the last address that was tried, or why none could be.
 pub fn connect<'a, T: Clock + Net<Stream = TcpStream>>(
-    rt: &'a T,
-    address: &str,
-    limit: Duration,
-) -> Result<Peer<'a, T>, Failure>
-    ensures limited { IfOk result (λ peer. MayTake peer (as_nanos limit)) }
-    ensures reads { IfOk result (λ peer. failure_count peer.reader ≡ 0) }
-    ensures writes { IfOk result (λ peer. failure_count peer.writer ≡ 0) }
-    ensures failed { IfErr result (λ failure. failure ≡ Failed fault.Net) }
-{
-    match reach(rt, address, limit) {
-        Ok(peer) => Ok(peer),
-        Err(_) => Err(Failure::Failed(Fault::Net)),
-    }
-}
-
-fn reach<'a, T: Clock + Net<Stream = TcpStream>>(
     rt: &'a T,
     address: &str,
     limit: Duration,
@@ -68,15 +53,17 @@ fn reach<'a, T: Clock + Net<Stream = TcpStream>>(
     ensures writes { IfOk result (λ peer. failure_count peer.writer ≡ 0) }
 {
     let deadline = Deadline::start(&Watch::new(rt), limit)?;
+    let mut last = Error::from(ErrorKind::NotConnected);
     for address in address.to_socket_addrs(rt)? {
         let Some(left) = deadline.left(rt.monotonic()?) else {
             return Err(Error::from(ErrorKind::TimedOut));
         };
-        if let Ok(stream) = TcpStream::connect_timeout(rt, &address, left / 2) {
-            return talk_until(rt, stream, deadline);
+        match TcpStream::connect_timeout(rt, &address, left / 2) {
+            Ok(stream) => return talk_until(rt, stream, deadline),
+            Err(error) => last = error,
         }
     }
-    Err(Error::from(ErrorKind::NotConnected))
+    Err(last)
 }
 
 // Both ways of a connection, up to one deadline.

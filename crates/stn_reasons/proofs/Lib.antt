@@ -2,3 +2,4 @@ mod Opened
 mod Refusals
 mod Steps
 mod Words
+mod OneLine

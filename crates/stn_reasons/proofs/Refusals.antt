@@ -3,14 +3,18 @@ use Rattle.std.{proofs.Common.{◌≡◌, ◌∙◌, ◌++◌, ℕ, ℤ, Bor, Bo
 use Rattle.stn_refusal.specs.declared.failure.Failure.{Failure}
 use Rattle.stn_time.specs.Time.{horizon}
 use Rattle.stn_guard.specs.declared.owners.OwnedSteps.{OwnedSteps}
-use Rattle.stn_line.specs.declared.words.{EventChoice.EventChoice, SiteLog.SiteLog, Line.Line}
+use Rattle.stn_line.specs.declared.words.{EventChoice.EventChoice, SiteLog.SiteLog, LogChange.LogChange, LogQuestion.LogQuestion, Line.Line}
+use Rattle.stn_line.specs.declared.words.NewLog.TheVariants as new
+use Rattle.stn_line.specs.declared.words.LogChange.TheVariants as change
+use Rattle.stn_line.specs.declared.words.LogQuestion.TheVariants as question
 use Rattle.stn_line.specs.declared.words.Line.TheVariants as line
 use Rattle.stn_command.specs.{Words.{and_then, event_of, id_of, named, no_such_word, time_read, times_read}, Steps.{steps_read, all_owned, owned_after, owned_too}, declared.{queries.Outlook.Outlook, changes.AskedBound.AskedBound}}
 use Rattle.stn_command.specs.declared.queries.Outlook.TheVariants as outlook
 use Rattle.stn_questions.specs.declared.asked.Question.TheVariants.{Why as why, WhyApart as why_apart}
 use Rattle.stn_loosen.specs.Slack.{Slack}
-use Rattle.stn_logs.specs.Words.{among_read, bound_read, event_read, id_read, side_read, slack_of, slack_read, chosen_read, why_read, Drawing, arrows_read, drawing_read, drawn_of, present_read}
-use Rattle.stn_reasons.specs.{Refused.{RefusedWord, no_bound, no_choice, no_event, no_id, no_owned, no_steps, no_time, no_times, no_tolerance, no_tolerances, no_yes_or_no, unread, where_given, word_refused}, Refusing.{refusal_by, words_refusal}, declared.refused.Form.Form}
+use Rattle.stn_picture.specs.Chart.{Look}
+use Rattle.stn_logs.specs.Words.{among_read, bound_read, side_read, slack_of, slack_read, given_read, why_read, arrows_read, look_read, drawn_by, question_read, update_read}
+use Rattle.stn_reasons.specs.{Refused.{RefusedWord, no_bound, no_choice, no_event, no_id, no_owned, no_steps, no_time, no_times, no_tolerance, no_tolerances, no_yes_or_no, unread_word, where_given, word_of_change, word_of_question, word_refused}, Refusing.{refusal_by, words_refusal}, declared.refused.Form.Form}
 use Rattle.stn_reasons.specs.declared.refused.Form.TheVariants as form
 
 -- the refusal of a word, where there is one
@@ -18,7 +22,7 @@ abbrev failure_of : Option RefusedWord → Option Failure
 failure_of = option_map (λ refused. refused.failure)
 
 -- a word is refused by what reads it
-by_reader : {X : Type 0} (word : List ℕ) (form : Form) (read : Result X Failure) → failure_of (unread word form read) ≡ refusal_by read
+by_reader : {X : Type 0} (word : List ℕ) (form : Form) (read : Result X Failure) → failure_of (unread_word word form read) ≡ refusal_by read
 by_reader word form (Ok value) = refl
 by_reader word form (Err failure) = refl
 
@@ -49,10 +53,10 @@ side : (open_side : ℤ) (word : Option (Bor (List ℕ))) → failure_of (where_
 side open_side None = refl
 side open_side (Some word) = by_reader word.now form.Time (time_read word.now)
 
-event : (word : List ℕ) → failure_of (no_event word) ≡ refusal_by (event_read word)
+event : (word : List ℕ) → failure_of (no_event word) ≡ refusal_by (named (event_of word))
 event word = by_reader word form.Event (named (event_of word))
 
-id : (word : List ℕ) → failure_of (no_id word) ≡ refusal_by (id_read word)
+id : (word : List ℕ) → failure_of (no_id word) ≡ refusal_by (named (id_of word))
 id word = by_reader word form.Id (named (id_of word))
 
 time : (word : List ℕ) → failure_of (no_time word) ≡ refusal_by (time_read word)
@@ -61,19 +65,19 @@ time word = by_reader word form.Time (time_read word)
 bound : (from to : List ℕ) (lo hi : Option (Bor (List ℕ))) → failure_of (no_bound from to lo hi) ≡ refusal_by (bound_read from to lo hi)
 unfolding bound_read
 bound from to lo hi =
-    word_then (no_event from) (event_read from) _ _ (event from) (λ a.
-    word_then (no_event to) (event_read to) _ _ (event to) (λ b.
+    word_then (no_event from) (named (event_of from)) _ _ (event from) (λ a.
+    word_then (no_event to) (named (event_of to)) _ _ (event to) (λ b.
     word_then (where_given no_time lo) (side_read (neg_ℤ horizon) lo) _ _ (side (neg_ℤ horizon) lo) (λ c.
     side horizon hi ∙ sym (made {Y = AskedBound} (side_read horizon hi) (λ d. record { from = a; to = b; lo = c; hi = d })))))
 
-chosen : (steps : Option (Bor (List ℕ))) → failure_of (where_given no_steps steps) ≡ refusal_by (chosen_read steps)
+chosen : (steps : Option (Bor (List ℕ))) → failure_of (where_given no_steps steps) ≡ refusal_by (given_read steps_read steps)
 chosen None = refl
 chosen (Some word) = by_reader word.now form.Steps (steps_read word.now) ∙ sym (made (steps_read word.now) Some)
 
-among : (log : SiteLog) (outlook : Outlook) (now : List ℕ) (choice : EventChoice) → failure_of (no_choice choice now) ≡ refusal_by (among_read log outlook now choice)
+among : (outlook : Outlook) (now : List ℕ) (choice : EventChoice) → failure_of (no_choice choice now) ≡ refusal_by (among_read outlook now choice)
 unfolding among_read
-among log outlook now choice =
-    word_then (where_given no_steps choice.steps) (chosen_read choice.steps) _ (no_time now) (chosen choice.steps)
+among outlook now choice =
+    word_then (where_given no_steps choice.steps) (given_read steps_read choice.steps) _ (no_time now) (chosen choice.steps)
     (λ steps. time now ∙ sym (made (time_read now) _))
 
 times : (words : List (List ℕ)) → failure_of (no_times words) ≡ refusal_by (times_read words)
@@ -107,9 +111,9 @@ owned before (word ∷ rest) given is =
         → ((all : List OwnedSteps) → all_owned (before ++ word ∷ []) ≡ Ok all → failure_of (no_owned (before ++ word ∷ []) rest) ≡ refusal_by (owned_after all rest))
         → failure_of (no_owned before (word ∷ rest)) ≡ refusal_by (and_then read (λ all. owned_after all rest))
     go (Ok all) front later =
-        ap (λ read. failure_of (option_or (unread word form.Owned read) (no_owned (before ++ word ∷ []) rest))) front
+        ap (λ read. failure_of (option_or (unread_word word form.Owned read) (no_owned (before ++ word ∷ []) rest))) front
         ∙ later all front
-    go (Err failure) front later = ap (λ read. failure_of (option_or (unread word form.Owned read) (no_owned (before ++ word ∷ []) rest))) front
+    go (Err failure) front later = ap (λ read. failure_of (option_or (unread_word word form.Owned read) (no_owned (before ++ word ∷ []) rest))) front
 
 -- a tolerance that was read refuses where it is below 0
 below : (word : Option (Bor (List ℕ))) (value : ℤ) → side_read (pos 0) word ≡ Ok value
@@ -173,47 +177,55 @@ arrows (Some word) = by (bytes_eq word.now (codes "yes")) (bytes_eq word.now (co
     by false true = refl
     by false false = refl
 
-present : (word : Option (Bor (List ℕ))) → failure_of (where_given no_time word) ≡ refusal_by (present_read word)
+present : (word : Option (Bor (List ℕ))) → failure_of (where_given no_time word) ≡ refusal_by (given_read time_read word)
 present None = refl
 present (Some word) = time word.now ∙ sym (made (time_read word.now) Some)
 
-drawing : (words : List (List ℕ)) (are now : Option (Bor (List ℕ)))
-    → failure_of (option_or (no_owned [] words) (option_or (where_given no_yes_or_no are) (where_given no_time now))) ≡ refusal_by (drawing_read words are now)
-unfolding drawing_read
-drawing words are now =
+drawing : (log : SiteLog) (words : List (List ℕ)) (are now : Option (Bor (List ℕ)))
+    → failure_of (option_or (no_owned [] words) (option_or (where_given no_yes_or_no are) (where_given no_time now))) ≡ refusal_by (look_read log words are now)
+unfolding look_read
+drawing log words are now =
     word_then (no_owned [] words) (all_owned words) _ _ (owned [] words [] refl) (λ all.
     word_then (where_given no_yes_or_no are) (arrows_read are) _ _ (arrows are) (λ yes.
-    present now ∙ sym (made {Y = Drawing} (present_read now) (λ time. record { present = time; arrows = yes; owned = all }))))
+    present now ∙ sym (made {Y = Look} (given_read time_read now) (λ time. record { title = log.name.now; present = time; arrows = yes; owned = all }))))
 
 pub told : (line : Line) → option_map (λ refused. refused.failure) (word_refused line) ≡ words_refusal line
 told line.Run = refl
-told (line.Bare log steps) = refl
-told (line.Init log domain plan) = refl
-told (line.Loosen log domain plan early late robust) = tolerances early late
-told (line.Add log from to lo hi) = bound from.now to.now lo hi ∙ sym (made (bound_read from.now to.now lo hi) _)
-told (line.Amend log old from to lo hi) =
-    word_then (no_id old.now) (id_read old.now) _ _ (id old.now) (λ which. bound from.now to.now lo hi ∙ sym (made (bound_read from.now to.now lo hi) _))
-told (line.Withdraw log old) = id old.now ∙ sym (made (id_read old.now) _)
-told (line.Done log which when) = word_then (no_event which.now) (event_read which.now) _ _ (event which.now) (λ value. time when.now ∙ sym (made (time_read when.now) _))
-told (line.Merge log other) = refl
-told (line.Guard log words) = owned [] (map (λ word. word.now) words.items) [] refl ∙ sym (made (all_owned (map (λ word. word.now) words.items)) _)
-told (line.Report log) = refl
-told (line.Next log now choice) = among log outlook.Next now.now choice
-told (line.Ready log now choice) = among log outlook.Ready now.now choice
-told (line.Why log which None) =
-    word_then (no_event which.now) (event_read which.now) (λ value. Ok (why value)) None (event which.now) (λ value. refl) ∙ sym (made (why_read which.now None) _)
-told (line.Why log which (Some to)) =
-    word_then (no_event which.now) (event_read which.now) (λ from. and_then (event_read to.now) (λ second. Ok (why_apart from second))) (no_event to.now) (event which.now)
-    (λ from. event to.now ∙ sym (made (event_read to.now) (λ second. why_apart from second)))
-    ∙ sym (made (why_read which.now (Some to)) _)
-told (line.Repairs log) = refl
-told (line.Records log) = refl
-told (line.Steps log None) = refl
-told (line.Steps log (Some plan)) = refl
-told (line.Bounds log) = refl
-told (line.Check log words) = times (map (λ word. word.now) words.items) ∙ sym (made (times_read (map (λ word. word.now) words.items)) _)
-told (line.Rehearse log now choice) = among log outlook.Rehearse now.now choice
-told (line.Draw log plan now are words) = drawing (map (λ word. word.now) words.items) are now ∙ sym (made (drawing_read (map (λ word. word.now) words.items) are now) (drawn_of log plan))
+told (line.Make log (new.Bare steps)) = refl
+told (line.Make log (new.Init domain plan)) = refl
+told (line.Make log (new.Loosen domain plan early late robust)) = tolerances early late
+told (line.Change log words) = told_of words
+  where
+    told_of : (words : LogChange) → failure_of (word_of_change words) ≡ refusal_by (update_read words)
+    told_of (change.Add from to lo hi) = bound from.now to.now lo hi ∙ sym (made (bound_read from.now to.now lo hi) _)
+    told_of (change.Amend old from to lo hi) =
+        word_then (no_id old.now) (named (id_of old.now)) _ _ (id old.now) (λ which. bound from.now to.now lo hi ∙ sym (made (bound_read from.now to.now lo hi) _))
+    told_of (change.Withdraw old) = id old.now ∙ sym (made (named (id_of old.now)) _)
+    told_of (change.Done which when) = word_then (no_event which.now) (named (event_of which.now)) _ _ (event which.now) (λ value. time when.now ∙ sym (made (time_read when.now) _))
+    told_of (change.Merge other) = refl
+    told_of (change.Guard words) = owned [] (map (λ word. word.now) words.items) [] refl ∙ sym (made (all_owned (map (λ word. word.now) words.items)) _)
+told (line.Ask log words) = told_of words
+  where
+    told_of : (words : LogQuestion) → failure_of (word_of_question words) ≡ refusal_by (question_read log words)
+    told_of question.Report = refl
+    told_of (question.Next now choice) = among outlook.Next now.now choice
+    told_of (question.Ready now choice) = among outlook.Ready now.now choice
+    told_of (question.Rehearse now choice) = among outlook.Rehearse now.now choice
+    told_of (question.Why which None) =
+        word_then (no_event which.now) (named (event_of which.now)) (λ value. Ok (why value)) None (event which.now) (λ value. refl) ∙ sym (made (why_read which.now None) _)
+    told_of (question.Why which (Some to)) =
+        word_then (no_event which.now) (named (event_of which.now)) (λ from. and_then (named (event_of to.now)) (λ second. Ok (why_apart from second))) (no_event to.now) (event which.now)
+        (λ from. event to.now ∙ sym (made (named (event_of to.now)) (λ second. why_apart from second)))
+        ∙ sym (made (why_read which.now (Some to)) _)
+    told_of question.Repairs = refl
+    told_of question.Records = refl
+    told_of (question.Steps None) = refl
+    told_of (question.Steps (Some plan)) = refl
+    told_of question.Bounds = refl
+    told_of (question.Check words) = times (map (λ word. word.now) words.items) ∙ sym (made (times_read (map (λ word. word.now) words.items)) _)
+    told_of (question.Draw words) =
+        drawing log (map (λ word. word.now) words.owned.items) words.arrows words.now
+        ∙ sym (made (look_read log (map (λ word. word.now) words.owned.items) words.arrows words.now) (drawn_by words.plan))
 told (line.Explain code) = refl
 told (line.Shell log) = refl
 told (line.Serve log address count seconds) = refl

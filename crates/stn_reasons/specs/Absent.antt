@@ -1,6 +1,6 @@
 -- The word of a command that names no event of a plan.
 use Rattle.std.specs.{Prelude.{ℕ, ◌*◌, ◌&&◌, Bool, nat_le, not, List, Option, Some, None, if◌then◌else◌}, Borrow.Bor, Option.option_or}
-use Rattle.stn_line.specs.declared.words.Line.{Line, TheVariants.{Add, Amend, Done, Why}}
+use Rattle.stn_line.specs.declared.words.{LogChange.TheVariants.{Add, Amend, Done}, LogQuestion.TheVariants.Why, Line.{Line, TheVariants.{Change, Ask}}}
 use Rattle.stn_command.specs.Words.{event_of}
 
 -- an event lies between the first that may be named and the last of so many steps
@@ -21,8 +21,8 @@ absent_second steps (Some word) = absent 0 steps word.now
 
 -- the first such word; the origin takes no place, so `done` names no event by it
 abbrev pub absent_event : ℕ → Line → Option (List ℕ)
-absent_event steps (Add log from to lo hi) = option_or (absent 0 steps from.now) (absent 0 steps to.now)
-absent_event steps (Amend log id from to lo hi) = option_or (absent 0 steps from.now) (absent 0 steps to.now)
-absent_event steps (Done log event time) = absent 1 steps event.now
-absent_event steps (Why log event to) = option_or (absent 0 steps event.now) (absent_second steps to)
+absent_event steps (Change log (Add from to lo hi)) = option_or (absent 0 steps from.now) (absent 0 steps to.now)
+absent_event steps (Change log (Amend id from to lo hi)) = option_or (absent 0 steps from.now) (absent 0 steps to.now)
+absent_event steps (Change log (Done event time)) = absent 1 steps event.now
+absent_event steps (Ask log (Why event to)) = option_or (absent 0 steps event.now) (absent_second steps to)
 absent_event steps other = None

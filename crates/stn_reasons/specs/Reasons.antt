@@ -1,41 +1,24 @@
 -- Why a command ends without an answer, as it is told after the line that says so.
-use Rattle.std.specs.Prelude.{◌≡◌, ◌⊎◌, ℕ, ◌*◌, ◌==◌, ◌&&◌, nat_le, bytes_eq, Bool, List, [], ◌∷◌, ◌++◌, codes, decimal, length, Option, Some, None, if◌then◌else◌, ⊤}
+use Rattle.std.specs.{Prelude.{◌≡◌, ◌⊎◌, ℕ, ◌*◌, ◌-◌, ◌==◌, ◌&&◌, nat_le, bytes_eq, Bool, List, [], ◌∷◌, ◌++◌, codes, decimal, length, take, Option, Some, None, option_map, if◌then◌else◌, ⊤}, String.string_bytes}
 use Rattle.stn_cause.specs.{Cause.trouble_text, declared.cause.Cause.Cause}
 use Rattle.stn_cause.specs.declared.cause.Cause.TheVariants as cause
 use Rattle.stn_text.specs.Bytes.{line_feed}
 use Rattle.stn_lift.specs.PlanSource.{steps_of}
 use Rattle.stn_site.specs.Held.{Held}
-use Rattle.stn_line.specs.{Explanations.Explained.IsMeant, declared.words.{SiteLog.SiteLog, Line.{Line, TheVariants.{Run, Bare, Init, Loosen, Add, Amend, Withdraw, Done, Merge, Guard, Report, Next, Ready, Why, Repairs, Records, Steps, Bounds, Check, Rehearse, Draw, Explain, Shell, Serve, Send}}}}
+use Rattle.stn_line.specs.{Explanations.Explained.IsMeant, declared.words.{SiteLog.SiteLog, NewLog.TheVariants.{Bare, Init, Loosen}, LogChange.TheVariants.Merge, LogQuestion.TheVariants.{Steps, Check, Draw}, Line.{Line, TheVariants.{Run, Make, Change, Ask, Explain, Shell, Serve, Send}}}}
 use Rattle.stn_refusal.specs.{Codes.number_of, declared.{failure.{Failure.{Failure, TheVariants.{Refused, Failed}}, Fault.Fault}, refusal.{Place.{Place, TheVariants.Number}, Refusal.Refusal}}}
 use Rattle.stn_refusal.specs.declared.code.Code.TheVariants as code
 use Rattle.stn_refusal.specs.declared.failure.Fault.TheVariants as fault
-use Rattle.stn_store.specs.{Steps.Entries, Store.{IsUnopened, Opens}}
-use Rattle.stn_reasons.specs.{Absent.absent_event, Refused.{RefusedWord, word_refused}, Told.{events_text, counts_text, word_text}}
+use Rattle.stn_store.specs.{Steps.Entries, Store.{IsUnopened, Opens}, declared.trouble.Trouble.Trouble}
+use Rattle.stn_reasons.specs.{Absent.absent_event, Refused.{RefusedWord, word_refused}, Told.{events_text, times_count_text, word_text}}
 
 -- ---- what a refusal is about
 -- the log of a command
 abbrev pub log_of : Line → Option SiteLog
 log_of Run = None
-log_of (Bare log steps) = Some log
-log_of (Init log domain plan) = Some log
-log_of (Loosen log domain plan early late robust) = Some log
-log_of (Add log from to lo hi) = Some log
-log_of (Amend log id from to lo hi) = Some log
-log_of (Withdraw log id) = Some log
-log_of (Done log event time) = Some log
-log_of (Merge log other) = Some log
-log_of (Guard log owned) = Some log
-log_of (Report log) = Some log
-log_of (Next log now choice) = Some log
-log_of (Ready log now choice) = Some log
-log_of (Why log event to) = Some log
-log_of (Repairs log) = Some log
-log_of (Records log) = Some log
-log_of (Steps log plan) = Some log
-log_of (Bounds log) = Some log
-log_of (Check log times) = Some log
-log_of (Rehearse log now choice) = Some log
-log_of (Draw log plan now arrows owned) = Some log
+log_of (Make log made) = Some log
+log_of (Change log made) = Some log
+log_of (Ask log asked) = Some log
 log_of (Explain code) = None
 log_of (Shell log) = Some log
 log_of (Serve log address count seconds) = Some log
@@ -43,13 +26,13 @@ log_of (Send log address seconds) = Some log
 
 -- the other log of `merge`
 abbrev pub other_of : Line → Option (List ℕ)
-other_of (Merge log other) = Some other.now
+other_of (Change log (Merge other)) = Some other.now
 other_of line = None
 
 -- how many times `check` is given
-abbrev pub times_of : Line → Option ℕ
-times_of (Check log times) = Some (length times.items)
-times_of line = None
+abbrev pub times_given : Line → Option ℕ
+times_given (Ask log (Check times)) = Some (length times.items)
+times_given line = None
 
 -- the plan of a command's log has so many steps; None where that is not known
 abbrev pub HasSteps : Entries → Line → Option ℕ → Type 0
@@ -57,23 +40,23 @@ HasSteps entries line None = ⊤
 HasSteps entries line (Some steps) = (log : SiteLog) × (held : Held) × (log_of line ≡ Some log) × Opens entries log.name.now log.site held × (steps_of held.source ≡ steps)
 
 -- the text of a domain is refused by these numbers, that of a plan by those
-abbrev pub of_domain : ℕ → Bool
-of_domain number = nat_le (number_of code.DomainTooLong) number && nat_le number (number_of code.DomainVariable)
+abbrev pub refuses_domain : ℕ → Bool
+refuses_domain number = nat_le (number_of code.DomainTooLong) number && nat_le number (number_of code.DomainVariable)
 
-abbrev pub of_plan : ℕ → Bool
-of_plan number = nat_le (number_of code.PlanTooLong) number && nat_le number (number_of code.PastHorizon)
+abbrev pub refuses_plan : ℕ → Bool
+refuses_plan number = nat_le (number_of code.PlanTooLong) number && nat_le number (number_of code.PastHorizon)
 
 -- the file that a refusal of a number is about, where the number alone says so: DOMAIN, PLAN, or LOG, where there is one
 abbrev pub text_refused : List ℕ → List ℕ → List ℕ → ℕ → Option (List ℕ)
-text_refused log domain plan number = if of_domain number then Some domain else (if of_plan number then Some plan else (if number == number_of code.LogThere then Some log else None))
+text_refused log domain plan number = if refuses_domain number then Some domain else (if refuses_plan number then Some plan else (if number == number_of code.LogThere then Some log else None))
 
 abbrev pub file_refused : Line → ℕ → Option (List ℕ)
-file_refused (Bare log steps) number = if number == number_of code.LogThere then Some log.name.now else None
-file_refused (Init log domain plan) number = text_refused log.name.now domain.now plan.now number
-file_refused (Loosen log domain plan early late robust) number = text_refused log.name.now domain.now plan.now number
-file_refused (Merge log other) number = if number == number_of code.OtherPlan then Some other.now else None
-file_refused (Steps log (Some plan)) number = if of_plan number then Some plan.now else None
-file_refused (Draw log (Some plan) now arrows owned) number = if of_plan number then Some plan.now else None
+file_refused (Make log (Bare steps)) number = if number == number_of code.LogThere then Some log.name.now else None
+file_refused (Make log (Init domain plan)) number = text_refused log.name.now domain.now plan.now number
+file_refused (Make log (Loosen domain plan early late robust)) number = text_refused log.name.now domain.now plan.now number
+file_refused (Change log (Merge other)) number = if number == number_of code.OtherPlan then Some other.now else None
+file_refused (Ask log (Steps (Some plan))) number = if refuses_plan number then Some plan.now else None
+file_refused (Ask log (Draw drawing)) number = if refuses_plan number then option_map (λ plan. plan.now) drawing.plan else None
 file_refused line number = None
 
 -- ---- what is told of it
@@ -86,12 +69,12 @@ abbrev pub place_by : ℕ → Place → List ℕ
 place_by code (Number number) = place_word code ++ decimal number
 place_by code other = []
 
-abbrev pub place_text : Refusal → List ℕ
-place_text refusal = place_by refusal.code refusal.place
+abbrev pub place_words : Refusal → List ℕ
+place_words refusal = place_by refusal.code refusal.place
 
 -- the line that names a file and the place in it
 abbrev pub file_text : List ℕ → Refusal → List ℕ
-file_text name refusal = codes "see " ++ (name ++ (place_text refusal ++ line_feed ∷ []))
+file_text name refusal = codes "see " ++ (name ++ (place_words refusal ++ line_feed ∷ []))
 
 -- what is said of a word that is no event of the plan
 abbrev pub no_event_of : Option ℕ → List ℕ
@@ -120,7 +103,7 @@ pub data TellsLog (entries : Entries) (line : Line) (refusal : Refusal) (text : 
       → text ≡ file_text other refusal → TellsLog entries line refusal text
   of_event : (steps : ℕ) → HasSteps entries line (Some steps) → TellsEvent steps line refusal text → TellsLog entries line refusal text
   of_times : (steps times : ℕ) → HasSteps entries line (Some steps) → refusal.code ≡ number_of code.Line
-      → times_of line ≡ Some times → text ≡ counts_text times (2 * steps) → TellsLog entries line refusal text
+      → times_given line ≡ Some times → text ≡ times_count_text times (2 * steps) → TellsLog entries line refusal text
 
 abbrev pub TellsFile : Option (List ℕ) → Entries → Line → Refusal → List ℕ → Type 0
 TellsFile (Some name) entries line refusal text = text ≡ file_text name refusal
@@ -136,9 +119,19 @@ TellsAbout (Some refused) entries line refusal text = TellsWord entries line ref
 TellsAbout None entries line refusal text = TellsFile (file_refused line refusal.code) entries line refusal text
 
 -- what a refusal means, where its number has a meaning, and what it is about
+abbrev pub SaysRefusal : Entries → Line → Refusal → List ℕ → List ℕ → Type 0
+SaysRefusal entries line refusal meaning about = IsMeant (decimal refusal.code) meaning × TellsAbout (word_refused line) entries line refusal about
+
 abbrev pub IsRefusalReason : Entries → Line → Refusal → List ℕ → Type 0
-IsRefusalReason entries line refusal reason = (meaning : List ℕ) × (about : List ℕ)
-    × IsMeant (decimal refusal.code) meaning × TellsAbout (word_refused line) entries line refusal about × (reason ≡ meaning ++ about)
+IsRefusalReason entries line refusal reason = (meaning : List ℕ) × (about : List ℕ) × SaysRefusal entries line refusal meaning about × (reason ≡ meaning ++ about)
+
+-- both in one line: a semicolon is between them, in place of the end of the first line
+abbrev pub on_one_line : List ℕ → List ℕ → List ℕ
+on_one_line meaning [] = meaning
+on_one_line meaning (byte ∷ rest) = take (length meaning - 1) meaning ++ (codes "; " ++ byte ∷ rest)
+
+abbrev pub IsReasonInLine : Entries → Line → Refusal → List ℕ → Type 0
+IsReasonInLine entries line refusal reason = (meaning : List ℕ) × (about : List ℕ) × SaysRefusal entries line refusal meaning about × (reason ≡ on_one_line meaning about)
 
 -- what is told of a fault of which no file or address is known: which stream it is of, where that is known
 abbrev pub connection_text : List ℕ → Fault → List ℕ
@@ -154,13 +147,23 @@ own_text other = []
 
 abbrev pub stream_text : Line → Fault → List ℕ
 stream_text (Send log address seconds) failed = connection_text address.now failed
-stream_text line failed = own_text failed
+stream_text line other = own_text other
 
--- what can't be used, and why
+-- what can't be used, and why, where the store knows it; else which stream the fault is of
+abbrev pub known_trouble : Option Trouble → Line → Fault → List ℕ
+known_trouble None line other = stream_text line other
+known_trouble (Some trouble) line other = trouble_text (string_bytes trouble.name) trouble.cause
+
+-- of memory nothing is told
+abbrev pub fault_reason : Option Trouble → Line → Fault → List ℕ
+fault_reason trouble line fault.Memory = []
+fault_reason trouble line other = known_trouble trouble line other
+
+-- what a store keeps of its last trouble, no clause says
 abbrev pub IsFaultReason : Line → Fault → List ℕ → Type 0
-IsFaultReason line fault reason = ((name : List ℕ) × (why : Cause) × (reason ≡ trouble_text name why)) ⊎ (reason ≡ stream_text line fault)
+IsFaultReason line failed reason = (trouble : Option Trouble) × (reason ≡ fault_reason trouble line failed)
 
 -- why a command ends without an answer
 abbrev pub IsReason : Entries → Line → Failure → List ℕ → Type 0
 IsReason entries line (Refused refusal) reason = IsRefusalReason entries line refusal reason
-IsReason entries line (Failed fault) reason = IsFaultReason line fault reason
+IsReason entries line (Failed failed) reason = IsFaultReason line failed reason

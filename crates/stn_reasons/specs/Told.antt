@@ -13,8 +13,8 @@ events_text (Some steps) = if steps == 0 then codes "z" else (if steps == 1
     else codes "z, s1 to s" ++ (decimal steps ++ (codes ", e1 to e" ++ decimal steps)))
 
 -- what a word that should be a time is instead
-abbrev pub time_text : Failure → List ℕ
-time_text failure = by_code (code_of failure)
+abbrev pub time_reason : Failure → List ℕ
+time_reason failure = by_code (code_of failure)
   where
     by_number : ℕ → List ℕ
     by_number code = if code == number_of TooFine then codes "finer than a millisecond (0.001)" else (if code == number_of OutOfRange
@@ -29,7 +29,7 @@ time_text failure = by_code (code_of failure)
 abbrev pub form_text : Option ℕ → Form → Failure → List ℕ
 form_text steps form.Event failure = codes "not an event (" ++ (events_text steps ++ codes ")")
 form_text steps form.Id failure = codes "not an id (as 1.2)"
-form_text steps form.Time failure = time_text failure
+form_text steps form.Time failure = time_reason failure
 form_text steps form.Tolerance failure = codes "a tolerance below 0"
 form_text steps form.Steps failure = codes "not steps (as 2,4-6)"
 form_text steps form.Owned failure = codes "not a site and its steps (as 2:4-6), or a step that is given already"
@@ -40,5 +40,5 @@ abbrev pub word_text : Option ℕ → RefusedWord → List ℕ
 word_text steps refused = refused.word ++ (codes ": " ++ (form_text steps refused.form refused.failure ++ line_feed ∷ []))
 
 -- the line for times of which there are too many or too few
-abbrev pub counts_text : ℕ → ℕ → List ℕ
-counts_text times events = decimal times ++ (codes " times for " ++ (decimal events ++ (codes " events" ++ line_feed ∷ [])))
+abbrev pub times_count_text : ℕ → ℕ → List ℕ
+times_count_text times events = decimal times ++ (codes " times for " ++ (decimal events ++ (codes " events" ++ line_feed ∷ [])))

@@ -2,7 +2,7 @@ ghost use Rattle.std.specs.Prelude.{◌≡◌, ◌*◌, option_map};
 ghost use Rattle.stn_reasons.specs.Absent as spec;
 
 use stn_command::read_event;
-use stn_line::Line;
+use stn_line::{Line, LogChange, LogQuestion};
 
 /// The first word of a command that names no event of a plan with so many steps, where one does: what a log refuses as 4. The
 /// origin is an event, but none that takes place.
@@ -10,11 +10,13 @@ pub fn absent_event<'a>(line: &Line<'a>, steps: u16) -> Option<&'a str>
     ensures { option_map (λ word. word.now) result ≡ spec.absent_event steps line.now }
 {
     match line {
-        Line::Add { from, to, .. } | Line::Amend { from, to, .. } => {
+        Line::Change(_, LogChange::Add { from, to, .. } | LogChange::Amend { from, to, .. }) => {
             absent(*from, 0, steps).or(absent(*to, 0, steps))
         }
-        Line::Done { event, .. } => absent(*event, 1, steps),
-        Line::Why { event, to, .. } => absent(*event, 0, steps).or(absent_second(*to, steps)),
+        Line::Change(_, LogChange::Done { event, .. }) => absent(*event, 1, steps),
+        Line::Ask(_, LogQuestion::Why { event, to }) => {
+            absent(*event, 0, steps).or(absent_second(*to, steps))
+        }
         _ => None,
     }
 }

@@ -5,7 +5,7 @@ ghost use Rattle.stn_reasons.specs.Reasons as spec;
 
 use itoa::Buffer;
 use std::alloc::Allocator;
-use stn_line::{Line, SiteLog};
+use stn_line::{Line, LogChange, LogQuestion, NewLog, SiteLog};
 use stn_refusal::{Code, Place, Refusal};
 use stn_time::Memory;
 
@@ -15,26 +15,9 @@ pub fn log_of<'l, 'a>(line: &'l Line<'a>) -> Option<&'l SiteLog<'a>>
 {
     match line {
         Line::Run | Line::Explain { .. } => None,
-        Line::Bare { log, .. }
-        | Line::Init { log, .. }
-        | Line::Loosen { log, .. }
-        | Line::Add { log, .. }
-        | Line::Amend { log, .. }
-        | Line::Withdraw { log, .. }
-        | Line::Done { log, .. }
-        | Line::Merge { log, .. }
-        | Line::Guard { log, .. }
-        | Line::Report { log }
-        | Line::Next { log, .. }
-        | Line::Ready { log, .. }
-        | Line::Why { log, .. }
-        | Line::Repairs { log }
-        | Line::Records { log }
-        | Line::Steps { log, .. }
-        | Line::Bounds { log }
-        | Line::Check { log, .. }
-        | Line::Rehearse { log, .. }
-        | Line::Draw { log, .. }
+        Line::Make(log, _)
+        | Line::Change(log, _)
+        | Line::Ask(log, _)
         | Line::Shell { log }
         | Line::Serve { log, .. }
         | Line::Send { log, .. } => Some(log),
@@ -47,23 +30,28 @@ pub fn refused_file<'a>(line: &Line<'a>, number: u8) -> Option<&'a str>
     ensures { option_map (λ name. name.now) result ≡ spec.file_refused line.now number }
 {
     match line {
-        Line::Bare { log, .. } => (number == Code::LogThere.number()).then_some(log.name),
-        Line::Init { log, domain, plan } => refused_text(log.name, *domain, *plan, number),
-        Line::Loosen {
-            log,
-            domain,
-            plan,
-            ..
-        } => refused_text(log.name, *domain, *plan, number),
-        Line::Merge { other, .. } => (number == Code::OtherPlan.number()).then_some(*other),
-        Line::Steps {
-            plan: Some(plan),
-            ..
-        } => is_of_plan(number).then_some(*plan),
-        Line::Draw {
-            plan: Some(plan),
-            ..
-        } => is_of_plan(number).then_some(*plan),
+        Line::Make(log, NewLog::Bare { .. }) => {
+            (number == Code::LogThere.number()).then_some(log.name)
+        }
+        Line::Make(log, NewLog::Init { domain, plan }) => {
+            refused_text(log.name, *domain, *plan, number)
+        }
+        Line::Make(log, NewLog::Loosen { domain, plan, .. }) => {
+            refused_text(log.name, *domain, *plan, number)
+        }
+        Line::Change(_, LogChange::Merge { other }) => {
+            (number == Code::OtherPlan.number()).then_some(*other)
+        }
+        Line::Ask(_, LogQuestion::Steps { plan: Some(plan) }) => {
+            is_of_plan(number).then_some(*plan)
+        }
+        Line::Ask(_, LogQuestion::Draw(drawing)) => {
+            if is_of_plan(number) {
+                drawing.plan
+            } else {
+                None
+            }
+        }
         _ => None,
     }
 }
@@ -85,14 +73,14 @@ fn refused_text<'a>(log: &'a str, domain: &'a str, plan: &'a str, number: u8) ->
 
 // Whether a number refuses the text of a domain.
 fn is_of_domain(number: u8) -> bool
-    ensures { result ≡ spec.of_domain number }
+    ensures { result ≡ spec.refuses_domain number }
 {
     Code::DomainTooLong.number() <= number && number <= Code::DomainVariable.number()
 }
 
 // Whether a number refuses the text of a plan.
 fn is_of_plan(number: u8) -> bool
-    ensures { result ≡ spec.of_plan number }
+    ensures { result ≡ spec.refuses_plan number }
 {
     Code::PlanTooLong.number() <= number && number <= Code::PastHorizon.number()
 }
@@ -113,7 +101,7 @@ pub fn append_file<A: Allocator>(
 
 // Appends the place of a refusal in a file: a line of a text, or a step of a plan.
 fn append_place<A: Allocator>(refusal: Refusal, out: &mut Vec<u8, A>) -> Result<(), Memory>
-    ensures { OnOk result (out.new.items ≡ out.old.items ++ spec.place_text refusal) }
+    ensures { OnOk result (out.new.items ≡ out.old.items ++ spec.place_words refusal) }
 {
     match refusal.place {
         Place::Number(number) => {

@@ -1,8 +1,9 @@
 //! Why a command ends without an answer, as it is told after the line that says so.
 
-ghost use Rattle.std.specs.Prelude.{◌≡◌, ◌⊎◌, ◌*◌, ◌++◌, [], Some, IfOk, IfSome, OnOk};
+ghost use Rattle.std.specs.Prelude.{◌≡◌, ◌⊎◌, ◌*◌, ◌-◌, ◌++◌, [], Some, IfOk, IfSome, OnOk, codes, decimal, length, option_map, take};
+ghost use Rattle.stn_line.specs.Explanations.Explained.{IsMeant};
 ghost use Rattle.stn_reasons.specs.Reasons as spec;
-ghost use Rattle.stn_reasons.specs.{Reasons.{HasSteps, IsReason, IsRefusalReason, IsFaultReason, TellsAbout, TellsEvent, TellsFile, TellsLog, TellsWord}, Refused.{seen, word_refused}};
+ghost use Rattle.stn_reasons.specs.{Reasons.{HasSteps, IsReason, IsReasonInLine, IsRefusalReason, TellsAbout, TellsEvent, TellsFile, TellsLog, TellsWord}, Refused.{seen_word, word_refused}};
 ghost use Rattle.stn_reasons.specs.Told as told;
 ghost use Rattle.stn_refusal.specs.{Codes.number_of, declared.failure.Failure.TheVariants.Refused};
 ghost use Rattle.stn_refusal.specs.declared.code.Code.TheVariants as code;
@@ -17,7 +18,7 @@ use crate::telling::{append_absent, append_counts, append_refused_word};
 use itoa::Buffer;
 use std::alloc::Allocator;
 use stn_cause::{Cause, append_trouble};
-use stn_line::{Line, SiteLog, meaning_of};
+use stn_line::{Line, LogChange, LogQuestion, SiteLog, meaning_of};
 use stn_records::Site;
 use stn_refusal::{Code, Failure, Fault, Refusal};
 use stn_store::{Store, Trouble};
@@ -48,11 +49,55 @@ fn reason_of_refusal<S: Store<A>, A: Allocator + Copy>(
 ) -> Result<Vec<u8, A>, Memory>
     ensures { IfOk result (λ reason. IsRefusalReason (S.entries store.now) line.now refusal reason.items) }
 {
-    let mut digits = Buffer::new();
-    let word = digits.format(refusal.code);
-    let meaning = meaning_of(alloc, word)?;
+    let meaning = meaning_of_refusal(alloc, refusal)?;
     let about = about(alloc, store, line, refusal)?;
     joined(meaning, &about)
+}
+
+/// What a refusal means and what it is about, on one line.
+pub fn reason_in_line<S: Store<A>, A: Allocator + Copy>(
+    alloc: A,
+    store: &S,
+    line: &Line<'_>,
+    refusal: Refusal,
+) -> Result<Vec<u8, A>, Memory>
+    ensures { IfOk result (λ reason. IsReasonInLine (S.entries store.now) line.now refusal reason.items) }
+{
+    let meaning = meaning_of_refusal(alloc, refusal)?;
+    let about = about(alloc, store, line, refusal)?;
+    joined_in_line(meaning, &about)
+}
+
+// What a refusal means; nothing, where its number has no meaning.
+fn meaning_of_refusal<A: Allocator + Copy>(alloc: A, refusal: Refusal) -> Result<Vec<u8, A>, Memory>
+    ensures { IfOk result (λ text. IsMeant (decimal refusal.code) text.items) }
+{
+    let mut digits = Buffer::new();
+    let word = digits.format(refusal.code);
+    meaning_of(alloc, word)
+}
+
+// A line, and another one after a semicolon, if there is one.
+fn joined_in_line<A: Allocator>(line: Vec<u8, A>, other: &[u8]) -> Result<Vec<u8, A>, Memory>
+    ensures { IfOk result (λ text. text.items ≡ spec.on_one_line line.items other.now) }
+{
+    if other.is_empty() {
+        Ok(line)
+    } else {
+        continued(line, other)
+    }
+}
+
+// A line without its end, and another one after a semicolon.
+fn continued<A: Allocator>(line: Vec<u8, A>, other: &[u8]) -> Result<Vec<u8, A>, Memory>
+    ensures { IfOk result (λ text. text.items ≡ take (length line.items - 1) line.items ++ (codes "; " ++ other.now)) }
+{
+    let mut text = line;
+    let end = text.len().saturating_sub(1);
+    text.truncate(end);
+    text.extend_from_slice(b"; ")?;
+    text.extend_from_slice(other)?;
+    Ok(text)
 }
 
 // A text, and another one after it.
@@ -87,7 +132,7 @@ fn about_word<S: Store<A>, A: Allocator + Copy>(
     line: &Line<'_>,
     refused: &RefusedWord<'_>,
 ) -> Result<Vec<u8, A>, Memory>
-    ensures { IfOk result (λ text. TellsWord (S.entries store.now) line.now (seen refused.now) text.items) }
+    ensures { IfOk result (λ text. TellsWord (S.entries store.now) line.now (seen_word refused.now) text.items) }
 {
     let steps = steps_of(store, line);
     let mut text = Vec::new(alloc);
@@ -169,7 +214,7 @@ fn about_opened<S: Store<A>, A: Allocator + Copy>(
         Ok(plan) => {
             let steps = plan.base().steps();
             drop(plan);
-            about_plan(alloc, store, line, steps, refusal)
+            about_plan(alloc, store, line, log.site, steps, refusal)
         }
         Err(failure) => unopened_text(alloc, log.name, failure, refusal),
     }
@@ -196,16 +241,39 @@ fn about_plan<S: Store<A>, A: Allocator + Copy>(
     alloc: A,
     store: &S,
     line: &Line<'_>,
+    site: Site,
     steps: u16,
     refusal: Refusal,
 ) -> Result<Vec<u8, A>, Memory>
     requires { HasSteps (S.entries store.now) line.now (Some steps) }
     ensures { IfOk result (λ text. TellsLog (S.entries store.now) line.now refusal text.items ⊎ (text.items ≡ [])) }
 {
+    match other_of(line) {
+        Some(other) => about_other(alloc, store, other, site, refusal),
+        None => match times_given(line) {
+            Some(times) => counts_text(alloc, times, steps, refusal),
+            None => event_text(alloc, line, steps, refusal),
+        },
+    }
+}
+
+// The other log of `merge`.
+fn other_of<'a>(line: &Line<'a>) -> Option<&'a str>
+    ensures { option_map (λ name. name.now) result ≡ spec.other_of line.now }
+{
     match line {
-        Line::Merge { log, other } => about_other(alloc, store, *other, log.site, refusal),
-        Line::Check { times, .. } => counts_text(alloc, times.len(), steps, refusal),
-        _ => event_text(alloc, line, steps, refusal),
+        Line::Change(_, LogChange::Merge { other }) => Some(*other),
+        _ => None,
+    }
+}
+
+// How many times `check` is given.
+fn times_given(line: &Line<'_>) -> Option<usize>
+    ensures { result ≡ spec.times_given line.now }
+{
+    match line {
+        Line::Ask(_, LogQuestion::Check { times }) => Some(times.len()),
+        _ => None,
     }
 }
 
@@ -235,7 +303,7 @@ fn counts_text<A: Allocator + Copy>(
     steps: u16,
     refusal: Refusal,
 ) -> Result<Vec<u8, A>, Memory>
-    ensures { IfOk result (λ text. ((refusal.code ≡ number_of code.Line) × (text.items ≡ told.counts_text times (2 * steps))) ⊎ (text.items ≡ [])) }
+    ensures { IfOk result (λ text. ((refusal.code ≡ number_of code.Line) × (text.items ≡ told.times_count_text times (2 * steps))) ⊎ (text.items ≡ [])) }
 {
     if refusal.code == Code::Line.number() {
         let mut text = Vec::new(alloc);
@@ -264,14 +332,31 @@ fn event_text<A: Allocator>(
     Ok(text)
 }
 
-// What can't be used, and why: what a store knows of, or a stream of the program.
+// What can't be used, and why. Of memory nothing is told.
 fn reason_of_fault<A: Allocator>(
     alloc: A,
     trouble: Option<Trouble>,
     line: &Line<'_>,
     fault: Fault,
 ) -> Result<Vec<u8, A>, Memory>
-    ensures { IfOk result (λ reason. IsFaultReason line.now fault reason.items) }
+    ensures { IfOk result (λ reason. reason.items ≡ spec.fault_reason trouble line.now fault) }
+{
+    match fault {
+        Fault::Memory => Ok(Vec::new(alloc)),
+        Fault::File | Fault::Net | Fault::Read | Fault::Write | Fault::Bound => {
+            text_of_trouble(alloc, trouble, line, fault)
+        }
+    }
+}
+
+// What a store knows of a fault, or which stream of the program it is of.
+fn text_of_trouble<A: Allocator>(
+    alloc: A,
+    trouble: Option<Trouble>,
+    line: &Line<'_>,
+    fault: Fault,
+) -> Result<Vec<u8, A>, Memory>
+    ensures { IfOk result (λ text. text.items ≡ spec.known_trouble trouble line.now fault) }
 {
     let mut text = Vec::new(alloc);
     match trouble {

@@ -1,11 +1,11 @@
 ghost use Rattle.std.specs.Prelude.{◌≡◌, [], map, option_map, IfOk};
 ghost use Rattle.stn_reasons.specs.Refused as spec;
-ghost use Rattle.stn_reasons.specs.{Refused.seen, declared.refused.Form.TheVariants.Owned as owned};
+ghost use Rattle.stn_reasons.specs.{Refused.seen_word, declared.refused.Form.TheVariants.Owned as owned};
 ghost use Rattle.stn_command.specs.Steps.{all_owned};
 
 use std::alloc::{AllocError, Allocator};
 use stn_command::{no_such_word, read_event, read_id, read_owned, read_steps, read_time};
-use stn_line::{EventChoice, Line};
+use stn_line::{EventChoice, Line, LogChange, LogQuestion, NewLog};
 use stn_refusal::Failure;
 use stn_time::Memory;
 
@@ -42,46 +42,67 @@ pub fn refused_word<'a, A: Allocator + Copy>(
     alloc: A,
     line: &Line<'a>,
 ) -> Result<Option<RefusedWord<'a>>, Memory>
-    ensures { IfOk result (λ refused. option_map seen refused ≡ spec.word_refused line.now) }
+    ensures { IfOk result (λ refused. option_map seen_word refused ≡ spec.word_refused line.now) }
 {
     match line {
-        Line::Loosen { early, late, .. } => Ok(no_tolerances(*early, *late)),
-        Line::Add {
-            from,
-            to,
-            lo,
-            hi,
-            ..
-        } => Ok(no_bound(*from, *to, *lo, *hi)),
-        Line::Amend {
+        Line::Make(_, NewLog::Loosen { early, late, .. }) => Ok(no_tolerances(*early, *late)),
+        Line::Change(_, change) => refused_in_change(alloc, change),
+        Line::Ask(_, question) => refused_in_question(alloc, question),
+        _ => Ok(None),
+    }
+}
+
+// The word that refuses a change.
+fn refused_in_change<'a, A: Allocator + Copy>(
+    alloc: A,
+    change: &LogChange<'a>,
+) -> Result<Option<RefusedWord<'a>>, Memory>
+    ensures { IfOk result (λ refused. option_map seen_word refused ≡ spec.word_of_change change.now) }
+{
+    match change {
+        LogChange::Add { from, to, lo, hi } => Ok(no_bound(*from, *to, *lo, *hi)),
+        LogChange::Amend {
             id,
             from,
             to,
             lo,
             hi,
-            ..
         } => Ok(no_id(*id).or(no_bound(*from, *to, *lo, *hi))),
-        Line::Withdraw { id, .. } => Ok(no_id(*id)),
-        Line::Done { event, time, .. } => Ok(no_event(*event).or(no_time(*time))),
-        Line::Guard { owned, .. } => no_owned(alloc, owned),
-        Line::Next { now, choice, .. } => no_choice(alloc, choice, *now),
-        Line::Ready { now, choice, .. } => no_choice(alloc, choice, *now),
-        Line::Rehearse { now, choice, .. } => no_choice(alloc, choice, *now),
-        Line::Why { event, to, .. } => Ok(no_event(*event).or(no_second(*to))),
-        Line::Check { times, .. } => Ok(no_times(times)),
-        Line::Draw {
-            now,
-            arrows,
-            owned,
-            ..
-        } => Ok(no_owned(alloc, owned)?.or(no_yes_or_no(*arrows).or(no_side(*now)))),
-        _ => Ok(None),
+        LogChange::Withdraw { id } => Ok(no_id(*id)),
+        LogChange::Done { event, time } => Ok(no_event(*event).or(no_time(*time))),
+        LogChange::Merge { .. } => Ok(None),
+        LogChange::Guard { owned } => no_owned(alloc, owned),
+    }
+}
+
+// The word that refuses a question.
+fn refused_in_question<'a, A: Allocator + Copy>(
+    alloc: A,
+    question: &LogQuestion<'a>,
+) -> Result<Option<RefusedWord<'a>>, Memory>
+    ensures { IfOk result (λ refused. option_map seen_word refused ≡ spec.word_of_question question.now) }
+{
+    match question {
+        LogQuestion::Next { now, choice } => no_choice(alloc, choice, *now),
+        LogQuestion::Ready { now, choice } => no_choice(alloc, choice, *now),
+        LogQuestion::Rehearse { now, choice } => no_choice(alloc, choice, *now),
+        LogQuestion::Why { event, to } => Ok(no_event(*event).or(no_second(*to))),
+        LogQuestion::Check { times } => Ok(no_times(times)),
+        LogQuestion::Draw(drawing) => {
+            let rest = no_yes_or_no(drawing.arrows).or(no_side(drawing.now));
+            Ok(no_owned(alloc, &drawing.owned)?.or(rest))
+        }
+        LogQuestion::Report
+        | LogQuestion::Repairs
+        | LogQuestion::Records
+        | LogQuestion::Steps { .. }
+        | LogQuestion::Bounds => Ok(None),
     }
 }
 
 // The word, where it names no event.
 fn no_event(word: &str) -> Option<RefusedWord<'_>>
-    ensures { option_map seen result ≡ spec.no_event word.now }
+    ensures { option_map seen_word result ≡ spec.no_event word.now }
 {
     match read_event(word.as_bytes()) {
         Some(_) => None,
@@ -95,7 +116,7 @@ fn no_event(word: &str) -> Option<RefusedWord<'_>>
 
 // The word, where it is there and names no event.
 fn no_second(word: Option<&str>) -> Option<RefusedWord<'_>>
-    ensures { option_map seen result ≡ spec.where_given spec.no_event word.entry }
+    ensures { option_map seen_word result ≡ spec.where_given spec.no_event word.entry }
 {
     match word {
         Some(word) => no_event(word),
@@ -105,7 +126,7 @@ fn no_second(word: Option<&str>) -> Option<RefusedWord<'_>>
 
 // The word, where it names no id.
 fn no_id(word: &str) -> Option<RefusedWord<'_>>
-    ensures { option_map seen result ≡ spec.no_id word.now }
+    ensures { option_map seen_word result ≡ spec.no_id word.now }
 {
     match read_id(word.as_bytes()) {
         Some(_) => None,
@@ -119,7 +140,7 @@ fn no_id(word: &str) -> Option<RefusedWord<'_>>
 
 // The word, where it spells no time.
 fn no_time(word: &str) -> Option<RefusedWord<'_>>
-    ensures { option_map seen result ≡ spec.no_time word.now }
+    ensures { option_map seen_word result ≡ spec.no_time word.now }
 {
     match read_time(word.as_bytes()) {
         Ok(_) => None,
@@ -133,7 +154,7 @@ fn no_time(word: &str) -> Option<RefusedWord<'_>>
 
 // The word, where it is there and spells no time.
 fn no_side(word: Option<&str>) -> Option<RefusedWord<'_>>
-    ensures { option_map seen result ≡ spec.where_given spec.no_time word.entry }
+    ensures { option_map seen_word result ≡ spec.where_given spec.no_time word.entry }
 {
     match word {
         Some(word) => no_time(word),
@@ -143,7 +164,7 @@ fn no_side(word: Option<&str>) -> Option<RefusedWord<'_>>
 
 // The word, where it is there and spells no time, or one below 0.
 fn no_tolerance(word: Option<&str>) -> Option<RefusedWord<'_>>
-    ensures { option_map seen result ≡ spec.where_given spec.no_tolerance word.entry }
+    ensures { option_map seen_word result ≡ spec.where_given spec.no_tolerance word.entry }
 {
     let word = word?;
     let failure = match read_time(word.as_bytes()) {
@@ -160,7 +181,7 @@ fn no_tolerance(word: Option<&str>) -> Option<RefusedWord<'_>>
 
 // The word, where it is there and is neither yes nor no.
 fn no_yes_or_no(word: Option<&str>) -> Option<RefusedWord<'_>>
-    ensures { option_map seen result ≡ spec.where_given spec.no_yes_or_no word.entry }
+    ensures { option_map seen_word result ≡ spec.where_given spec.no_yes_or_no word.entry }
 {
     match word {
         Some("yes") | Some("no") | None => None,
@@ -174,7 +195,7 @@ fn no_yes_or_no(word: Option<&str>) -> Option<RefusedWord<'_>>
 
 // The first of the words of two tolerances that is none.
 fn no_tolerances<'a>(early: Option<&'a str>, late: Option<&'a str>) -> Option<RefusedWord<'a>>
-    ensures { option_map seen result ≡ spec.no_tolerances early.entry late.entry }
+    ensures { option_map seen_word result ≡ spec.no_tolerances early.entry late.entry }
 {
     let negative = no_tolerance(early).or(no_tolerance(late));
     no_side(early).or(no_side(late).or(negative))
@@ -187,7 +208,7 @@ fn no_bound<'a>(
     lo: Option<&'a str>,
     hi: Option<&'a str>,
 ) -> Option<RefusedWord<'a>>
-    ensures { option_map seen result ≡ spec.no_bound from.now to.now lo.entry hi.entry }
+    ensures { option_map seen_word result ≡ spec.no_bound from.now to.now lo.entry hi.entry }
 {
     let sides = no_side(lo).or(no_side(hi));
     no_event(from).or(no_event(to).or(sides))
@@ -199,7 +220,7 @@ fn no_choice<'a, A: Allocator + Copy>(
     choice: &EventChoice<'a>,
     now: &'a str,
 ) -> Result<Option<RefusedWord<'a>>, Memory>
-    ensures { IfOk result (λ refused. option_map seen refused ≡ spec.no_choice choice.now now.now) }
+    ensures { IfOk result (λ refused. option_map seen_word refused ≡ spec.no_choice choice.now now.now) }
 {
     match choice.steps {
         Some(steps) => Ok(no_steps(alloc, steps)?.or(no_time(now))),
@@ -212,7 +233,7 @@ fn no_steps<'a, A: Allocator + Copy>(
     alloc: A,
     word: &'a str,
 ) -> Result<Option<RefusedWord<'a>>, Memory>
-    ensures { IfOk result (λ refused. option_map seen refused ≡ spec.no_steps word.now) }
+    ensures { IfOk result (λ refused. option_map seen_word refused ≡ spec.no_steps word.now) }
 {
     match read_steps(alloc, word) {
         Ok(_) => Ok(None),
@@ -227,7 +248,7 @@ fn no_steps<'a, A: Allocator + Copy>(
 
 // The first of the words that spells no time.
 fn no_times<'a>(words: &[&'a str]) -> Option<RefusedWord<'a>>
-    ensures { option_map seen result ≡ spec.no_times (map (λ word. word.now) words.now) }
+    ensures { option_map seen_word result ≡ spec.no_times (map (λ word. word.now) words.now) }
 {
     'words: for word in words {
         if let Some(refused) = no_time(*word) {
@@ -243,7 +264,7 @@ fn no_more_owned<'a, A: Allocator + Copy>(
     words: &[&'a str],
     word: &'a str,
 ) -> Result<Option<RefusedWord<'a>>, Memory>
-    ensures { IfOk result (λ refused. option_map seen refused ≡ spec.unread word.now owned (all_owned (map (λ one. one.now) words.now))) }
+    ensures { IfOk result (λ refused. option_map seen_word refused ≡ spec.unread_word word.now owned (all_owned (map (λ one. one.now) words.now))) }
 {
     match read_owned(alloc, words) {
         Ok(_) => Ok(None),
@@ -261,7 +282,7 @@ fn no_owned<'a, A: Allocator + Copy>(
     alloc: A,
     words: &[&'a str],
 ) -> Result<Option<RefusedWord<'a>>, Memory>
-    ensures { IfOk result (λ refused. option_map seen refused ≡ spec.no_owned [] (map (λ word. word.now) words.now)) }
+    ensures { IfOk result (λ refused. option_map seen_word refused ≡ spec.no_owned [] (map (λ word. word.now) words.now)) }
 {
     'places: for place in 0..words.len() {
         if let Some(refused) = no_more_owned(alloc, &words[..=place], words[place])? {

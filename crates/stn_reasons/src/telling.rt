@@ -1,5 +1,5 @@
 ghost use Rattle.std.specs.Prelude.{◌≡◌, ◌++◌, OnOk, OnErr, decimal};
-ghost use Rattle.stn_reasons.specs.{Refused.seen, Reasons.{absent_text, missing_text, no_event_of}};
+ghost use Rattle.stn_reasons.specs.{Refused.seen_word, Reasons.{absent_text, missing_text, no_event_of}};
 ghost use Rattle.stn_reasons.specs.Told as spec;
 
 use crate::refused::{Form, RefusedWord};
@@ -17,7 +17,7 @@ pub fn append_refused_word<A: Allocator + Copy>(
     steps: Option<u16>,
     out: &mut Vec<u8, A>,
 ) -> Result<(), Memory>
-    ensures told { OnOk result (out.new.items ≡ out.old.items ++ spec.word_text steps (seen refused.now)) }
+    ensures told { OnOk result (out.new.items ≡ out.old.items ++ spec.word_text steps (seen_word refused.now)) }
     ensures kept { OnErr result (out.new.items ≡ out.old.items) }
 {
     let mut line = Vec::new(alloc);
@@ -73,7 +73,7 @@ pub fn append_counts<A: Allocator + Copy>(
     events: usize,
     out: &mut Vec<u8, A>,
 ) -> Result<(), Memory>
-    ensures told { OnOk result (out.new.items ≡ out.old.items ++ spec.counts_text times events) }
+    ensures told { OnOk result (out.new.items ≡ out.old.items ++ spec.times_count_text times events) }
     ensures kept { OnErr result (out.new.items ≡ out.old.items) }
 {
     let mut line = Vec::new(alloc);
@@ -112,7 +112,7 @@ fn append_form<A: Allocator>(
 
 // What a word that should be a time is instead.
 fn time_text(failure: Failure) -> &'static [u8]
-    ensures { result.now ≡ spec.time_text failure }
+    ensures { result.now ≡ spec.time_reason failure }
 {
     match failure.code() {
         Some(code) if code == Code::TooFine.number() => b"finer than a millisecond (0.001)",

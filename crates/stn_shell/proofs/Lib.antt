@@ -1,3 +1,2 @@
 mod Turns
 mod Bytes
-mod OnLog

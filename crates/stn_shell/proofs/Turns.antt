@@ -3,7 +3,7 @@ use Rattle.std.{proofs.Common.{Bor, map, Bool, true, false, ◌≡◌, ◌∙◌
 use Rattle.stn_device.specs.{Failures.read_failure, declared.whole.ReadFault.{ReadFault, TheVariants.{Read, Bound, Memory}}}
 use Rattle.stn_effects.specs.{Effects.{Effect, Then, stopped, went, Gives, seen}, Printing.Device}
 use Rattle.stn_refusal.specs.declared.failure.Failure.{Failure}
-use Rattle.stn_shell.specs.{Carried.{Succeeds, Answers, Does}, Coprocess.{Standing, AreTexts, StopsReading, ReadsLine, further}, Lines.{IsLineRead, Takes}, Outside.Outside}
+use Rattle.stn_shell.specs.{Carried.{Succeeds, Answers, Does}, Coprocess.{Standing, StopsReading, ReadsLine, further}, Lines.{IsLineRead, Takes}, Outside.Outside}
 
 -- one text more
 pub texts_more : (words : List (List ℕ)) (word : List ℕ) → AllByRecursion IsUtf8 words → IsUtf8 word → AllByRecursion IsUtf8 (words ++ word ∷ [])
@@ -26,9 +26,9 @@ now_more (first ∷ words) word = ap (λ later. first.now ∷ later) (now_more w
 
 -- one word more was read
 pub one_further : (before words pushed : List (Bor (List ℕ))) (word : Bor (List ℕ)) (cut : List ℕ) (all rest later texts : List (List ℕ))
-    → AreTexts texts → IsUtf8 cut → all ≡ texts ++ rest → rest ≡ cut ∷ later → word.now ≡ cut
+    → AllByRecursion IsUtf8 texts → IsUtf8 cut → all ≡ texts ++ rest → rest ≡ cut ∷ later → word.now ≡ cut
     → map (λ one. one.now) words ≡ map (λ one. one.now) before ++ texts → pushed ≡ words ++ word ∷ []
-    → (more : List (List ℕ)) × AreTexts more × (all ≡ more ++ later) × (map (λ one. one.now) pushed ≡ map (λ one. one.now) before ++ more)
+    → (more : List (List ℕ)) × AllByRecursion IsUtf8 more × (all ≡ more ++ later) × (map (λ one. one.now) pushed ≡ map (λ one. one.now) before ++ more)
 one_further before words pushed word cut all rest later texts are text split next is read push = (
   texts ++ cut ∷ [],
   texts_more texts cut are text,

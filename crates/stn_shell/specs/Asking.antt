@@ -10,3 +10,7 @@ AskFor words line = (fault_of stn words ≡ []) × IsSomeAnd (subcommand_of stn 
 -- what is said of a word that is no text
 abbrev pub no_text : List ℕ
 no_text = codes "error: a word of the command line is not UTF-8" ++ 10 ∷ []
+
+-- what is said of a command line that a shell doesn't do
+abbrev pub not_of_shell : List ℕ
+not_of_shell = codes "error: not a command of a shell" ++ 10 ∷ []

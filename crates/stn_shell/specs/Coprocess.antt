@@ -1,15 +1,16 @@
 -- A shell on a log: each line of an input is done as the command on the log, and answered, before more is read.
-use Rattle.std.specs.{Prelude.{◌≡◌, ◌≢◌, ◌⊎◌, ℕ, ◌+◌, ◌-◌, ◌^◌, min, length, Bool, true, false, ◌||◌, if◌then◌else◌, bytes_eq, IsUtf8, List, [], ◌∷◌, ◌++◌, codes, decimal, Option, None, Some, Result, Ok, Err}, List.AllByRecursion, Io.KnownBytes.{Consumes, IsAtEnd}}
+use Rattle.std.specs.{Prelude.{◌≡◌, ◌≢◌, ◌⊎◌, ℕ, ◌+◌, ◌-◌, ◌^◌, min, length, Bool, true, false, ◌||◌, if◌then◌else◌, bytes_eq, IsUtf8, List, [], ◌∷◌, ◌++◌, codes, decimal, Option, None, Some, Result, Ok, Err}, List.AllByRecursion, Result.is_err, Io.KnownBytes.{Consumes, IsAtEnd}}
 use Rattle.clap.specs.{Words.{IsAmong, Text, fault_of}, declared.error.kind.ErrorKind.ErrorKind}
 use Rattle.stn_text.specs.{Bytes.line_feed, Lines.words_of}
 use Rattle.stn_device.specs.Bytes.{most_bytes}
 use Rattle.stn_effects.specs.{Effects.{Effect, Then, Repeats, Catches, Gives, seen}, Printing.{Device, Writes, TellsText}}
 use Rattle.stn_exec.specs.Script.{is_skipped}
-use Rattle.stn_line.specs.{Commands.stn, declared.words.{SiteLog.SiteLog, Line.{Line, TheVariants.{Run, Bare, Init, Loosen, Add, Amend, Withdraw, Done, Merge, Guard, Report, Next, Ready, Why, Repairs, Records, Steps, Bounds, Check, Rehearse, Draw, Explain, Shell, Serve, Send}}}}
+use Rattle.stn_line.specs.{Commands.stn, declared.words.{SiteLog.SiteLog, Line.{Line, TheVariants.{Run, Make, Change, Ask, Explain, Shell, Serve, Send}}}}
 use Rattle.stn_logs.specs.Commands.{DoesLine}
-use Rattle.stn_shell.specs.{Asking.{AskFor, no_text}, Lines.{AreWithinLine, AreOfLine, Takes}, Outside.{Outside, outside, InStore, OnOutput, OnError}, declared.coprocess.Progress.Progress}
+use Rattle.stn_reasons.specs.Reasons.{IsReasonInLine}
+use Rattle.stn_shell.specs.{Asking.{AskFor, no_text, not_of_shell}, Lines.{AreWithinLine, AreOfLine, Takes}, Outside.{Outside, outside, InStore, OnOutput, OnError, TellsSome}, declared.coprocess.Progress.Progress}
 use Rattle.stn_store.specs.Steps.{LoadsLog}
-use Rattle.stn_refusal.specs.{Printed.refusal_text, Refusals.{refused_at, out_of_memory}, declared.{failure.{Failure.{Failure, TheVariants.Failed}, Fault.Fault}, refusal.Refusal.Refusal}}
+use Rattle.stn_refusal.specs.{Printed.refusal_text, Refusals.{refused_at, out_of_memory}, declared.{failure.{Failure.{Failure, TheVariants.{Refused, Failed}}, Fault.Fault}, refusal.Refusal.Refusal}}
 use Rattle.stn_refusal.specs.declared.code.Code.TheVariants as code
 use Rattle.stn_refusal.specs.declared.failure.Fault.TheVariants as fault
 
@@ -27,62 +28,48 @@ words_on log words = line_words log.name.now (decimal log.site) words
 -- a shell does commands on a log that is there, and explanations
 abbrev pub is_of_shell : Line → Bool
 is_of_shell Run = false
-is_of_shell (Bare log steps) = false
-is_of_shell (Init log domain plan) = false
-is_of_shell (Loosen log domain plan early late robust) = false
-is_of_shell (Add log from to lo hi) = true
-is_of_shell (Amend log id from to lo hi) = true
-is_of_shell (Withdraw log id) = true
-is_of_shell (Done log event time) = true
-is_of_shell (Merge log other) = true
-is_of_shell (Guard log owned) = true
-is_of_shell (Report log) = true
-is_of_shell (Next log now choice) = true
-is_of_shell (Ready log now choice) = true
-is_of_shell (Why log event to) = true
-is_of_shell (Repairs log) = true
-is_of_shell (Records log) = true
-is_of_shell (Steps log plan) = true
-is_of_shell (Bounds log) = true
-is_of_shell (Check log times) = true
-is_of_shell (Rehearse log now choice) = true
-is_of_shell (Draw log plan now arrows owned) = true
+is_of_shell (Make log made) = false
+is_of_shell (Change log made) = true
+is_of_shell (Ask log asked) = true
 is_of_shell (Explain code) = true
 is_of_shell (Shell log) = false
 is_of_shell (Serve log address count seconds) = false
 is_of_shell (Send log address seconds) = false
 
--- the words of a command line are this one, a command of a shell
-abbrev pub IsCommand : List Text → Line → Type 0
-IsCommand words line = AskFor words line × (is_of_shell line ≡ true)
-
--- they are none, and why is told: clap refuses them; or, of which nothing is told, they are another command line
+-- words are no command of a shell, and why is told: clap refuses them, or they are another command line
 abbrev pub IsNoCommand : List Text → Device → Device → Type 0
 IsNoCommand words err told =
     ((kind : ErrorKind) × (text : List ℕ) × IsAmong kind (fault_of stn words) × (text ≢ []) × TellsText text err told)
-    ⊎ ((line : Line) × AskFor words line × (is_of_shell line ≡ false) × (told ≡ err))
+    ⊎ ((line : Line) × AskFor words line × (is_of_shell line ≡ false) × TellsText not_of_shell err told)
 
 -- a command of a shell in the words of a command line; words that are none are refused by the number of their line
 abbrev pub ReadsCommand : ℕ → List Text → Effect Device Line
-ReadsCommand number words err told (Ok line) = IsCommand words line × (told ≡ err)
+ReadsCommand number words err told (Ok line) = (AskFor words line × (is_of_shell line ≡ true)) × (told ≡ err)
 ReadsCommand number words err told (Err failure) =
     (IsNoCommand words err told × (failure ≡ refused_at code.Line number)) ⊎ ((failure ≡ out_of_memory) × (told ≡ err))
 
--- all words are texts
-abbrev pub AreTexts : List Text → Type 0
-AreTexts = AllByRecursion IsUtf8
-
 -- the words of a line on a log are texts; a word that is none is told
 abbrev pub ReadsTexts : SiteLog → ℕ → List Text → Effect Device (List Text)
-ReadsTexts log number words err told (Ok all) = AreTexts words × (all ≡ words_on log words) × (told ≡ err)
+ReadsTexts log number words err told (Ok all) = AllByRecursion IsUtf8 words × (all ≡ words_on log words) × (told ≡ err)
 ReadsTexts log number words err told (Err failure) =
-    ((¬ (AreTexts words)) × TellsText no_text err told × (failure ≡ refused_at code.Line number)) ⊎ ((failure ≡ out_of_memory) × (told ≡ err))
+    ((¬ (AllByRecursion IsUtf8 words)) × TellsText no_text err told × (failure ≡ refused_at code.Line number)) ⊎ ((failure ≡ out_of_memory) × (told ≡ err))
+
+-- the reason of a refusal is told, on one line
+abbrev pub TellsWhyRefused : Line → Refusal → Outside → Outside → Type 0
+TellsWhyRefused line refusal old new = TellsSome (IsReasonInLine old.entries line refusal) old.err new.err
+    × (new.entries ≡ old.entries) × (new.unread ≡ old.unread) × (new.out ≡ old.out)
+
+-- what a command does; where it is refused, its reason is told
+abbrev pub SaysWhy : Line → Effect Outside (List ℕ) → Effect Outside (List ℕ)
+SaysWhy line Does old new (Ok text) = Does old new (Ok text)
+SaysWhy line Does old new (Err (Refused refusal)) = (between : Outside) × Does old between (Err (Refused refusal)) × TellsWhyRefused line refusal between new
+SaysWhy line Does old new (Err (Failed fault)) = Does old new (Err (Failed fault))
 
 -- the command of such words is done
 abbrev pub DoesWords : (Fault → Type 0) → ℕ → List Text → Effect Outside (List ℕ)
 DoesWords Fails number words =
     Then (OnError (ReadsCommand number words)) (λ line.
-    InStore (DoesLine Fails line))
+    SaysWhy line (InStore (DoesLine Fails line)))
 
 -- ---- a line
 -- what is printed for it: the answer, or the refusal
@@ -90,23 +77,20 @@ abbrev pub reply_text : Result (List ℕ) Refusal → List ℕ
 reply_text (Ok text) = text
 reply_text (Err refusal) = refusal_text refusal
 
-abbrev pub is_refusal : Result (List ℕ) Refusal → Bool
-is_refusal (Ok text) = false
-is_refusal (Err refusal) = true
-
--- its words are done, and their answer or refusal is printed, and an empty line after it
+-- its words are done, and their answer or refusal is printed, and an empty line after it; a fault has no answer. The value is whether
+-- the line is refused
 abbrev pub AnswersWords : (Fault → Type 0) → SiteLog → ℕ → List Text → Effect Outside Bool
 AnswersWords Fails log number words =
     Then (Catches (Then (OnError (ReadsTexts log number words)) (λ all. DoesWords Fails number all))) (λ reply.
     Then (OnOutput (Writes (reply_text reply ++ line_feed ∷ []))) (λ _.
-    Gives (is_refusal reply)))
+    Gives (is_err reply)))
 
 -- of a comment, or of a line without words, nothing is done
 abbrev pub AnswersUnless : Bool → (Fault → Type 0) → SiteLog → ℕ → List Text → Effect Outside Bool
 AnswersUnless true Fails log number words = Gives false
 AnswersUnless false Fails log number words = AnswersWords Fails log number words
 
--- whether the line of this number is refused
+-- the line of this number; the value is whether it is refused
 abbrev pub DoesText : (Fault → Type 0) → SiteLog → ℕ → List ℕ → Effect Outside Bool
 DoesText Fails log number line = AnswersUnless (is_skipped (words_of line)) Fails log number (words_of line)
 
@@ -162,15 +146,16 @@ ReadsLine old new (Err failure) = (unread : Device) × (room : ℕ) × StopsRead
 abbrev pub Notes : Bool → Effect Standing Bool
 Notes refused old new ended = (new ≡ record { around = old.around; lines = old.lines; room = old.room; refused = old.refused || refused }) × (ended ≡ Ok true)
 
--- a line is done, if there is one, and then more is read
+-- a line is done, if there is one; `lines` counts it already, so it is its number. The value is whether more is to be read
 abbrev pub DoesRead : (Fault → Type 0) → SiteLog → Option (List ℕ) → Effect Standing Bool
 DoesRead Fails log None old = Gives false old
 DoesRead Fails log (Some line) old = Then (Around (DoesText Fails log old.lines line)) Notes old
 
+-- a turn: the next line is read and done; the value is again whether more is to be read
 abbrev pub Turns : (Fault → Type 0) → SiteLog → Effect Standing Bool
 Turns Fails log = Then ReadsLine (λ read. DoesRead Fails log read)
 
--- the log can be opened, and then all lines are done
+-- the log can be opened (what it says then is used for nothing), and then all lines are done
 abbrev pub DoesLines : (Fault → Type 0) → SiteLog → Effect Standing (Unit {0})
 DoesLines Fails log =
     Then (Around (InStore (LoadsLog Fails log.name.now log.site))) (λ _.

@@ -12,8 +12,8 @@ abbrev pub IsMistake : ErrorKind → Type 0
 IsMistake kind = (kind ≢ DisplayHelp) × (kind ≢ DisplayVersion)
 
 -- memory ran out, which was told
-abbrev pub LacksMemory : Device → Device → Device → Device → ℕ → Type 0
-LacksMemory old new err told status = (status ≡ 1) × (new ≡ old) × TellsFault Memory err told
+abbrev pub TellsLackOfMemory : Device → Device → Device → Device → ℕ → Type 0
+TellsLackOfMemory old new err told status = (status ≡ 1) × (new ≡ old) × TellsFault Memory err told
 
 -- a text of clap was printed: of a mistake on the standard error, as far as that could be written, with status 2; help and the version
 -- on the output, with status 0, or with status 1 where that can't be written
@@ -23,25 +23,19 @@ SaysText text kind old new err told status =
     ⊎ ((¬ IsMistake kind) × (status ≡ 0) × Prints old new text × (told ≡ err))
     ⊎ ((¬ IsMistake kind) × (status ≡ 1) × BreaksOff old new text × TellsFault Write err told)
 
--- what clap says was printed, and it is not empty; or memory ran out
-abbrev pub IsSaid : ErrorKind → Device → Device → Device → Device → ℕ → Type 0
-IsSaid kind old new err told status =
-    ((text : List ℕ) × (text ≢ []) × SaysText text kind old new err told status)
-    ⊎ LacksMemory old new err told status
-
 -- words that clap refused were answered, or memory ran out before they were read
-abbrev pub IsRefused : List Text → Device → Device → Device → Device → ℕ → Type 0
-IsRefused words old new err told status =
-    ((kind : ErrorKind) × IsAmong kind (fault_of stn words) × IsSaid kind old new err told status)
-    ⊎ LacksMemory old new err told status
+abbrev pub AnswersRefusedWords : List Text → Device → Device → Device → Device → ℕ → Type 0
+AnswersRefusedWords words old new err told status =
+    ((kind : ErrorKind) × (text : List ℕ) × IsAmong kind (fault_of stn words) × (text ≢ []) × SaysText text kind old new err told status)
+    ⊎ TellsLackOfMemory old new err told status
 
 -- a command line was done or stopped; or there was none, and then nothing was read or saved
 abbrev pub IsExecuted : (Fault → Type 0) → List Text → Outside → Outside → ℕ → Type 0
 IsExecuted Fails words old new status =
-    ((line : Line) × AskFor words line × Ends (Does Fails line) old new status)
-    ⊎ ((new.entries ≡ old.entries) × (new.unread ≡ old.unread) × IsRefused words old.out new.out old.err new.err status)
+    ((line : Line) × AskFor words line × Ends (Does Fails) line old new status)
+    ⊎ ((new.entries ≡ old.entries) × (new.unread ≡ old.unread) × AnswersRefusedWords words old.out new.out old.err new.err status)
 
--- a process has no words: one is no text, which is a mistake, or memory ran out; that was told, and nothing was read or printed
+-- a process has no words: one is no text, which is a mistake, or memory ran out; that was told, and nothing was saved, read or printed
 abbrev pub IsWordless : Wordless → Outside → Outside → ℕ → Type 0
-IsWordless wordless.NoText old new status = (new.unread ≡ old.unread) × (new.out ≡ old.out) × (status ≡ 2) × TellsText no_text old.err new.err
-IsWordless wordless.Memory old new status = (new.unread ≡ old.unread) × LacksMemory old.out new.out old.err new.err status
+IsWordless wordless.NoText old new status = (new.entries ≡ old.entries) × (new.unread ≡ old.unread) × (new.out ≡ old.out) × (status ≡ 2) × TellsText no_text old.err new.err
+IsWordless wordless.Memory old new status = (new.entries ≡ old.entries) × (new.unread ≡ old.unread) × TellsLackOfMemory old.out new.out old.err new.err status

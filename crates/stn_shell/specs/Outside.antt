@@ -1,6 +1,8 @@
 -- What there is outside of a program, and how effects on parts of it are effects on all.
-use Rattle.std.specs.Prelude.{◌≡◌, ◌⊎◌, ℕ, Ok, Err}
-use Rattle.stn_effects.specs.{Effects.Effect, Printing.{Device, Tells}}
+use Rattle.std.specs.Prelude.{◌≡◌, ◌⊎◌, ℕ, List, Ok, Err}
+use Rattle.stn_effects.specs.{Effects.Effect, Printing.{Device, Tells, TellsText}}
+use Rattle.stn_line.specs.declared.words.Line.{Line}
+use Rattle.stn_reasons.specs.Reasons.{IsReason}
 use Rattle.stn_store.specs.Steps.{Entries}
 use Rattle.stn_refusal.specs.declared.failure.Failure.{Failure}
 
@@ -26,14 +28,24 @@ OnOutput Does old new ended = Does old.out new.out ended × (new.entries ≡ old
 abbrev pub OnError : {X : Type 0} → Effect Device X → Effect Outside X
 OnError Does old new ended = Does old.err new.err ended × (new.entries ≡ old.entries) × (new.unread ≡ old.unread) × (new.out ≡ old.out)
 
--- why nothing further was done is told
-pub record TellsWhy (failure : Failure) (old new : Outside) : Type 0 where
-  pub told : Tells failure old.out new.out old.err new.err
+-- a text of this kind is printed on the standard error, as far as that takes it; or there was no memory for one
+abbrev pub TellsSome : (List ℕ → Type 0) → Device → Device → Type 0
+TellsSome Is err told = ((text : List ℕ) × Is text × TellsText text err told) ⊎ (told ≡ err)
+
+-- the reason of a command's failure is
+abbrev pub TellsReason : Line → Failure → Entries → Device → Device → Type 0
+TellsReason line failure entries = TellsSome (IsReason entries line failure)
+
+-- why nothing further was done is told: the failure, and then its reason
+pub record TellsWhy (line : Line) (failure : Failure) (old new : Outside) : Type 0 where
+  pub between : Device
+  pub told : Tells failure old.out new.out old.err between
+  pub reason : TellsReason line failure old.entries between new.err
   pub entries : new.entries ≡ old.entries
   pub unread : new.unread ≡ old.unread
 
--- a program comes to its end, with a status; or it stops, tells why, and its status is 1
-abbrev pub Ends : Effect Outside ℕ → Outside → Outside → ℕ → Type 0
-Ends Does old new status =
-    Does old new (Ok status)
-    ⊎ ((failure : Failure) × (between : Outside) × Does old between (Err failure) × TellsWhy failure between new × (status ≡ 1))
+-- a command line comes to its end, with a status; or it stops, tells why, and its status is 1
+abbrev pub Ends : (Line → Effect Outside ℕ) → Line → Outside → Outside → ℕ → Type 0
+Ends Does line old new status =
+    Does line old new (Ok status)
+    ⊎ ((failure : Failure) × (between : Outside) × Does line old between (Err failure) × TellsWhy line failure between new × (status ≡ 1))

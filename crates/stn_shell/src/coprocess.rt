@@ -5,12 +5,14 @@ ghost use Rattle.stn_device.specs.Bytes.{most_bytes};
 ghost use Rattle.stn_effects.specs.{Effects.{seen, Then}, Printing.{Device, device_of, Prints, IsUnprinted, TellsText}};
 ghost use Rattle.stn_text.specs.{Bytes.line_feed, Lines.words_of};
 ghost use Rattle.stn_exec.specs.Script.{is_skipped as skips};
+ghost use Rattle.stn_logs.specs.Commands.{DoesLine};
 ghost use Rattle.stn_refusal.specs.Printed.{refusal_text};
 ghost use Rattle.stn_shell.specs.Coprocess as spec;
-ghost use Rattle.stn_shell.specs.{Coprocess.{standing, line_words, DoesText, DoesWords, ReadsTexts, DoesLines, RunsShell, Turns}, Outside.{outside, OnError}};
+ghost use Rattle.stn_shell.specs.{Coprocess.{standing, line_words, DoesText, DoesWords, ReadsTexts, DoesLines, RunsShell, SaysWhy, Turns}, Outside.{outside, InStore, OnError}};
 
 use crate::lines::read_line;
 use crate::process::NO_TEXT;
+use crate::reasons::tell_in_line;
 use itoa::Buffer;
 use std::alloc::Global;
 use std::io::{Read, Write};
@@ -22,6 +24,9 @@ use stn_refusal::{Code, Failure, Fault, Refusal};
 use stn_store::Store;
 use stn_text::first_word;
 use stn_time::Memory;
+
+// What is said of a command line that a shell doesn't do.
+const NOT_OF_SHELL: &[u8] = b"error: not a command of a shell\n";
 
 /// How far a shell came: how many lines it read, how many bytes it may still read, and whether a line was refused.
 #[derive(Clone, Copy)]
@@ -273,8 +278,9 @@ fn reply_to<S: Store<Global>, E: Write>(
     match line(alloc, words) {
         Ok(asked) => {
             if is_of_shell(&asked) {
-                answer_with(alloc, store, kept, &asked)
+                answer_line(alloc, store, kept, &asked, err)
             } else {
+                tell(NOT_OF_SHELL, err);
                 Err(Failure::refused_at(Code::Line, number))
             }
         }
@@ -286,36 +292,36 @@ fn reply_to<S: Store<Global>, E: Write>(
     }
 }
 
+// Does a command of a shell. Why it is refused is told.
+fn answer_line<S: Store<Global>, E: Write>(
+    alloc: Global,
+    store: &mut S,
+    kept: &mut Kept<Global>,
+    line: &Line<'_>,
+    err: &mut Counted<E>,
+) -> Result<Vec<u8>, Failure>
+    ensures { (unread out : Device) → SaysWhy line.now (InStore (DoesLine S.fails line.now))
+        (outside (S.entries store.old) unread out (device_of E.contents err.old))
+        (outside (S.entries store.new) unread out (device_of E.contents err.new)) (seen (λ answered. answered.items) result) }
+{
+    match answer_with(alloc, store, kept, line) {
+        Ok(answered) => Ok(answered),
+        Err(Failure::Refused(refusal)) => {
+            tell_in_line(alloc, store, line, refusal, err);
+            Err(Failure::Refused(refusal))
+        }
+        Err(Failure::Failed(fault)) => Err(Failure::Failed(fault)),
+    }
+}
+
 // Whether a command line is a command on a log that is there, or an explanation.
 fn is_of_shell(line: &Line<'_>) -> bool
     ensures { result ≡ spec.is_of_shell line.now }
 {
     match line {
-        Line::Run
-        | Line::Bare { .. }
-        | Line::Init { .. }
-        | Line::Loosen { .. }
-        | Line::Shell { .. }
-        | Line::Serve { .. }
-        | Line::Send { .. } => false,
-        Line::Add { .. }
-        | Line::Amend { .. }
-        | Line::Withdraw { .. }
-        | Line::Done { .. }
-        | Line::Merge { .. }
-        | Line::Guard { .. }
-        | Line::Report { .. }
-        | Line::Next { .. }
-        | Line::Ready { .. }
-        | Line::Why { .. }
-        | Line::Repairs { .. }
-        | Line::Records { .. }
-        | Line::Steps { .. }
-        | Line::Bounds { .. }
-        | Line::Check { .. }
-        | Line::Rehearse { .. }
-        | Line::Draw { .. }
-        | Line::Explain { .. } => true,
+        Line::Change(..) | Line::Ask(..) | Line::Explain { .. } => true,
+        Line::Run | Line::Make(..) | Line::Shell { .. } | Line::Serve { .. } | Line::Send { .. } =>
+            false,
     }
 }
 

@@ -1,13 +1,16 @@
 //! A command line, from its words to its status.
 
-ghost use Rattle.std.specs.{Prelude.{◌≡◌, ◌<◌, ◌≤◌, ◌-◌, ◌*◌, ◌^◌, map, None, Ok, IfOk}, Duration.as_nanos};
+ghost use Rattle.std.specs.{Prelude.{◌≡◌, ◌≢◌, ◌⊎◌, ℕ, List, [], ◌<◌, ◌≤◌, ◌-◌, ◌*◌, ◌^◌, map, None, Ok, IfOk, IfErr}, Duration.as_nanos};
 ghost use Rattle.clap.specs.Words.{kind_of};
 ghost use Rattle.stn_device.specs.Counted.{failure_count};
 ghost use Rattle.stn_effects.specs.{Effects.seen, Printing.{Device, device_of}};
-ghost use Rattle.stn_shell.specs.{Carried.{RunsInput, Listens, ServesFound, ServesLog, SendsFound, SendsLog, Answers, Does}, Executed.{IsSaid, IsExecuted, SaysText}, Outside.{outside, Ends}};
+ghost use Rattle.stn_shell.specs.{Carried.{RunsInput, Listens, ServesLog, SendsLog, Answers, Does}, Executed.{IsExecuted, SaysText, TellsLackOfMemory}, Outside.{outside, Ends}};
+ghost use Rattle.stn_refusal.specs.declared.failure.Failure.TheVariants.{Failed as FailedBy};
+ghost use Rattle.stn_refusal.specs.declared.failure.Fault.TheVariants.{Net as FaultOfNet};
 ghost use Rattle.stn_store.specs.{Files.IsFileFault, Steps.{Entries, LoadsLog}};
 
 use crate::coprocess::run_shell;
+use crate::reasons::{tell_reason, unusable};
 use std::alloc::Global;
 use std::fs::File;
 use std::io::{Read, Write};
@@ -16,7 +19,7 @@ use std::rt::Files;
 use std::time::{Clock, Duration};
 use stn_device::{Counted, write_whole};
 use stn_effects::{print, print_now, tell, tell_failure, tell_fault};
-use stn_exchanges::{Service, connect, send_to_partner, serve_each};
+use stn_exchanges::{Peer, Service, connect, send_to_partner, serve_each};
 use stn_exec::run;
 use stn_line::{Line, LineFault, SiteLog, line, said};
 use stn_logs::answer;
@@ -45,7 +48,7 @@ pub fn execute<
 
 /// Does the command of the words over a store, and says its status. The first word is the program's name. The status is 0 where nothing
 /// was refused and no device failed, 1 where something was, 2 where the words are no command's. An answer or a refusal is printed to
-/// `out`, a device's fault and a mistake in the words to `err`.
+/// `out`, a device's fault, the reason of a refusal or a fault, and a mistake in the words to `err`.
 pub fn execute_over<
     S: Store<Global>,
     T: AllocGlobal + Clock + Net<Listener = TcpListener, Stream = TcpStream>,
@@ -102,7 +105,7 @@ fn end<
     requires reader_counts { failure_count reader.old < 2 ^ 64 - 1 }
     requires out_counts { failure_count out.old < 2 ^ 64 - 1 }
     ensures status { result ≤ 1 }
-    ensures ended { Ends (Does S.fails line.now)
+    ensures ended { Ends (Does S.fails) line.now
         (outside (S.entries store.old) (device_of R.remaining reader.old) (device_of W.contents out.old) (device_of E.contents err.old))
         (outside (S.entries store.new) (device_of R.remaining reader.new) (device_of W.contents out.new) (device_of E.contents err.new)) result }
 {
@@ -110,6 +113,7 @@ fn end<
         Ok(status) => status,
         Err(failure) => {
             tell_failure(rt.alloc(), failure, out, err);
+            tell_reason(rt.alloc(), store, line, failure, err);
             1
         }
     }
@@ -123,8 +127,9 @@ fn tell_words<W: Write, E: Write>(
     err: &mut Counted<E>,
 ) -> u8
     ensures status { result ≤ 2 }
-    ensures said { IsSaid (kind_of error.now) (device_of W.contents out.old) (device_of W.contents out.new)
-        (device_of E.contents err.old) (device_of E.contents err.new) result }
+    ensures said { ((text : List ℕ) × (text ≢ []) × SaysText text (kind_of error.now) (device_of W.contents out.old) (device_of W.contents out.new)
+        (device_of E.contents err.old) (device_of E.contents err.new) result)
+        ⊎ TellsLackOfMemory (device_of W.contents out.old) (device_of W.contents out.new) (device_of E.contents err.old) (device_of E.contents err.new) result }
 {
     match said(alloc, error) {
         Ok(text) => tell_text(error, text.as_bytes(), out, err),
@@ -195,7 +200,9 @@ fn do_line<
             address,
             seconds,
         } => status_of(send_to(rt, store, log, *address, limit(*seconds), out)),
-        _ => status_of(tell_answer(rt.alloc(), store, line, out)),
+        Line::Make(..) | Line::Change(..) | Line::Ask(..) | Line::Explain { .. } => {
+            status_of(tell_answer(rt.alloc(), store, line, out))
+        }
     }
 }
 
@@ -254,7 +261,7 @@ fn load_plan<S: Store<Global>>(store: &S, log: &SiteLog<'_>) -> Result<SitePlan<
     store.load(log.name, log.site)
 }
 
-// Serves a log at an address.
+// Serves a log at an address, if the log can be saved.
 fn serve_at<
     S: Store<Global>,
     T: AllocGlobal + Clock + Net<Listener = TcpListener, Stream = TcpStream>,
@@ -273,46 +280,22 @@ fn serve_at<
         (outside (S.entries store.new) unread (device_of W.contents out.new) err) result }
 {
     let mut plan = load_plan(store, log)?;
-    let served = serve_plan(rt, store, log, address, count, limit, &mut plan, out);
-    drop(plan);
-    served
-}
-
-// Serves what a log says, if the log can be saved.
-fn serve_plan<
-    S: Store<Global>,
-    T: AllocGlobal + Clock + Net<Listener = TcpListener, Stream = TcpStream>,
-    W: Write,
->(
-    rt: &T,
-    store: &mut S,
-    log: &SiteLog<'_>,
-    address: &str,
-    count: u16,
-    limit: Duration,
-    plan: &mut SitePlan<Global>,
-    out: &mut Counted<W>,
-) -> Result<(), Failure>
-    ensures { (unread err : Device) → ServesFound S.fails log.now count plan.old
-        (outside (S.entries store.old) unread (device_of W.contents out.old) err)
-        (outside (S.entries store.new) unread (device_of W.contents out.new) err) result }
-{
     store.can_save(log.name)?;
-    let listener = listen(rt, address, out)?;
+    let listener = listen(rt, store, address, out)?;
     let mut service = Service {
         clock: rt,
         listener: &listener,
         limit,
     };
-    serve_each(rt.alloc(), store, &mut service, count, log, plan, out)
+    serve_each(rt.alloc(), store, &mut service, count, log, &mut plan, out)
 }
 
 // Binds an address, and says so.
-fn listen<T: Net<Listener = TcpListener, Stream = TcpStream>, W: Write>(
-    rt: &T,
-    address: &str,
-    out: &mut Counted<W>,
-) -> Result<TcpListener, Failure>
+fn listen<
+    S: Store<Global>,
+    T: AllocGlobal + Net<Listener = TcpListener, Stream = TcpStream>,
+    W: Write,
+>(rt: &T, store: &S, address: &str, out: &mut Counted<W>) -> Result<TcpListener, Failure>
     ensures { (entries : Entries) (unread err : Device) → Listens
         (outside entries unread (device_of W.contents out.old) err)
         (outside entries unread (device_of W.contents out.new) err) (seen (λ _. tt) result) }
@@ -322,7 +305,7 @@ fn listen<T: Net<Listener = TcpListener, Stream = TcpStream>, W: Write>(
             print_now(b"listening\n", out)?;
             Ok(listener)
         }
-        Err(_) => Err(Failure::Failed(Fault::Net)),
+        Err(error) => Err(unusable(rt.alloc(), store, address, error)),
     }
 }
 
@@ -340,25 +323,23 @@ fn send_to<S: Store<Global>, T: AllocGlobal + Clock + Net<Stream = TcpStream>, W
         (outside (S.entries store.new) unread (device_of W.contents out.new) err) result }
 {
     let mut plan = load_plan(store, log)?;
-    let sent = send_plan(rt, store, log, address, limit, &mut plan, out);
-    drop(plan);
-    sent
+    let mut peer = reach(rt, store, address, limit)?;
+    send_to_partner(rt.alloc(), store, &mut peer, log, &mut plan, out)
 }
 
-// Exchanges what a log says with the site that serves at an address.
-fn send_plan<S: Store<Global>, T: AllocGlobal + Clock + Net<Stream = TcpStream>, W: Write>(
-    rt: &T,
-    store: &mut S,
-    log: &SiteLog<'_>,
+// The site that serves at an address.
+fn reach<'a, S: Store<Global>, T: AllocGlobal + Clock + Net<Stream = TcpStream>>(
+    rt: &'a T,
+    store: &S,
     address: &str,
     limit: Duration,
-    plan: &mut SitePlan<Global>,
-    out: &mut Counted<W>,
-) -> Result<(), Failure>
-    ensures { (unread err : Device) → SendsFound S.fails log.now plan.old
-        (outside (S.entries store.old) unread (device_of W.contents out.old) err)
-        (outside (S.entries store.new) unread (device_of W.contents out.new) err) result }
+) -> Result<Peer<'a, T>, Failure>
+    ensures reads { IfOk result (λ peer. failure_count peer.reader ≡ 0) }
+    ensures writes { IfOk result (λ peer. failure_count peer.writer ≡ 0) }
+    ensures failed { IfErr result (λ failure. failure ≡ FailedBy FaultOfNet) }
 {
-    let mut peer = connect(rt, address, limit)?;
-    send_to_partner(rt.alloc(), store, &mut peer, log, plan, out)
+    match connect(rt, address, limit) {
+        Ok(peer) => Ok(peer),
+        Err(error) => Err(unusable(rt.alloc(), store, address, error)),
+    }
 }

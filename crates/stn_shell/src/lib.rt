@@ -9,3 +9,4 @@ mod coprocess;
 mod execution;
 mod lines;
 mod process;
+mod reasons;

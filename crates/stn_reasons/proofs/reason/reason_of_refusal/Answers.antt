@@ -3,5 +3,4 @@ use Rattle.stn_reasons.proofs.reason.reason_of_refusal.Goals as goal
 
 pub returns : goal.returns
 returns g c =
-    let meant = rw c.format-word.ensures.text at c.in_ok-meaning.ensures in
-    IfOk-weaker c.joined.result _ _ (λ text is. (c.in_ok-meaning.meaning.items, c.in_ok-about.about.items, meant, c.in_ok-about.ensures, is)) (rw c.deref.ensures.value at c.joined.ensures)
+    IfOk-weaker c.joined.result _ _ (λ text is. (c.in_ok-meaning.meaning.items, c.in_ok-about.about.items, (c.in_ok-meaning.ensures, c.in_ok-about.ensures), is)) (rw c.deref.ensures.value at c.joined.ensures)

@@ -1,12 +1,12 @@
-use Rattle.std.proofs.Common.{ap, subst, ◌++◌, ◌∙◌}
-use Rattle.stn_shell.{specs.Coprocess.AreTexts, proofs.Turns.{no_texts, one_further}}
+use Rattle.std.{proofs.Common.{ap, subst, ◌++◌, ◌∙◌}, specs.{Prelude.IsUtf8, List.AllByRecursion}}
+use Rattle.stn_shell.proofs.Turns.{no_texts, one_further}
 use Rattle.stn_shell.proofs.coprocess.read_further.Goals as goal
 
 pub returns-in-Err-clause-none : goal.returns-in-Err-clause-none
 returns-in-Err-clause-none c =
     let done = c.words.invariant.done in
     λ _ all. no_texts done.0 c.in-Some.word.now _ c.in-Err.ensures.cases.0
-    (subst AreTexts (done.2 ∙ ap (λ later. done.0 ++ later) c.in-Some.ensures.words) all)
+    (subst (AllByRecursion IsUtf8) (done.2 ∙ ap (λ later. done.0 ++ later) c.in-Some.ensures.words) all)
 
 pub words-preserved : goal.words-preserved
 words-preserved c =

@@ -7,13 +7,13 @@ use Rattle.stn_shell.proofs.coprocess.reply_to.Goals as goal
 pub returns-then-is_of_shell : goal.returns-then-is_of_shell
 returns-then-is_of_shell g c =
     λ unread out. went c.in-Ok.asked (outside (g.S.Store.entries c.args.store.now) unread out (device_of g.E.Write.contents c.args.err.now)) ((((c.in-Ok.ensures.taken, c.in-Ok.ensures.found), sym c.is_of_shell.ensures ∙ c.if-is_of_shell.true), refl), refl, refl, refl)
-    (c.answer_with.ensures, refl, refl, refl)
+    (c.answer_line.ensures unread out)
 
 pub returns-in-Ok : goal.returns-in-Ok
 returns-in-Ok g c =
     λ unread out. stopped _ (
       inl (
-        inr (c.in-Ok.asked, (c.in-Ok.ensures.taken, c.in-Ok.ensures.found), sym c.is_of_shell.ensures ∙ c.if-is_of_shell.false, refl),
+        inr (c.in-Ok.asked, (c.in-Ok.ensures.taken, c.in-Ok.ensures.found), sym c.is_of_shell.ensures ∙ c.if-is_of_shell.false, c.tell.ensures),
         c.refused_at.ensures,
       ),
       refl,

@@ -1,7 +1,19 @@
-use Rattle.std.proofs.Common.{refl}
+use Rattle.std.{proofs.Common.{◌≡◌, ◌⊎◌, ℕ, List, Option, Result, refl, sym, subst, inl, inr}, specs.Borrow.Bor}
 use Rattle.stn_effects.specs.Printing.{device_of}
-use Rattle.stn_shell.{specs.Carried.{Answers, ServesLog, SendsLog}, proofs.{OnLog.{IsOnLog, answered}, Turns.succeeded}}
+use Rattle.stn_line.specs.declared.words.{SiteLog.SiteLog, NewLog.NewLog, LogChange.LogChange, LogQuestion.LogQuestion, Line.{Line, TheVariants.{Make, Change, Ask, Explain}}}
+use Rattle.stn_refusal.specs.declared.failure.{Failure.Failure, Fault.Fault}
+use Rattle.stn_shell.{specs.{Carried.{Answers, Does, Succeeds, ServesLog, SendsLog}, Outside.Outside}, proofs.Turns.succeeded}
 use Rattle.stn_shell.proofs.execution.do_line.Goals as goal
+
+-- a command on a log, or an explanation, is answered
+answered : (Fails : Fault → Type 0) (line : Line) (old new : Outside) (ended : Result ℕ Failure)
+    → ((log : SiteLog) × (made : NewLog) × (line ≡ Make log made)) ⊎ ((log : SiteLog) × (made : LogChange) × (line ≡ Change log made))
+    ⊎ ((log : SiteLog) × (asked : LogQuestion) × (line ≡ Ask log asked)) ⊎ ((code : Option (Bor (List ℕ))) × (line ≡ Explain code))
+    → Succeeds (Answers Fails line) old new ended → Does Fails line old new ended
+answered Fails line old new ended (inl is) = subst (λ one. Succeeds (Answers Fails one) old new ended → Does Fails one old new ended) (sym is.2) (λ does. does)
+answered Fails line old new ended (inr (inl is)) = subst (λ one. Succeeds (Answers Fails one) old new ended → Does Fails one old new ended) (sym is.2) (λ does. does)
+answered Fails line old new ended (inr (inr (inl is))) = subst (λ one. Succeeds (Answers Fails one) old new ended → Does Fails one old new ended) (sym is.2) (λ does. does)
+answered Fails line old new ended (inr (inr (inr is))) = subst (λ one. Succeeds (Answers Fails one) old new ended → Does Fails one old new ended) (sym is.1) (λ does. does)
 
 pub returns-in-Run : goal.returns-in-Run
 returns-in-Run g c = record { status = c.run_input.ensures.status; done = rw c.in-Run.is (c.run_input.ensures.ran, refl, refl) }
@@ -17,10 +29,8 @@ pub returns-in-Send-clause-done : goal.returns-in-Send-clause-done
 returns-in-Send-clause-done g c = rw c.in-Send.is (succeeded (SendsLog g.S.Store.fails c.in-Send.log) _ _ c.send_to.result c.status_of-in-Send.result c.status_of-in-Send.ensures
     (c.send_to.ensures (device_of g.R.Read.remaining c.args.reader.now) (device_of g.E.Write.contents c.args.err.now)))
 
-pub returns-in_default-clause-done : goal.returns-in_default-clause-done
-returns-in_default-clause-done g c =
+pub returns-in-Make-clause-done : goal.returns-in-Make-clause-done
+returns-in-Make-clause-done g c =
     let line = c.args.line.now in
-    let on_log : IsOnLog line = record { run = c.in_default.not-Run; shell = c.in_default.not-Shell; serve = c.in_default.not-Serve; send = c.in_default.not-Send } in
-    answered g.S.Store.fails line _ _ c.status_of-in_default.result on_log
-    (succeeded (Answers g.S.Store.fails line) _ _ c.tell_answer.result c.status_of-in_default.result c.status_of-in_default.ensures
+    answered g.S.Store.fails line _ _ c.status_of-in-Make.result c.in-Make.is (succeeded (Answers g.S.Store.fails line) _ _ c.tell_answer.result c.status_of-in-Make.result c.status_of-in-Make.ensures
     (c.tell_answer.ensures (device_of g.R.Read.remaining c.args.reader.now) (device_of g.E.Write.contents c.args.err.now)))

@@ -15,7 +15,13 @@ returns-in-Err g c =
         c.in-Err.failure,
         outside (g.S.Store.entries new.store) (device_of g.R.Read.remaining new.reader) (device_of g.W.Write.contents new.out) (device_of g.E.Write.contents new.err),
         c.in-Err.ensures.done,
-        record { told = c.tell_failure.ensures; entries = refl; unread = refl },
+        record {
+          between = device_of g.E.Write.contents c.tell_failure.new.err;
+          told = c.tell_failure.ensures;
+          reason = c.tell_reason.ensures;
+          entries = refl;
+          unread = refl;
+        },
         refl,
       );
     }

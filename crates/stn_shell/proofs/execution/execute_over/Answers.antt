@@ -1,4 +1,4 @@
-use Rattle.std.proofs.Common.{refl, inl, inr, arith}
+use Rattle.std.proofs.Common.{refl, inl, inr, ⊎_elim, arith}
 use Rattle.clap.specs.Words.{kind_of}
 use Rattle.stn_shell.proofs.execution.execute_over.Goals as goal
 
@@ -13,7 +13,7 @@ returns-in-Err-Words g c =
     let refused = rw c.in-Err-Words.field-0-is at c.in-Err-Words.ensures.refused in
     record {
       status = c.tell_words.ensures.status;
-      executed = inr (refl, refl, inl (kind_of c.in-Err-Words.error, refused.1, c.tell_words.ensures.said));
+      executed = inr (refl, refl, ⊎_elim (λ said. inl (kind_of c.in-Err-Words.error, said.0, refused.1, said.1, said.2)) inr c.tell_words.ensures.said);
     }
 
 pub returns-in-Err-Memory : goal.returns-in-Err-Memory

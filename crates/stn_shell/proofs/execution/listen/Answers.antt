@@ -11,4 +11,4 @@ pub returns-in_ok-print_now-in-Ok : goal.returns-in_ok-print_now-in-Ok
 returns-in_ok-print_now-in-Ok g c = λ entries unread err. went tt _ refl (c.in_ok-print_now-in-Ok.ensures.printed, refl, refl, refl)
 
 pub returns-in-Err : goal.returns-in-Err
-returns-in-Err g c = λ entries unread err. stopped _ (refl, refl) refl
+returns-in-Err g c = λ entries unread err. stopped _ (refl, c.unusable.ensures) refl

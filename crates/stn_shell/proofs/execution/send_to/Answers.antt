@@ -1,5 +1,6 @@
-use Rattle.std.proofs.{Common.refl, lemmas.Result.err_from_is_err_and}
+use Rattle.std.proofs.{Common.{None, refl}, lemmas.Result.err_from_is_err_and}
 use Rattle.stn_effects.specs.{Effects.{stopped, went}, Printing.device_of}
+use Rattle.stn_device.specs.{Counted.failure_count, Partner.PartnerState}
 use Rattle.stn_shell.specs.Outside.{outside}
 use Rattle.stn_shell.proofs.execution.send_to.Goals as goal
 
@@ -8,5 +9,19 @@ returns-in_err-plan g c =
     let p = err_from_is_err_and c.from_residual.result c.from_residual.ensures.1 in
     rw (p.1, p.2) (λ unread err. stopped _ (c.in_err-plan.ensures, refl, refl, refl) refl)
 
+pub returns-in_err-peer : goal.returns-in_err-peer
+returns-in_err-peer g c =
+    let p = err_from_is_err_and c.from_residual-in_err-peer.result c.from_residual-in_err-peer.ensures.1 in
+    rw (p.1, p.2) (λ unread err. went c.in_ok-plan.plan (outside (g.S.Store.entries c.args.store.now) unread (device_of g.W.Write.contents c.args.out.now) err) (c.in_ok-plan.ensures, refl, refl, refl)
+    (stopped _ (refl, c.in_err-peer.ensures.failed) refl))
+
 pub returns : goal.returns
-returns g c = λ unread err. went c.in_ok-plan.plan (outside (g.S.Store.entries c.args.store.now) unread (device_of g.W.Write.contents c.args.out.now) err) (c.in_ok-plan.ensures, refl, refl, refl) (c.send_plan-sent.ensures unread err)
+returns g c =
+    let site = c.in_ok-peer.peer in
+    let after = c.send_to_partner.new.partner in
+    let met : PartnerState = record { unheard = None; told = None; ended = None; failed_reads = failure_count site.reader; failed_writes = failure_count site.writer } in
+    let gone : PartnerState = record { unheard = None; told = None; ended = None; failed_reads = failure_count after.reader; failed_writes = failure_count after.writer } in
+    let entries = g.S.Store.entries c.args.store.now in
+    let out = device_of g.W.Write.contents c.args.out.now in
+    λ unread err. went c.in_ok-plan.plan (outside entries unread out err) (c.in_ok-plan.ensures, refl, refl, refl)
+    (went tt (outside entries unread out err) refl ((c.send_to_partner.new.copy.state, met, gone, (refl, refl, refl), c.send_to_partner.ensures.sent), refl, refl))
