@@ -1,6 +1,5 @@
 //! What a command prints on its output and on the standard error, told apart; and the modes, names and locks of files.
 
-use crate::SCRIPT;
 use std::alloc::Global;
 use std::fs::{self, Permissions, TryLockError};
 use std::io::{self, Error};
@@ -25,8 +24,13 @@ fn print_lines(rt: &HostRuntime, word: &str, text: &[u8]) -> io::Result<()> {
 }
 
 /// Does the command of these words over a store, and prints what stands on its output, what on the standard error, and its status.
-pub fn tell<S: Store<Global>>(rt: &HostRuntime, store: &mut S, words: &[&str]) -> io::Result<()> {
-    let mut reader = Counted::new(SCRIPT);
+pub fn tell<S: Store<Global>>(
+    rt: &HostRuntime,
+    store: &mut S,
+    words: &[&str],
+    input: &[u8],
+) -> io::Result<()> {
+    let mut reader = Counted::new(input);
     let mut out = Counted::new(Vec::new(rt.alloc()));
     let mut err = Counted::new(Vec::new(rt.alloc()));
     let status = execute_over(rt, store, words, &mut reader, &mut out, &mut err);

@@ -7,7 +7,7 @@ ghost use Rattle.stn_device.specs.Counted.{failure_count};
 mod changing;
 mod untrusted;
 
-use crate::{bytes_of, cut_word, print_digits};
+use crate::{bytes_of, cut_word, print_digits, print_end};
 use std::alloc::Global;
 use std::io::{Error, Read, Write};
 use std::net::{Shutdown, TcpListener, TcpStream};
@@ -75,9 +75,9 @@ fn far_replica(rt: &HostRuntime) -> io::Result<Replica<Global>> {
 fn command(rt: &HostRuntime, words: &[&str]) -> io::Result<()> {
     let mut reader = Counted::new(b"".as_slice());
     let mut out = Counted::new(io::writer(rt));
-    let mut err = Counted::new(io::writer(rt));
+    let mut err = Counted::new(Vec::new(rt.alloc()));
     let status = execute(rt, words, &mut reader, &mut out, &mut err);
-    print_status(rt, status)
+    print_end(rt, &err.into_inner(), status)
 }
 
 fn print_status(rt: &HostRuntime, status: u8) -> io::Result<()> {

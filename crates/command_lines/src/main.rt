@@ -1,5 +1,5 @@
 //! For tests: does the commands of its input, one a line, in the folder that it is run in, and prints what each prints and its
-//! status. A word `""` is empty. Other lines make and show files, or do commands of logs over a store in memory:
+//! status, but of a fault not its reason. A word `""` is empty. Other lines make and show files, or do commands of logs over a store in memory:
 //!
 //! - `= FILE` prints the bytes of a file in hex, or `none`;
 //! - `:bytes FILE COUNT HEX` puts so many times these bytes after a file, which it makes where there is none;
@@ -7,11 +7,12 @@
 //! - `:withdrawn FILE COUNT SITE MANY` does so with a frame of the first so many withdrawn ids of a site;
 //! - `:folder NAME` makes a folder, `:link NAME TARGET` a link;
 //! - `:from FILE WORDS` does a command with the file as its standard input;
-//! - `:unprinted FILE NUMBER WORDS` does so with an output that fails to take the text of this number;
+//! - `:unprinted FILE NUMBER WORDS` does so with an output that fails to take the text of this number, and prints the reason too;
 //! - `:shared LOG FILE` does the lines of the file in a shell on a log of site 1; a line `!NAME` of it gives the file of that name the name
 //!   of the log, as another program may between two lines;
 //! - `:status WORDS` prints the status of a command alone;
 //! - `:told WORDS` does a command, and prints what stands on its output, what on the standard error, and its status;
+//! - `:told-from FILE WORDS` does so with the file as its standard input;
 //! - `:mode FILE` prints who may read, write and run a file, in octal; `:chmod FILE MODE` sets that;
 //! - `:name FILE NAME` gives a file a second name;
 //! - `:hold LOG` holds a log, and prints whether its lock is free before, meanwhile and afterwards;
@@ -25,6 +26,8 @@
 //! - `:memory-talk NAME OTHER` has the site 2 of one log in the store ask the site 1 of another, and prints what both make of it;
 //! - `:loopback SCENARIO WORDS` serves or sends logs over connections on this machine, and prints what both ends make of it; the words
 //!   say what is expected, after the bytes that are said in hex where the scenario is `request`, `replies` or `unsaved-records`.
+//!
+//! At its end it does the command of its own words as the process that it is. They are no command's, so it ends with 2.
 #![tactic(auto)]
 
 mod edges;
@@ -41,10 +44,12 @@ use crate::talk::{serve_saying, talk};
 use std::alloc::{AllocError, Global};
 use std::io::{Error, Write};
 use std::os::unix::fs::symlink;
+use std::process::ExitCode;
 use std::{fs, io};
 use stn_device::Counted;
-use stn_shell::execute;
+use stn_shell::{execute, program};
 use stn_store::{FileStore, MemoryStore, Store};
+use stn_text::first_line;
 
 // What stands on the standard input of a command.
 const SCRIPT: &[u8] = b"steps 0\nsites 1\n1 report\n";
@@ -63,10 +68,12 @@ fn append_words<'a>(line: &'a str, words: &mut Vec<&'a str>) -> Result<(), Alloc
     Ok(())
 }
 
-// Prints the fault of a command, if there is one, and its status.
-fn print_end(rt: &HostRuntime, fault: &[u8], status: u8) -> io::Result<()> {
-    if fault.starts_with(b"fault ") {
+// Prints the fault of a command, if there is one, without its reason, and its status.
+fn print_end(rt: &HostRuntime, said: &[u8], status: u8) -> io::Result<()> {
+    if said.starts_with(b"fault ") {
+        let (fault, _) = first_line(said);
         io::writer(rt).write_all(fault)?;
+        println!(rt)?;
     }
     println!(rt; "status {status}")
 }
@@ -213,10 +220,22 @@ fn run_each_cut(rt: &HostRuntime, bytes: &[u8], words: &str) -> io::Result<()> {
 }
 
 // Does the command of a line over a store, and prints what stands where, and its status.
-fn tell_line<S: Store<Global>>(rt: &HostRuntime, store: &mut S, line: &str) -> io::Result<()> {
+fn tell_line<S: Store<Global>>(
+    rt: &HostRuntime,
+    store: &mut S,
+    line: &str,
+    input: &[u8],
+) -> io::Result<()> {
     let mut words = Vec::new(rt.alloc());
     append_words(line, &mut words)?;
-    tell(rt, store, &words)
+    tell(rt, store, &words, input)
+}
+
+// Does so with a file as its standard input.
+fn tell_from(rt: &HostRuntime, words: &str) -> io::Result<()> {
+    let (name, line) = cut_word(words);
+    let input = fs::read(rt, name)?;
+    tell_line(rt, &mut FileStore::new(rt), line, &input)
 }
 
 fn turn(rt: &HostRuntime, link: &str, words: &str) -> io::Result<()> {
@@ -280,9 +299,11 @@ fn do_line(rt: &HostRuntime, store: &mut MemoryStore<Global>, line: &str) -> io:
     } else if let Some(words) = line.strip_prefix(":memory ") {
         run_in_memory(rt, store, words)
     } else if let Some(words) = line.strip_prefix(":memory-told ") {
-        tell_line(rt, store, words)
+        tell_line(rt, store, words, SCRIPT)
     } else if let Some(words) = line.strip_prefix(":told ") {
-        tell_line(rt, &mut FileStore::new(rt), words)
+        tell_line(rt, &mut FileStore::new(rt), words, SCRIPT)
+    } else if let Some(words) = line.strip_prefix(":told-from ") {
+        tell_from(rt, words)
     } else if let Some(words) = line.strip_prefix(":memory-serve ") {
         serve_in_memory(rt, store, words)
     } else if let Some(words) = line.strip_prefix(":memory-talk ") {
@@ -309,7 +330,8 @@ fn do_lines(rt: &HostRuntime, store: &mut MemoryStore<Global>) -> io::Result<()>
     Ok(())
 }
 
-fn main(rt: HostRuntime) -> io::Result<()> {
+fn main(rt: HostRuntime) -> io::Result<ExitCode> {
     let mut store = MemoryStore::new(rt.alloc());
-    do_lines(&rt, &mut store)
+    do_lines(&rt, &mut store)?;
+    Ok(program(&rt))
 }

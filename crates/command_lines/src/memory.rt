@@ -39,7 +39,11 @@ fn run_line(rt: &HostRuntime, store: &mut MemoryStore<Global>, line: &Line<'_>) 
         Line::Run | Line::Serve { .. } | Line::Send { .. } => {
             Err(Error::other("no command of a log"))
         }
-        _ => print_answer(rt, answer(rt.alloc(), store, line)),
+        Line::Make(..)
+        | Line::Change(..)
+        | Line::Ask(..)
+        | Line::Explain { .. }
+        | Line::Shell { .. } => print_answer(rt, answer(rt.alloc(), store, line)),
     }
 }
 

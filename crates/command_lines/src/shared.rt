@@ -52,7 +52,8 @@ pub fn share(rt: &HostRuntime, log: &str, name: &str) -> io::Result<()> {
     print_end(rt, &err.into_inner(), status)
 }
 
-/// Does a command with a file as its standard input, whose output takes each text whole, but fails to take one of this number.
+/// Does a command with a file as its standard input, whose output takes each text whole, but fails to take one of this number. What
+/// stands on the standard error is printed too.
 pub fn fail(rt: &HostRuntime, name: &str, number: u64, line: &str) -> io::Result<()> {
     let input = fs::read(rt, name)?;
     let mut words = Vec::new(rt.alloc());
@@ -67,5 +68,6 @@ pub fn fail(rt: &HostRuntime, name: &str, number: u64, line: &str) -> io::Result
     let mut err = Counted::new(Vec::new(rt.alloc()));
     let status = execute(rt, &words, &mut reader, &mut out, &mut err);
     io::writer(rt).write_all(&out.into_inner().held)?;
-    print_end(rt, &err.into_inner(), status)
+    io::writer(rt).write_all(&err.into_inner())?;
+    println!(rt; "status {status}")
 }
