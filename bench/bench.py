@@ -271,7 +271,7 @@ def crowded(folder):
     subprocess.run([str(PROGRAM), "init", log.name, "1", "domain.pddl", "plan.txt"], cwd=folder, stdout=subprocess.DEVNULL, check=True)
     made = log.read_bytes()
     other = ",".join(str(step) for step in range(2, 257, 2))
-    for words in ("report", "why e128", "draw", "next 0", f"guard --own=2:{other}"):
+    for words in ("report", "why e128", "draw", "next 0", "ready 0", f"guard --own=2:{other}"):
         command, *rest = words.split()
         run_command(f"crowded {command}", [command, log.name, "1", *rest], folder, lambda: log.write_bytes(made))
     loose = folder / "loose.log"
@@ -294,9 +294,11 @@ def shell_lines(name, log, folder, lines):
 
 
 def shell_turns(name, log, folder, lines):
-    """How long a shell takes over each question and each change, from the line to the end of its answer."""
+    """How long a shell takes over each change, each first question after it, and each that is asked again, from the line to the end of
+    its answer."""
     made = log.read_bytes()
-    spent = {"questions": [], "changes": []}
+    spent = {"changes": [], "first questions": [], "asked again": []}
+    before = None
     words = [str(PROGRAM), "shell", log.name, "1"]
     with subprocess.Popen(words, cwd=folder, stdin=subprocess.PIPE, stdout=subprocess.PIPE) as talk:
         for line in lines:
@@ -305,7 +307,9 @@ def shell_turns(name, log, folder, lines):
             talk.stdin.flush()
             while talk.stdout.readline().strip():
                 pass
-            spent["questions" if line.startswith("next") else "changes"].append(time.monotonic() - begun)
+            what = "asked again" if line == before else "first questions" if line.startswith("next") else "changes"
+            spent[what].append(time.monotonic() - begun)
+            before = line
         talk.stdin.close()
     log.write_bytes(made)
     for what, times in spent.items():
@@ -328,7 +332,13 @@ def shell(folder):
         for many in (100, 10_000):
             shell_lines(f"{name}, next", log, folder, ["next 0"] * many)
             shell_lines(f"{name}, done, withdraw and next", log, folder, changed[:many])
-        shell_turns(name, log, folder, changed)
+        turns = [line for line in changed for _ in range(2 if line.startswith("next") else 1)]
+        shell_turns(name, log, folder, turns)
+        # Where no write is forced to a disk.
+        with tempfile.TemporaryDirectory(dir="/dev/shm") as other:
+            unforced = Path(other) / log.name
+            unforced.write_bytes(log.read_bytes())
+            shell_turns(f"{name}, unforced", unforced, Path(other), turns)
         made = log.read_bytes()
         for words in ("next 0", f"done s1 {SPREAD // 2000}"):
             command, *rest = words.split()

@@ -5,7 +5,8 @@ usage: bench/drawn.py [ROWS OUTPUT]    those of crates/command_lines, if none ar
 
 A picture's style sheets are left out: the lines that begin with `<style` and `<defs`. What is drawn, where it stands and what it
 says has to be the same byte for byte. Windows are found by walks over all bounds, again and again, until nothing changes. For each
-picture that differs its row and the first line that does are printed; the last line is `passed`, with the number of pictures.
+picture that differs its row and the first line that does are printed, and for each that has more than 2,500 bytes and 600 for each
+step, its style sheets too but not the names of steps, its row and its size. The last line is `passed`, with the number of pictures.
 """
 import re
 import sys
@@ -22,6 +23,7 @@ SECOND, MINUTE, HOUR, DAY = 1000, 60_000, 3_600_000, 86_400_000
 GAPS = [number * SECOND for number in (1, 2, 5, 10, 15, 30)] + [number * MINUTE for number in (1, 2, 5, 10, 15, 30)] + \
     [number * HOUR for number in (1, 2, 5, 10, 15)] + [number * DAY for number in (1, 2, 5, 10, 15, 30, 60, 150, 300)]
 LEFT, WIDTH, ROW, TOP, LINK = 344, 540, 24, 54, 34
+MOST_BYTES, MOST_BYTES_A_STEP = 2500, 600
 NAMED = {"&": "&amp;", "<": "&lt;", ">": "&gt;", '"': "&quot;"}
 
 
@@ -147,7 +149,7 @@ class Chart:
                 text += f"<path class='{'l' if due else 'p'}' d='M{right} {middle}h{self.place(last) - right}'/>"
             text += f"<text class='{'s w' if due else 's'}' x='{max(self.place(last), left + 2) + 5}' y='{base}'>{time_text(last)}</text>"
         if "latest start" in parts:
-            text += f"<path class='k' d='M{self.place(self.windows[start][1])} {top + 4}v16'/>"
+            text += f"<path class='{'c' if self.is_due(step) else 'k'}' d='M{self.place(self.windows[start][1])} {top + 4}v16'/>"
         if site:
             text += f"<text class='s e' x='992' y='{base}'>{site}</text>"
         return text + self.arrow(step, left, top) + "</g>\n"
@@ -205,7 +207,7 @@ class Walk:
     """The links of a conflict, one after the other."""
 
     def __init__(self, site, title, names):
-        self.title, self.names = title, names
+        self.title, self.names, self.steps = title, names, site.plan.steps
         table, culprit = site.judged()
         self.links = named_cycle(table, site.bounds(), culprit)
         self.repairs = {words[0]: (words[3], words[4]) for words in map(str.split, site.repairs()) if words[0] != "drop"}
@@ -218,8 +220,7 @@ class Walk:
         return 500 + 440 * (time + self.gap * self.before) // max(self.gap * (self.before + self.after), 1)
 
     def step_text(self, step, most):
-        named = step <= len(self.names)
-        return f"{step} {cut(self.names[step - 1], most) if named else f'step {step}'}"
+        return f"{step} {cut(self.names[step - 1], most)}" if step <= len(self.names) else f"step {step}"
 
     def asked(self, link, most):
         bound = link.bound
@@ -231,8 +232,8 @@ class Walk:
     def row(self, number, link):
         top, bound = TOP + LINK * number, link.bound
         left, right = self.place(self.sums[number]), self.place(self.sums[number + 1])
-        names = "".join(f"; {event_text(event)}: {self.step_text((event + 1) // 2, 200)}" for event in (bound.start, bound.to) if event)
-        text = f"<g><title>{bound.name} {link.side}: {self.asked(link, 200)}{names}</title>" \
+        names = "".join(f"{event_text(event)}: {self.step_text((event + 1) // 2, 200)}\n" for event in (bound.start, bound.to) if event)
+        text = "<g>" + (f"<title>{names}</title>" if self.names else "") + \
             f"<text class='h' x='8' y='{top + 15}'>{bound.name} {link.side}</text>" \
             f"<text class='n' x='128' y='{top + 15}'>{self.asked(link, 24)}</text>\n"
         if bound.name in self.repairs:
@@ -240,10 +241,8 @@ class Walk:
             leaves = f"{least} or more" if link.side == "upper" else f"{greatest} or less"
             text += f"<text class='j' x='128' y='{top + 29}'>alone mends it: {leaves}</text>\n"
         text += f"<text x='{left + 8}' y='{top + 21}'>" if right < left else f"<text class='e' x='{left - 8}' y='{top + 21}'>"
-        text += f"{event_text(link.begins)}</text><circle class='x' cx='{left}' cy='{top + 17}' r='3'/>"
-        if abs(right - left) >= 9:
-            text += f"<path class='u' d='M{left} {top + 17}H{right}'/>"
-        return text + f"<path class='o' d='M{right} {top + 21}v26'/></g>\n"
+        arrow = f"path d='M{left} {top + 17}H{right}'" if abs(right - left) >= 9 else f"circle class='x' cx='{left}' cy='{top + 17}' r='3'"
+        return text + f"{event_text(link.begins)}</text><{arrow}/></g>\n"
 
     def text(self):
         count, gap = len(self.links), self.gap
@@ -254,7 +253,8 @@ class Walk:
         text += f"<text class='s e' x='992' y='20'>{count} bounds contradict each other by {time_text(-self.sums[-1])} s</text>\n"
         text += "<path class='g' d='" + "".join(f"M{self.place(gap * tick)} 50V{end}" for tick in ticks) + "'/>\n<text class='s m' y='44'>"
         text += "".join(f"<tspan x='{self.place(gap * tick)}'>{'-' if tick < 0 else ''}{gap * abs(tick) // size}{'' if tick else ' ' + unit}</tspan>" for tick in ticks)
-        text += "</text>\n" + "".join(self.row(number, link) for number, link in enumerate(self.links))
+        drops = "".join(f"M{self.place(self.sums[number + 1])} {TOP + LINK * number + 21}v26" for number in range(count))
+        text += f"</text>\n<path class='o' d='{drops}'/>\n" + "".join(self.row(number, link) for number, link in enumerate(self.links))
         left, right = self.place(self.sums[-1]), self.place(0)
         text += f"<text class='h w' x='8' y='{top + 15}'>{first} would be {time_text(-self.sums[-1])} before itself</text>"
         text += f"<path class='c' d='M{left} {top + 10}v14M{right} {top + 10}v14M{left} {top + 17}H{right}'/>"
@@ -310,8 +310,8 @@ class Rows:
         elif name in ("withdraw", "merge", "guard", "send"):
             del self.logs[log]
 
-    def drawn(self, words):
-        """The picture that a row asks for; none of a log whose rows are not followed here."""
+    def picture(self, words):
+        """What a row asks for; none of a log whose rows are not followed here."""
         if words[1] not in self.logs:
             return None
         site, names = self.logs[words[1]]
@@ -319,18 +319,24 @@ class Rows:
         if plan:
             names = names_of(self.texts[plan[0]])
         if site.judged()[1]:
-            return Walk(site, words[1], names).text()
+            return Walk(site, words[1], names)
         owners = {}
         for one in owned:
             number, steps = one.split(":")
             for part in steps.split(","):
                 first, _, last = part.partition("-")
                 owners.update({step: int(number) for step in range(int(first), int(last or first) + 1)})
-        return Chart(site, words[1], names, read_time(now[0]) if now else None, arrows != ["no"], owners).text()
+        return Chart(site, words[1], names, read_time(now[0]) if now else None, arrows != ["no"], owners)
 
 
 def names_of(plan):
     return [" ".join(step.words) for step in plan_of(plan)]
+
+
+def bytes_of_names(picture):
+    """How many bytes of a picture are names of steps."""
+    whole, picture.names = len(picture.text()), [""] * len(picture.names)
+    return whole - len(picture.text())
 
 
 def without_styles(text):
@@ -345,20 +351,30 @@ def main():
     for line, answer in zip(lines, answers, strict=True):
         words, status = line.split(), re.search(r"^status ([0-9]+)\n\Z", answer, re.M)
         if words and words[0] == "draw" and answer.startswith("<svg"):
-            expected, given = rows.drawn(words), without_styles(answer[:status.start()])
-            if expected is None:
+            picture, given = rows.picture(words), answer[:status.start()]
+            if picture:
+                compared += 1
+                wrong += not is_drawn(line, picture, given)
+            else:
                 skipped.append(line)
-            elif expected != given:
-                wrong += 1
-                pairs = zip(expected.splitlines() + [None], given.splitlines() + [None])
-                print(line, *next(pair for pair in pairs if pair[0] != pair[1]), sep="\n  ")
-            compared += expected is not None
         elif words:
             rows.do(words, int(status[1]) if status else 0)
     for line in skipped:
         print("not followed:", line)
-    print(f"{wrong} differ" if wrong else f"passed: {compared} pictures")
+    print(f"{wrong} differ or are too large" if wrong else f"passed: {compared} pictures")
     return 1 if wrong else 0
+
+
+def is_drawn(line, picture, given):
+    """Whether a row has this picture, and it isn't too large."""
+    expected, drawn = picture.text(), without_styles(given)
+    if expected != drawn:
+        pairs = zip(expected.splitlines() + [None], drawn.splitlines() + [None])
+        print(line, *next(pair for pair in pairs if pair[0] != pair[1]), sep="\n  ")
+    size, most = len(given) - bytes_of_names(picture), MOST_BYTES + MOST_BYTES_A_STEP * picture.steps
+    if size > most:
+        print(line, f"{size} bytes beside names, of {most}", sep="\n  ")
+    return expected == drawn and size <= most
 
 
 if __name__ == "__main__":

@@ -1,5 +1,6 @@
 #!/usr/bin/env python3
-"""Looks at pictures in a browser without a window: no text may overlap another, or lie outside the picture.
+"""Looks at pictures in a browser without a window: no text may overlap another, or lie outside the picture, and a picture that is
+opened alone has to be as wide as the window, however long it is.
 
 usage: pictures.py FILE.svg ..
 
@@ -40,14 +41,31 @@ document.getElementById("found").textContent = JSON.stringify({texts: parts.leng
 </script>"""
 
 
-def faults_of(svg, width):
-    with tempfile.NamedTemporaryFile("w", suffix=".html", encoding="utf-8") as page:
-        page.write(PAGE % (width, svg))
+ALONE = """<script>
+const root = document.documentElement;
+window.onload = () => root.setAttribute("data-width", root.getScreenCTM().a * root.viewBox.baseVal.width);
+</script></svg>"""
+# A bar to scroll with takes less of a window's width.
+BAR = 20
+
+
+def shown(text, suffix, width):
+    """What the browser makes of a file, in a window of this width."""
+    with tempfile.NamedTemporaryFile("w", suffix=suffix, encoding="utf-8") as page:
+        page.write(text)
         page.flush()
-        shown = subprocess.run(
+        return subprocess.run(
             ["chromium", "--headless=new", "--no-sandbox", "--disable-gpu", f"--window-size={width},900", "--dump-dom", "file://" + page.name],
             capture_output=True, text=True, check=True, timeout=120).stdout
-    found = re.search(r'<pre id="found">(.*?)</pre>', shown, re.S)
+
+
+def is_wide(svg, width):
+    """Whether a picture that is opened alone is as wide as the window."""
+    return float(re.search(r'data-width="([0-9.]+)"', shown(svg.replace("</svg>", ALONE), ".svg", width))[1]) > width - BAR
+
+
+def faults_of(svg, width):
+    found = re.search(r'<pre id="found">(.*?)</pre>', shown(PAGE % (width, svg), ".html", width), re.S)
     text = found[1].replace("&lt;", "<").replace("&gt;", ">").replace("&amp;", "&")
     return json.loads(text)
 
@@ -58,7 +76,8 @@ def main():
         svg = open(name, encoding="utf-8").read()
         for width in (800, 1600):
             found = faults_of(svg, width)
-            for fault in found["faults"]:
+            narrow = [] if is_wide(svg, width) else ["narrower than the window"]
+            for fault in found["faults"] + narrow:
                 print(f"{name} at {width}: {fault}")
                 status = 1
             print(f"{name} at {width}: {found['texts']} texts")

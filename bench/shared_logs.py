@@ -4,7 +4,13 @@
 usage: bench/shared_logs.py PROGRAM
 
 PROGRAM is the built program, whose path ./stn build prints. The logs are made in a fresh folder, which is
-removed at the end. What can't be tried here, as for lack of rights, is said so.
+removed at the end. What can't be tried here, as for lack of rights, is said so. It takes about a minute.
+
+Several programs work on one log, also while another removes its lock; 150 programs are stopped at random moments. It tries
+what a log and its lock permit; other files under the names that a save uses; logs with two names, or that may not be
+written; full disks, also under `serve`; a site that is stopped once it has replied; sessions that a signal interrupts; and
+the second address of a name. Each command that changes a log has to wait while another program holds it, and a report must
+not.
 """
 import fcntl
 import os

@@ -8,14 +8,19 @@ PROGRAM is the built program, whose path ./stn build prints. The log is made in 
 Two shells and single commands add bounds, withdraw them and ask, in turns that chance decides, and at once. Then each bound
 that was acknowledged is in the log, and none else; no id was given twice; and each question saw all that was acknowledged
 before it was asked. A stopped shell leaves the log as its last answer said, or with the change that it was asked for.
+
+A log that last changed some seconds ago is not read between two lines. If it changes then, in whichever way, the next answer
+is that of the log as it is.
 """
 import os
 import random
+import re
 import signal
 import subprocess
 import sys
 import tempfile
 import threading
+import time
 from pathlib import Path
 
 sys.path.insert(0, str(Path(__file__).resolve().parent.parent / "examples"))
@@ -24,6 +29,7 @@ from stn import Failed, Refused, Shell  # noqa: E402
 ROUNDS = 40
 TURNS = 300
 STOPPED = 60
+SETTLED = 3.5
 
 
 def check(holds, what):
@@ -123,6 +129,54 @@ def stopped(program, log):
         kept = found
 
 
+def read_by(shell):
+    """How many bytes the process of a shell has read."""
+    return int(re.search(r"^rchar: ([0-9]+)$", Path(f"/proc/{shell.process.pid}/io").read_text(), re.M)[1])
+
+
+def in_place(log, contents):
+    """Puts contents of the same length into the file."""
+    with open(log, "r+b") as file:
+        file.write(contents)
+
+
+def unseen_by_its_time(log, contents):
+    """The same, and gives the file the time back at which it was written."""
+    times = os.stat(log)
+    in_place(log, contents)
+    os.utime(log, ns=(times.st_atime_ns, times.st_mtime_ns))
+
+
+def renamed(log, contents):
+    """Puts another file in place of it."""
+    Path("other.log").write_bytes(contents)
+    os.rename("other.log", log)
+
+
+def settled(program, log):
+    """A log that nobody changed for a while: it isn't read again, and each change is seen."""
+    made = []
+    for least in "2", "3":
+        make(program, log)
+        for number in range(200):
+            Single(program, log).ask("add", "z", "s1", f"--lo={least}", f"--hi={1000 + number}")
+        made.append(Path(log).read_bytes())
+        os.remove(log)
+    check(len(made[0]) == len(made[1]), "two logs of one length")
+    for change in in_place, unseen_by_its_time, renamed:
+        Path(log).write_bytes(made[0])
+        time.sleep(SETTLED)
+        with Shell(program, log, 1) as shell:
+            check(shell.ask("next", "0") == ["run 2.000 s1"], "next")
+            before = read_by(shell)
+            for now in "0", "1", "1":
+                check(shell.ask("next", now) == ["run 2.000 s1"], "next")
+            check(read_by(shell) - before < len(made[0]), "a log that did not change was read")
+            change(log, made[1])
+            check(shell.ask("next", "1") == ["run 3.000 s1"], f"{change.__name__}: a change was not seen")
+        os.remove(log)
+
+
 def refusals(program, log):
     """What a refusal leaves, and how a shell ends."""
     make(program, log)
@@ -156,7 +210,7 @@ def main():
     if len(sys.argv) != 2:
         sys.exit(__doc__)
     program = os.path.abspath(sys.argv[1])
-    for trial in (in_turns, at_once, stopped, refusals):
+    for trial in (in_turns, at_once, settled, stopped, refusals):
         with tempfile.TemporaryDirectory(prefix="shells.") as folder:
             os.chdir(folder)
             trial(program, "a.log")

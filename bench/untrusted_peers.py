@@ -3,6 +3,9 @@
 
 usage: bench/untrusted_peers.py [PROGRAM]    with no name: the one that ./stn build makes
 It says `passed`, or what failed. It takes about a minute.
+
+Peers say nothing, send a byte now and then, read nothing, or ask without end; each session has two seconds. After each such
+peer comes an honest one, which has to be served within the limit and a few seconds more.
 """
 import os
 import re
