@@ -38,7 +38,7 @@ FORMATS = TOP / "docs" / "FORMATS.md"
 DOCUMENTS = [README, *sorted((TOP / "docs").glob("*.md")), TOP / "bench" / "README.md"]
 PROMISES = TOP / "docs" / "PROMISES.md"
 CRATE_NAMES = {crate.name for crate in CRATES.iterdir()}
-OF_TESTS = {"answers", "command_lines", "mistaken_command", "refused_command", "script_outputs", "stn_examples", "stn_refusing"}
+OF_TESTS = {"answers", "command_lines", "refused_command", "script_outputs", "stn_examples", "stn_refusing"}
 HEAD = re.compile(r"^(?P<end>\}|\});?$|^(?:pub )?(?:unsafe )?(?P<kind>impl|trait)\b(?P<owner>[^{]*)\{"
                   r"|^ *(?P<pub>pub )?(?:pub\(crate\) )?(?:unsafe )?fn (?P<name>\w+)", re.M)
 END_OF_HEAD = re.compile(r"(?:\b(?P<what>ensures|requires|decreases)(?: (?P<clause>\w+))? )?\{|;\n")
