@@ -153,6 +153,11 @@ def renamed(log, contents):
     os.rename("other.log", log)
 
 
+def earliest(asked):
+    """The earliest time of s1, as `report` prints it."""
+    return next(line.split()[1] for line in asked.ask("report") if line.startswith("s1 "))
+
+
 def settled(program, log):
     """A log that nobody changed for a while: it isn't read again, and each change is seen."""
     made = []
@@ -167,13 +172,13 @@ def settled(program, log):
         Path(log).write_bytes(made[0])
         time.sleep(SETTLED)
         with Shell(program, log, 1) as shell:
-            check(shell.ask("next", "0") == ["run 2.000 s1"], "next")
+            check(earliest(shell) == "2.000", "report")
             before = read_by(shell)
-            for now in "0", "1", "1":
-                check(shell.ask("next", now) == ["run 2.000 s1"], "next")
+            for _ in range(3):
+                check(earliest(shell) == "2.000", "report")
             check(read_by(shell) - before < len(made[0]), "a log that did not change was read")
             change(log, made[1])
-            check(shell.ask("next", "1") == ["run 3.000 s1"], f"{change.__name__}: a change was not seen")
+            check(earliest(shell) == "3.000", f"{change.__name__}: a change was not seen")
         os.remove(log)
 
 
