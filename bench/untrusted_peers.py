@@ -32,10 +32,12 @@ def check(what, holds, shown=""):
 
 
 def run(*words):
-    """A command's output with that of its errors, its status, and how long it took."""
+    """A command's output, or the line of its refusal or fault without the reason, its status, and how long it took."""
     start = time.monotonic()
     done = subprocess.run([PROGRAM, *map(str, words)], stdout=subprocess.PIPE, stderr=subprocess.STDOUT, timeout=120)
-    return done.stdout.decode(), done.returncode, time.monotonic() - start
+    lines = done.stdout.decode().splitlines(True)
+    told = lines[:1] if lines and lines[0].startswith(("fault ", "refused ")) else lines
+    return "".join(told), done.returncode, time.monotonic() - start
 
 
 def made(*words):
