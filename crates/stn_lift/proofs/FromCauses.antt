@@ -40,11 +40,9 @@ module _ (text : List ℕ) where
 
   pub plan_fault_of : (fault : PlanFault) → read.is_plan_memory fault ≡ false → IsPlanCause text fault → plan_of text ≡ Err fault
   plan_fault_of plan.TooLong some is = by_length is
-  plan_fault_of (plan.Syntax line) some is = by_line _ is
-  plan_fault_of (plan.Number line) some is = by_line _ is
-  plan_fault_of (plan.Negative line) some is = by_line _ is
   plan_fault_of plan.TooManySteps some (short, is) = plan_of-many text is.steps (le-ltb _ _ short) is.many is.found
   plan_fault_of plan.Memory some is = cc
+  plan_fault_of fault some is = by_line _ is
 
   -- of lines without a fault
   many_steps : (fault : PlanFault) → length text ≤ most_text → (steps : List PlannedStep) → steps_of (lines_of text) ≡ Ok steps
@@ -101,11 +99,8 @@ module _ (actions : List ActionSchema) (steps : List PlannedStep) where
       ap (activities actions 0) is.whole ∙ steps_then actions 0 is.earlier (is.step ∷ is.later) fault is.none_before (subst (λ n. activities actions n (is.step ∷ is.later) ≡ Err fault) (omega arith) (first_step actions (length is.earlier) is.step is.later fault is.refused))
 
   pub lift_fault_of : (fault : LiftFault) → lifted.is_lift_memory fault ≡ false → IsLiftCause actions steps fault → activities actions 0 steps ≡ Err fault
-  lift_fault_of (lifting.UnknownAction step) some is = by_step _ is
-  lift_fault_of (lifting.Arity step) some is = by_step _ is
-  lift_fault_of (lifting.DurationDiffers step) some is = by_step _ is
-  lift_fault_of (lifting.PastHorizon step) some is = by_step _ is
   lift_fault_of lifting.Memory some is = cc
+  lift_fault_of fault some is = by_step _ is
 
   pub lift_cause_for : (fault : LiftFault) → lifted.is_lift_memory fault ≡ false → activities actions 0 steps ≡ Err fault → IsLiftCause actions steps fault
   lift_cause_for fault some is = cause_of actions steps fault (subst (λ memory. Unless memory (activities actions 0 steps ≡ Err fault)) (sym some) is)

@@ -4,36 +4,23 @@ use Rattle.stn_text.specs.Faults.{Fails}
 use Rattle.stn_pddl.specs.{declared.fault.DomainFault.DomainFault, Schemas.ActionSchema, Domains.domain_of}
 use Rattle.stn_pddl.specs.declared.fault.DomainFault.TheVariants as domain_fault
 use Rattle.stn_pddl.specs.Faults as pddl
-use Rattle.stn_lift.specs.{declared.{plan.fault.PlanFault.PlanFault, fault.{LiftFault.{LiftFault, TheVariants.{UnknownAction, Arity, DurationDiffers, PastHorizon, Memory}}, BaseFault.TheVariants.{Domain, Plan, Lift, TooManySteps}}}, Plan.Steps.{PlannedStep, plan_of}, Faults.{of_domain, of_plan, of_lifting}, Activities.{Activity, activities}, PlanSource.{PlanSource, files, of_lift, steps_in, lifted, activities_of, source_with, source_with_lifted, base_of, is_base_memory}}
+use Rattle.stn_lift.specs.{declared.{plan.fault.PlanFault.PlanFault, fault.{LiftFault.{LiftFault, TheVariants.Memory}, BaseFault.TheVariants.{Domain, Plan, Lift, TooManySteps}}}, Plan.Steps.{PlannedStep, plan_of}, Faults.{of_domain, of_plan, of_lifting}, Activities.{Activity, activities}, PlanSource.{PlanSource, files, of_lift, steps_in, lifted, activities_of, source_with, source_with_lifted, base_of, is_base_memory}}
 use Rattle.stn_lift.specs.declared.plan.fault.PlanFault.TheVariants as plan_fault
 use Rattle.stn_lift.specs.Plan.Steps as timed
 use Rattle.stn_lift.specs.Activities as lifting
 
 -- a fault of a text or of a step is not that a bare plan has too many steps
 pub domain_not_many : (fault : DomainFault) → of_domain fault ≡ TooManySteps → ⊥
-domain_not_many domain_fault.TooLong e = cc
-domain_not_many (domain_fault.Syntax line) e = cc
-domain_not_many (domain_fault.TooDeep line) e = cc
-domain_not_many (domain_fault.Unsupported line) e = cc
-domain_not_many (domain_fault.Number line) e = cc
-domain_not_many (domain_fault.Twice line) e = cc
-domain_not_many (domain_fault.Variable line) e = cc
 domain_not_many domain_fault.Memory e = cc
+domain_not_many fault e = cc
 
 pub plan_not_many : (fault : PlanFault) → of_plan fault ≡ TooManySteps → ⊥
-plan_not_many plan_fault.TooLong e = cc
-plan_not_many (plan_fault.Syntax line) e = cc
-plan_not_many (plan_fault.Number line) e = cc
-plan_not_many (plan_fault.Negative line) e = cc
-plan_not_many plan_fault.TooManySteps e = cc
 plan_not_many plan_fault.Memory e = cc
+plan_not_many fault e = cc
 
 pub lifting_not_many : (fault : LiftFault) → of_lifting fault ≡ TooManySteps → ⊥
-lifting_not_many (UnknownAction step) e = cc
-lifting_not_many (Arity step) e = cc
-lifting_not_many (DurationDiffers step) e = cc
-lifting_not_many (PastHorizon step) e = cc
 lifting_not_many Memory e = cc
+lifting_not_many fault e = cc
 
 module _ (domain plan : List ℕ) where
   -- a domain without a fault, and a plan without one
@@ -54,14 +41,8 @@ module _ (domain plan : List ℕ) where
   refused_at_domain fault is = ap (λ r. source_with (files domain plan) (steps_in r (plan_of plan))) is
 
   pub domain_refused : (fault : DomainFault) → Fails pddl.is_memory fault (domain_of domain) → Fails is_base_memory (of_domain fault) (base_of (files domain plan))
-  domain_refused domain_fault.TooLong h = refused_at_domain _ h
-  domain_refused (domain_fault.Syntax line) h = refused_at_domain _ h
-  domain_refused (domain_fault.TooDeep line) h = refused_at_domain _ h
-  domain_refused (domain_fault.Unsupported line) h = refused_at_domain _ h
-  domain_refused (domain_fault.Number line) h = refused_at_domain _ h
-  domain_refused (domain_fault.Twice line) h = refused_at_domain _ h
-  domain_refused (domain_fault.Variable line) h = refused_at_domain _ h
   domain_refused domain_fault.Memory h = tt
+  domain_refused fault h = refused_at_domain _ h
 
   module _ (actions : List ActionSchema) (domain_is : domain_of domain ≡ Ok actions) where
     -- a plan with a fault
@@ -72,12 +53,8 @@ module _ (domain plan : List ℕ) where
         ∙ ap (λ r. source_with (files domain plan) (steps_in (Ok actions) r)) is
 
     pub plan_refused : (fault : PlanFault) → Fails timed.is_plan_memory fault (plan_of plan) → Fails is_base_memory (of_plan fault) (base_of (files domain plan))
-    plan_refused plan_fault.TooLong h = refused_at_plan _ h
-    plan_refused (plan_fault.Syntax line) h = refused_at_plan _ h
-    plan_refused (plan_fault.Number line) h = refused_at_plan _ h
-    plan_refused (plan_fault.Negative line) h = refused_at_plan _ h
-    plan_refused plan_fault.TooManySteps h = refused_at_plan _ h
     plan_refused plan_fault.Memory h = tt
+    plan_refused fault h = refused_at_plan _ h
 
     -- a step with a fault
     pub steps_refused : (steps : List PlannedStep) (other : PlanSource) (fault : LiftFault) → plan_of plan ≡ Ok steps
@@ -91,11 +68,8 @@ module _ (domain plan : List ℕ) where
 
         by : (fault : LiftFault) (found : Result (List Activity) LiftFault) → Fails lifting.is_lift_memory fault (source_with_lifted other found)
             → Fails is_base_memory (of_lifting fault) (source_with (files domain plan) (of_lift found))
-        by (UnknownAction step) found h = refused _ found h
-        by (Arity step) found h = refused _ found h
-        by (DurationDiffers step) found h = refused _ found h
-        by (PastHorizon step) found h = refused _ found h
         by Memory found h = tt
+        by fault found h = refused _ found h
 
     -- no step with a fault
     pub base_given : (steps : List PlannedStep) (found : List Activity) → plan_of plan ≡ Ok steps → activities actions 0 steps ≡ Ok found

@@ -102,14 +102,11 @@ origin text fault is = by (tree_of text) refl is
 
 -- a fault that neither the bytes have nor the beginning
 is_of_part : DomainFault → Bool
-is_of_part TooLong = false
-is_of_part (Syntax line) = false
-is_of_part (TooDeep line) = false
 is_of_part (Unsupported line) = true
 is_of_part (Number line) = true
 is_of_part (Twice line) = true
 is_of_part (Variable line) = true
-is_of_part Memory = false
+is_of_part fault = false
 
 module _ (text : List ℕ) where
   part_alone : (fault : DomainFault) → is_of_part fault ≡ true → Origin text fault → IsFirstRefusedPart text fault
@@ -118,8 +115,7 @@ module _ (text : List ℕ) where
     where
       by : (first : TreeFault) → is_of_part (of_tree first) ≡ true → IsFirstRefusedPart text fault
       by tree.TooLong is = cc
-      by (tree.Syntax line) is = cc
-      by (tree.TooDeep line) is = cc
+      by first is = cc
   part_alone fault of_part (other line list same) = let no : false ≡ true = ap is_of_part same ∙ of_part in cc
   part_alone fault of_part (forms found form) = found
 
@@ -149,8 +145,5 @@ module _ (text : List ℕ) where
   cause_of TooLong is = too_long (origin text TooLong is)
   cause_of (Syntax line) is = syntax_at line (origin text (Syntax line) is)
   cause_of (TooDeep line) is = too_deep line (origin text (TooDeep line) is)
-  cause_of (Unsupported line) is = part_alone _ refl (origin text (Unsupported line) is)
-  cause_of (Number line) is = part_alone _ refl (origin text (Number line) is)
-  cause_of (Twice line) is = part_alone _ refl (origin text (Twice line) is)
-  cause_of (Variable line) is = part_alone _ refl (origin text (Variable line) is)
   cause_of Memory is = tt
+  cause_of fault is = part_alone _ refl (origin text fault is)

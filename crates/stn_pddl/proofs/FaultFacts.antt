@@ -1,7 +1,7 @@
 -- The faults that the forms of a domain have.
 use Rattle.std.{proofs.{Common.{arith, ℕ, Bool, true, false, cond, ◌==◌, ◌&&◌, List, [], ◌∷◌, ◌++◌, is_some, Option, Some, None, Result, Ok, Err, ℤ, pos, int_lt, position, codes}, lemmas.Grind.common_steps}, specs.List.list_any}
 use Rattle.stn_time.specs.{declared.reading.TimeFault.TimeFault, TimeOf.time_of}
-use Rattle.stn_pddl.specs.{Tree.{Names.is_same_word, Trees.{Trees, End, Word, Group, how_many}}, declared.{fault.DomainFault.{DomainFault, TheVariants.{TooLong, Syntax, TooDeep, Unsupported, Number, Twice, Variable, Memory}}, action.{Label.Label, Side.{Side, TheVariants.{Condition, Effect}}}, word.{Head.Head, Item.Item, Field.Field, Key.Key, Section.Section}}, Atoms.{parameter_at, term, terms, atom, equality}, Domains.{part, parts}, Words.{is_name, is_variable, is_key, head_of, item_of, key_of, section_of}, Schemas.{TermSchema, ActionSchema, Constant, with_literal}, Conditions.{Meaning, row, tree, equal_tree, negated_head, negated_tree, negated_first, negation, plain_head, label_of, one_labelled, labelled, timed_head, equal_at}, Fields.{Listing, Values, parameters, parameters_behind_type, not_negative, constant, duration, value_of, with_value, fields, field_value}, Actions.{timed_value, action_of_lists, action_of_values, named_action, is_taken, action}}
+use Rattle.stn_pddl.specs.{Tree.{Names.is_same_word, Trees.{Trees, End, Word, Group, how_many}}, declared.{fault.DomainFault.{DomainFault, TheVariants.{TooLong, Syntax, TooDeep, Unsupported, Number, Twice, Memory}}, action.{Label.Label, Side.{Side, TheVariants.{Condition, Effect}}}, word.{Head.Head, Item.Item, Field.Field, Key.Key, Section.Section}}, Atoms.{parameter_at, term, terms, atom, equality}, Domains.{part, parts}, Words.{is_name, is_variable, is_key, head_of, item_of, key_of, section_of}, Schemas.{TermSchema, ActionSchema, Constant, with_literal}, Conditions.{Meaning, row, tree, equal_tree, negated_head, negated_tree, negated_first, negation, plain_head, label_of, one_labelled, labelled, timed_head, equal_at}, Fields.{Listing, Values, parameters, parameters_behind_type, not_negative, constant, duration, value_of, with_value, fields, field_value}, Actions.{timed_value, action_of_lists, action_of_values, named_action, is_taken, action}}
 use Rattle.stn_pddl.specs.declared.word.Head.TheVariants as head
 use Rattle.stn_pddl.specs.declared.word.Item.TheVariants as item
 use Rattle.stn_pddl.specs.declared.word.Key.TheVariants as key
@@ -11,13 +11,9 @@ use Rattle.stn_text.specs.Faults.{◌>>=◌}
 -- a fault of the forms: the text is not too long, its brackets are not too deep, and there is memory
 abbrev pub IsFormFault : DomainFault → Type 0
 IsFormFault TooLong = ⊥
-IsFormFault (Syntax line) = Unit {0}
 IsFormFault (TooDeep line) = ⊥
-IsFormFault (Unsupported line) = Unit {0}
-IsFormFault (Number line) = Unit {0}
-IsFormFault (Twice line) = Unit {0}
-IsFormFault (Variable line) = Unit {0}
 IsFormFault Memory = ⊥
+IsFormFault other = Unit {0}
 
 -- a value, or a fault of the forms
 abbrev pub OfForms : {A : Type 0} → Result A DomainFault → Type 0
@@ -66,14 +62,11 @@ module _ (label : Label) (a : ActionSchema) where
   negated-forms line (Word at word rest) = by (head_of word)
     where
       by : (k : Head) → OfForms (negated_head label line word rest a k)
-      by head.And = tt
-      by head.Not = tt
       by head.Equal = equal-forms line rest
-      by head.OtherLogic = tt
-      by head.NoName = tt
       by head.At = atom-forms true word rest
       by head.Over = atom-forms true word rest
       by head.Name = atom-forms true word rest
+      by other = tt
 
   negation-forms : (line : ℕ) (rest : Trees) → OfForms (negation label line rest a)
   unfolding negation
@@ -108,9 +101,7 @@ plain-forms label conjunction line word rest a all head.Not = negation-forms lab
 plain-forms label conjunction line word rest a all head.Equal = equal-forms label a line rest
 plain-forms label conjunction line word rest a all head.OtherLogic = tt
 plain-forms label conjunction line word rest a all head.NoName = tt
-plain-forms label conjunction line word rest a all head.At = atom-forms label a false word rest
-plain-forms label conjunction line word rest a all head.Over = atom-forms label a false word rest
-plain-forms label conjunction line word rest a all head.Name = atom-forms label a false word rest
+plain-forms label conjunction line word rest a all other = atom-forms label a false word rest
 
 labelled-forms : (side : Side) (time : Head) (line : ℕ) (rest : Trees) (a : ActionSchema) → OfForms (labelled side time line rest a)
 unfolding labelled
@@ -130,11 +121,8 @@ timed-forms : (side : Side) → OfFormsEach (timed_head side)
 timed-forms side conjunction line word rest a all head.And = all
 timed-forms side conjunction line word rest a all head.At = labelled-forms side head.At line rest a
 timed-forms side conjunction line word rest a all head.Over = labelled-forms side head.Over line rest a
-timed-forms side conjunction line word rest a all head.OtherLogic = tt
 timed-forms side conjunction line word rest a all head.Equal = equal_at-forms side line
-timed-forms side conjunction line word rest a all head.Not = tt
-timed-forms side conjunction line word rest a all head.NoName = tt
-timed-forms side conjunction line word rest a all head.Name = tt
+timed-forms side conjunction line word rest a all other = tt
 
 module _ (word : List ℕ) (line : ℕ) (next : Trees) (before : List (List ℕ)) where
   parameter-by : ((names : List (List ℕ)) → OfForms (parameters next names)) → OfForms (parameters_behind_type line next before) → (k : Item) → OfForms (elim k as (λ _. Result (List (List ℕ)) DomainFault) [
@@ -233,10 +221,8 @@ part-forms line (Word at word rest) before = by (section_of word)
       | section.Unknown ↦ Err (Unsupported line)
       | section.NoSection ↦ Err (Syntax line)
     ])
-    by section.Skipped = tt
     by section.Action = forms-then (action line rest before) (λ found. Ok (before ++ found ∷ [])) (action-forms line rest before) (λ found. tt)
-    by section.Unknown = tt
-    by section.NoSection = tt
+    by other = tt
 
 pub parts-forms : (trees : Trees) (before : List ActionSchema) → OfForms (parts trees before)
 unfolding parts

@@ -1,7 +1,7 @@
 -- The cause of a fault gives the fault.
 use Rattle.std.proofs.{Common.{◌≡◌, ◌<◌, ℕ, ◌⊎◌, inl, inr, Bool, true, false, cond, nat_lt, ◌&&◌, List, [], length, Ok, Err, refl, sym, ap, ◌∙◌, arith, codes}, lemmas.Bool.Decides.nat_tests}
 use Rattle.stn_text.specs.Faults.{◌>>=◌}
-use Rattle.stn_pddl.{specs.{declared.{tree.scan.TreeFault.TreeFault, fault.DomainFault.{DomainFault, TheVariants.{TooLong, Syntax, TooDeep, Unsupported, Number, Twice, Variable, Memory}}}, Tree.{Names.is_same_word, Trees.{Trees, End, Word, Group}, Scan.{most_text, tree_of}}, Faults.{of_tree, is_memory}, Schemas.ActionSchema, Domains.{part, parts, is_title, root, domain_of_tree, domain_of_bytes, domain_of}, Causes.{row_then, BeginsDomain, IsListAt, IsOtherList, IsRefusedPart, IsFirstRefusedPart, IsDomainCause}}, proofs.{Kept.bind_ok, Causes.cause_of}}
+use Rattle.stn_pddl.{specs.{declared.{tree.scan.TreeFault.TreeFault, fault.DomainFault.{DomainFault, TheVariants.{TooLong, Syntax, TooDeep, Memory}}}, Tree.{Names.is_same_word, Trees.{Trees, End, Word, Group}, Scan.{most_text, tree_of}}, Faults.{of_tree, is_memory}, Schemas.ActionSchema, Domains.{part, parts, is_title, root, domain_of_tree, domain_of_bytes, domain_of}, Causes.{row_then, BeginsDomain, IsListAt, IsOtherList, IsRefusedPart, IsFirstRefusedPart, IsDomainCause}}, proofs.{Kept.bind_ok, Causes.cause_of}}
 use Rattle.stn_pddl.specs.declared.tree.scan.TreeFault.TheVariants as tree
 
 refused_row : (row : Trees) (before : List ActionSchema) (fault : DomainFault) → IsRefusedPart row before fault → parts row before ≡ Err fault
@@ -66,18 +66,9 @@ module _ (text : List ℕ) where
   fault_of TooLong some is = by_length is
   fault_of (Syntax line) some is = by_syntax line is
   fault_of (TooDeep line) some is = by_bytes (tree.TooDeep line) is
-  fault_of (Unsupported line) some is = by_part _ is
-  fault_of (Number line) some is = by_part _ is
-  fault_of (Twice line) some is = by_part _ is
-  fault_of (Variable line) some is = by_part _ is
   fault_of Memory some is = cc
+  fault_of fault some is = by_part _ is
 
   pub cause_for : (fault : DomainFault) → is_memory fault ≡ false → domain_of text ≡ Err fault → IsDomainCause text fault
-  cause_for TooLong some is = cause_of text TooLong is
-  cause_for (Syntax line) some is = cause_of text (Syntax line) is
-  cause_for (TooDeep line) some is = cause_of text (TooDeep line) is
-  cause_for (Unsupported line) some is = cause_of text (Unsupported line) is
-  cause_for (Number line) some is = cause_of text (Number line) is
-  cause_for (Twice line) some is = cause_of text (Twice line) is
-  cause_for (Variable line) some is = cause_of text (Variable line) is
   cause_for Memory some is = cc
+  cause_for fault some is = cause_of text fault is

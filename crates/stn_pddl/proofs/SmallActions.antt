@@ -1,7 +1,7 @@
 -- Conditions and effects in small letters.
 use Rattle.std.proofs.{Common.{arith, ◌≡◌, ℕ, Bool, true, false, cond, List, [], ◌∷◌, ◌++◌, map, Option, Some, None, Result, Ok, Err, refl, sym, ap, ◌∙◌, position, codes}, lemmas.{Grind.common_steps, List.map-append}}
 use Rattle.stn_text.specs.Faults.{◌>>=◌}
-use Rattle.stn_pddl.{specs.{Tree.{Names.{folded, is_same_word}, Trees.{Trees, End, Word, Group, how_many}, Case.in_small}, declared.{fault.DomainFault.{DomainFault, TheVariants.Syntax}, action.{Label.{Label, TheVariants.{StartCondition, OverAll, EndCondition, StartEffect, EndEffect}}, Side.{Side, TheVariants.{Condition, Effect}}}, word.Head.Head}, Words.{is_variable, is_key, head_of}, Atoms.{parameter_at, term, terms, atom, equality}, Case.{term_in_small, atom_in_small, action_in_small}, Schemas.{TermSchema, AtomSchema, ActionSchema, Constant, with_literal}, Conditions.{Meaning, row, tree, equal_tree, negated_head, negated_tree, negated_first, negation, plain_head, label_of, one_labelled, labelled, timed_head}}, proofs.SmallWords.{same_first, same_variable, same_key, same_position, same_head}}
+use Rattle.stn_pddl.{specs.{Tree.{Names.{folded, is_same_word}, Trees.{Trees, End, Word, Group, how_many}, Case.in_small}, declared.{fault.DomainFault.{DomainFault, TheVariants.Syntax}, action.{Label.{Label, TheVariants.{StartCondition, OverAll, EndCondition, StartEffect, EndEffect}}, Side.{Side, TheVariants.{Condition}}}, word.Head.Head}, Words.{is_variable, is_key, head_of}, Atoms.{parameter_at, term, terms, atom, equality}, Case.{term_in_small, atom_in_small, action_in_small}, Schemas.{TermSchema, AtomSchema, ActionSchema, Constant, with_literal}, Conditions.{Meaning, row, tree, equal_tree, negated_head, negated_tree, negated_first, negation, plain_head, label_of, one_labelled, labelled, timed_head}}, proofs.SmallWords.{same_first, same_variable, same_key, same_position, same_head}}
 use Rattle.stn_pddl.specs.declared.word.Head.TheVariants as head
 
 -- the same fault, or what a function makes of the value
@@ -73,14 +73,11 @@ module _ (label : Label) (a : ActionSchema) where
   small_equal line rest = grind (arith, common_steps, mapped-either, same_many, mapped-then, small_terms)
 
   small_negated_by : (line : ℕ) (word : List ℕ) (rest : Trees) (k : Head) → negated_head label line (folded word) (in_small rest) (action_in_small a) k ≡ mapped action_in_small (negated_head label line word rest a k)
-  small_negated_by line word rest head.And = refl
-  small_negated_by line word rest head.Not = refl
   small_negated_by line word rest head.Equal = small_equal line rest
-  small_negated_by line word rest head.OtherLogic = refl
-  small_negated_by line word rest head.NoName = refl
   small_negated_by line word rest head.At = small_atom true word rest
   small_negated_by line word rest head.Over = small_atom true word rest
   small_negated_by line word rest head.Name = small_atom true word rest
+  small_negated_by line word rest other = refl
 
   small_negated : (line : ℕ) (children : Trees) → negated_tree label line (in_small children) (action_in_small a) ≡ mapped action_in_small (negated_tree label line children a)
   unfolding negated_tree in_small
@@ -127,20 +124,12 @@ small_plain label one other line word rest a all head.Not = small_negation label
 small_plain label one other line word rest a all head.Equal = small_equal label a line rest
 small_plain label one other line word rest a all head.OtherLogic = refl
 small_plain label one other line word rest a all head.NoName = refl
-small_plain label one other line word rest a all head.At = small_atom label a false word rest
-small_plain label one other line word rest a all head.Over = small_atom label a false word rest
-small_plain label one other line word rest a all head.Name = small_atom label a false word rest
+small_plain label one other line word rest a all kind = small_atom label a false word rest
 
 small_label : (side : Side) (time : Head) (word : List ℕ) → label_of side time (folded word) ≡ label_of side time word
 small_label side head.At word = grind (arith, common_steps, same_first)
 small_label Condition head.Over word = ap (λ t. cond t (Some OverAll) None) (same_first word (codes "all"))
-small_label Effect head.Over word = refl
-small_label side head.And word = refl
-small_label side head.Not word = refl
-small_label side head.Equal word = refl
-small_label side head.OtherLogic word = refl
-small_label side head.NoName word = refl
-small_label side head.Name word = refl
+small_label side other word = refl
 
 small_one : (found : Option Label) (line : ℕ) (rest : Trees) (a : ActionSchema) → one_labelled found line (in_small rest) (action_in_small a) ≡ mapped action_in_small (one_labelled found line rest a)
 small_one None line rest a = refl
@@ -157,11 +146,7 @@ small_timed : (side : Side) → SmallEach (timed_head side)
 small_timed side one other line word rest a all head.And = all
 small_timed side one other line word rest a all head.At = small_labelled side head.At line rest a
 small_timed side one other line word rest a all head.Over = small_labelled side head.Over line rest a
-small_timed side one other line word rest a all head.OtherLogic = refl
-small_timed side one other line word rest a all head.Equal = refl
-small_timed side one other line word rest a all head.Not = refl
-small_timed side one other line word rest a all head.NoName = refl
-small_timed side one other line word rest a all head.Name = refl
+small_timed side one other line word rest a all kind = refl
 
 pub small_timed_tree : (side : Side) (line : ℕ) (trees : Trees) (a : ActionSchema) → tree (timed_head side) line (in_small trees) (action_in_small a) ≡ mapped action_in_small (tree (timed_head side) line trees a)
 small_timed_tree side = small_tree (timed_head side) (small_timed side)

@@ -77,9 +77,7 @@ same_value field.Effect values = same_some values.effect
 small_with : (name : Field) (listing : Listing) (values : Values) → with_value name (small_listing listing) (small_values values) ≡ small_values (with_value name listing values)
 unfolding small_values
 small_with field.Parameters listing values = refl
-small_with field.Duration listing values = refl
-small_with field.Condition listing values = refl
-small_with field.Effect listing values = refl
+small_with name listing values = refl
 
 abbrev field_by : ℕ → Trees → Values → Key → Result Values DomainFault
 field_by line next before k = elim k as (λ _. Result Values DomainFault) [

@@ -1,6 +1,6 @@
 -- The faults of a text, and what a text without one is.
 use Rattle.std.proofs.{Common.{◌≡◌, ℕ, ◌+◌, ◌-◌, ◌<◌, ◌≤◌, Bool, true, false, cond, nat_lt, List, [], ◌∷◌, length, Result, Ok, Err, refl, ap, subst, arith}, lemmas.Bool.{ltb-true, Decides.nat_tests}}
-use Rattle.stn_pddl.{specs.{declared.tree.{bytes.Kind.{Kind, TheVariants.{Blank, Open, Close, Letter, Stray}}, scan.{TreeFault.{TreeFault, TheVariants.{TooLong, Syntax, TooDeep}}, Place.{Place, TheVariants.{Before, Inside, After}}}}, Tree.{Bytes.{kind_in, comment_after, line_after}, Trees.{Trees, rows_from}, Scan.{most_text, place_after, scanned, tree_of, IsOneList}}}, proofs.tree.Scanned.one-list}
+use Rattle.stn_pddl.{specs.{declared.tree.{bytes.Kind.{Kind, TheVariants.{Open, Close, Letter}}, scan.{TreeFault.{TreeFault, TheVariants.{TooLong, Syntax, TooDeep}}, Place.{Place, TheVariants.{Before, Inside, After}}}}, Tree.{Bytes.{kind_in, comment_after, line_after}, Trees.{Trees, rows_from}, Scan.{most_text, place_after, scanned, tree_of, IsOneList}}}, proofs.tree.Scanned.one-list}
 use Rattle.stn_text.specs.Faults.{◌>>=◌}
 
 -- a fault of a byte, or of an end that comes too early
@@ -23,17 +23,10 @@ bytes-either false one other first second = second
 
 place_after-bytes : (kind : Kind) (line : ℕ) (place : Place) → OfBytes (place_after kind line place)
 unfolding place_after
-place_after-bytes Blank line place = tt
-place_after-bytes Open line Before = tt
 place_after-bytes Open line (Inside depth) = bytes-either (nat_lt depth 32) (Ok (Inside (depth + 1))) (Err (TooDeep line)) tt tt
-place_after-bytes Open line After = tt
-place_after-bytes Close line Before = tt
 place_after-bytes Close line (Inside depth) = bytes-either (nat_lt 1 depth) (Ok (Inside (depth - 1))) (Ok After) tt tt
-place_after-bytes Close line After = tt
 place_after-bytes Letter line Before = tt
-place_after-bytes Letter line (Inside depth) = tt
-place_after-bytes Letter line After = tt
-place_after-bytes Stray line place = tt
+place_after-bytes other line place = tt
 
 scanned-bytes : (comment : Bool) (line : ℕ) (place : Place) (text : List ℕ) → OfBytes (scanned comment line place text)
 unfolding scanned

@@ -1,6 +1,6 @@
 -- The first fault of a text lies at the first byte after which no text can go on, or at its end.
 use Rattle.std.proofs.{Common.{◌≡◌, ℕ, zero, suc, ◌+◌, ◌-◌, ◌≤◌, Bool, true, false, cond, nat_lt, List, [], ◌∷◌, ◌++◌, length, fold, Result, Ok, Err, IsOk, refl, sym, ap, subst, ◌∙◌, arith}, lemmas.Bool.Decides.nat_tests}
-use Rattle.stn_pddl.{specs.{declared.tree.{bytes.Kind.{Kind, TheVariants.{Blank, Open, Close, Letter, Stray}}, scan.{TreeFault.{TreeFault, TheVariants.{Syntax, TooDeep}}, Place.{Place, TheVariants.{Before, Inside, After}}}}, Tree.{Bytes.{kind_of, kind_in, comment_after, line_after}, Scan.{most_text, place_after, ends_at, scanned, tree_of}, FirstFault.{IsOnLine, IsFirstFault, at_byte, at_end}}}, proofs.tree.{Scanned.{scanned-next, scanned-fault}, Faults.{tree_of-refused, tree_of-scanned}}}
+use Rattle.stn_pddl.{specs.{declared.tree.{bytes.Kind.{Kind, TheVariants.{Blank, Open, Close, Letter}}, scan.{TreeFault.{TreeFault, TheVariants.{Syntax, TooDeep}}, Place.{Place, TheVariants.{Before, Inside, After}}}}, Tree.{Bytes.{kind_of, kind_in, comment_after, line_after}, Scan.{most_text, place_after, ends_at, scanned, tree_of}, FirstFault.{IsOnLine, IsFirstFault, at_byte, at_end}}}, proofs.tree.{Scanned.{scanned-next, scanned-fault}, Faults.{tree_of-refused, tree_of-scanned}}}
 use Rattle.stn_text.specs.Faults.{◌>>=◌}
 
 -- the brackets that close so many lists
@@ -55,14 +55,9 @@ place_after-line kind line place fault is = by kind place is
     by Blank place e = cc
     by Open Before e = cc
     by Open (Inside depth) e = opened depth (nat_lt depth 32) e
-    by Open After e = syntax_here (cc)
-    by Close Before e = syntax_here (cc)
     by Close (Inside depth) e = ended depth (nat_lt 1 depth) e
-    by Close After e = syntax_here (cc)
-    by Letter Before e = syntax_here (cc)
     by Letter (Inside depth) e = cc
-    by Letter After e = syntax_here (cc)
-    by Stray place e = syntax_here (cc)
+    by kind place e = syntax_here (cc)
 
 ends_at-line : (line : ℕ) (place : Place) (fault : TreeFault) → ends_at line place ≡ Err fault → fault ≡ Syntax line
 ends_at-line line Before fault is = let same : Syntax line ≡ fault = cc in sym same

@@ -1,7 +1,7 @@
 -- A row of trees that is written reads as that row.
 use Rattle.std.proofs.{lemmas.{Grind.common_steps, Bool.Decides.nat_tests}, Common.{◌≡◌, ◌≢◌, ℕ, zero, suc, ◌+◌, ◌-◌, ◌<◌, ◌≤◌, Bool, true, false, cond, nat_lt, List, [], ◌∷◌, ◌++◌, length, replicate, Result, Ok, Err, refl, ap, ◌∙◌, append_assoc, arith}}
 use Rattle.stn_text.specs.Bytes.{line_feed}
-use Rattle.stn_pddl.{specs.{declared.tree.{bytes.Kind.{Kind, TheVariants.{Blank, Open, Close, Letter, Stray}}, scan.{TreeFault.{TreeFault, TheVariants.TooDeep}, Place.{Place, TheVariants.{Before, Inside, After}}}}, Tree.{Bytes.{kind_of, comment_after, line_after}, Scan.{most_text, place_after, scanned, tree_of}, Written.{end_line, written, IsWord, IsWritable}, Trees.{Trees, End, Word, Group, Rows, before_open, is_letter, begins_word, word_len, rows_from}}}, proofs.tree.{Rows.{comment_after-token, line_after-token, rows-open, rows-close, rows-blank, before_word, rows-word}, Scanned.scanned-next, Faults.tree_of-Ok}}
+use Rattle.stn_pddl.{specs.{declared.tree.{bytes.Kind.{Kind, TheVariants.{Blank, Letter}}, scan.{TreeFault.{TreeFault, TheVariants.TooDeep}, Place.{Place, TheVariants.{Before, Inside, After}}}}, Tree.{Bytes.{kind_of, comment_after, line_after}, Scan.{most_text, place_after, scanned, tree_of}, Written.{end_line, written, IsWord, IsWritable}, Trees.{Trees, End, Word, Group, Rows, before_open, is_letter, begins_word, word_len, rows_from}}}, proofs.tree.{Rows.{comment_after-token, line_after-token, rows-open, rows-close, rows-blank, before_word, rows-word}, Scanned.scanned-next, Faults.tree_of-Ok}}
 
 -- a row, and one around
 abbrev with_row : Trees → Rows → Rows
@@ -42,10 +42,7 @@ letter-of b word is = by (kind_of b) is
   where
     by : (kind : Kind) → cond (is_letter kind) (word_len word + 1) 0 ≡ suc (length word) → (kind ≡ Letter) × (word_len word ≡ length word)
     by Letter e = (refl, omega (arith, e))
-    by Blank e = absurd (omega (arith, e))
-    by Open e = absurd (omega (arith, e))
-    by Close e = absurd (omega (arith, e))
-    by Stray e = absurd (omega (arith, e))
+    by other e = absurd (omega (arith, e))
 
 word_len-space : (word bytes : List ℕ) → word_len word ≡ length word → word_len (word ++ 32 ∷ bytes) ≡ length word
 unfolding word_len kind_of

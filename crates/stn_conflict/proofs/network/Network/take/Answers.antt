@@ -1,4 +1,4 @@
-use Rattle.std.proofs.{Common.{◌≡◌, ◌+◌, [], ◌∷◌, ◌++◌, true, set, refl, sym, subst, ap, length, take, ◌∙◌, arith}, Math.Seq.take-append_seam, lemmas.List.length-set}
+use Rattle.std.proofs.{Common.{◌≡◌, ◌+◌, [], ◌∷◌, ◌++◌, true, set, refl, sym, subst, ap, length, take, ◌∙◌, arith}, Math.Seq.take-append_seam, lemmas.{Bool.true≢false, List.length-set}}
 use Rattle.stn_net.specs.{Difference.NamesEvents, Schedule.HasSchedule}
 use Rattle.stn_conflict.{specs.{Listing.ListedBounds, Relaxation.{AreDistances, AreFirstRows, HasTables, IsRelaxedBut, IsSearch}}, proofs.{Relaxing.{distances_relaxed, estimates_push, network_more, relaxed_push}, Rows.rows_longer, network.Network.take.{Given.Over, Goals.After-deref}}}
 use Rattle.stn_conflict.proofs.network.Network.take.Goals as goal
@@ -96,3 +96,6 @@ returns-in-Ok-true-clause-possible g c =
     let place = (goal.at.returns-in-Ok-true-clause-possible g c).After-deref in
     let fits = subst HasSchedule (longer g place) (c.in-Ok-true.ensures.possible.0 c.in-Ok-true.field-0-test) in
     ((λ yes. subst (λ (l : ListedBounds). HasSchedule (l.bounds ++ c.args.bound ∷ [])) c.self.view_is fits), (λ has. refl))
+
+pub returns-in-Ok-true-clause-refused : goal.returns-in-Ok-true-clause-refused
+returns-in-Ok-true-clause-refused g c = λ refused. absurd (true≢false refused)

@@ -1,14 +1,14 @@
-use Rattle.std.proofs.{Common.{◌+◌, ◌<◌, length, arith}, lemmas.Bool.{leb-true, Decides.nat_tests}}
-use Rattle.stn_records.{specs.Content.known_count, proofs.Outcomes.not_full}
+use Rattle.std.proofs.{Common.{◌+◌, ◌<◌, length, arith}, lemmas.Bool.{leb-true, le-leb}}
+use Rattle.stn_records.{specs.Content.{most_known, known_count}, proofs.Outcomes.not_full}
 use Rattle.stn_records.proofs.records.Records.is_full.Goals as goal
 
 -- both lists are too short
 pub returns-else-added-replaced-ge-MOST_KNOWN-clause-full : goal.returns-else-added-replaced-ge-MOST_KNOWN-clause-full
 returns-else-added-replaced-ge-MOST_KNOWN-clause-full g c =
-    let few : known_count c.args.self.now < 4096 = not_full c.args.self.now c.added-added.result.now c.replaced-replaced.result.now c.added-added.ensures.value c.replaced-replaced.ensures.value c.if-added-replaced-ge-MOST_KNOWN.false in
-    (λ long. let many = leb-true 4096 (length c.added-added.result.now + length c.replaced-replaced.result.now) long in absurd (omega arith), λ full. absurd (omega arith))
+    let few : known_count c.args.self.now < most_known = not_full c.args.self.now c.added-added.result.now c.replaced-replaced.result.now c.added-added.ensures.value c.replaced-replaced.ensures.value c.if-added-replaced-ge-MOST_KNOWN.false in
+    (λ long. let many = leb-true most_known (length c.added-added.result.now + length c.replaced-replaced.result.now) long in absurd (omega arith), λ full. absurd (omega arith))
 
 -- the ids are counted
 pub returns-then-added-replaced-ge-MOST_KNOWN-clause-full : goal.returns-then-added-replaced-ge-MOST_KNOWN-clause-full
 returns-then-added-replaced-ge-MOST_KNOWN-clause-full g c =
-    ((λ many. let all = leb-true 4096 c.known.result many in omega (arith, c.known.ensures.count, c.known.ensures.most)), (λ full. grind (arith, nat_tests, c.known.ensures.count, full)))
+    ((λ many. let all = leb-true most_known c.known.result many in omega (arith, c.known.ensures.count, c.known.ensures.most)), (λ full. le-leb most_known c.known.result (omega (arith, c.known.ensures.count, full))))
