@@ -1,6 +1,7 @@
 pub mod Events
 mod Ids
 pub mod Foresight
+pub mod Foreseen
 pub mod OneSaid
 pub mod Alike
 pub mod EachRead

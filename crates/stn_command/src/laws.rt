@@ -1,12 +1,13 @@
-ghost use Rattle.std.specs.Prelude.{◌≡◌, ◌⊎◌, ℕ, None, Some, List, Option};
+ghost use Rattle.std.specs.Prelude.{◌≡◌, ◌⊎◌, ℕ, ℤ, None, Some, List, Option};
 ghost use Rattle.stn_refusal.specs.declared.{refusal.Refusal.Refusal, failure.Failure.{Failure, TheVariants.Refused}};
-ghost use Rattle.stn_site.specs.{Held.Held, Report.done_events, SoundSite.IsSoundSite};
+ghost use Rattle.stn_site.specs.{Held.Held, Report.done_events, SoundSite.IsSoundSite, Calls.{Accepted, CameBy, TookSame}};
 ghost use Rattle.stn_lift.specs.PlanSource.{PlanSource};
 ghost use Rattle.stn_records.specs.Content.{Content};
-ghost use Rattle.stn_command.specs.{Dispatch.{every_event, done_or_not_chosen}, Named.{IsNamed, Shown}, Query.{Query, IsSaid, IsQueryRefusal}};
+ghost use Rattle.stn_command.specs.{declared.queries.Outlook.Outlook, Dispatch.{Choice, every_event, done_or_not_chosen}, Named.{IsNamed, Shown}, Query.{Query, foresee, IsSaid, IsQueryRefusal}};
 
 use stn_picture::one_picture;
 use stn_questions::{one_answer, one_repairs_text};
+use stn_records::counts_same;
 use stn_site::one_report;
 
 /// The law that what a site holds has one answer to each query, also by the names of another plan's steps, and one
@@ -38,3 +39,13 @@ pub fn chosen_all()
     ensures { (source : PlanSource) (state : Content)
         → done_or_not_chosen every_event source state ≡ done_events source state }
 {}
+
+/// The law that replicas of one plan that took the same additions and withdrawals say the same of the events that are left,
+/// whichever are chosen: what comes next from a time on, which may run, and how the rest runs.
+pub fn same_foreseen()
+    ensures { (ours theirs : List Accepted) → (one other : Held) → CameBy ours one → CameBy theirs other → TookSame ours theirs
+        → one.source ≡ other.source → (outlook : Outlook) → (now : ℤ) → (choice : Choice) → (text last : List ℕ)
+        → IsSaid (foresee outlook now choice) one text → IsSaid (foresee outlook now choice) other last → text ≡ last }
+{
+    counts_same();
+}

@@ -4,7 +4,7 @@
 
 pub use changes::{AskedBound, Change, Made, make_change};
 pub use guarding::print_guard;
-pub use laws::{chosen_all, every_query_has_an_answer, one_said};
+pub use laws::{chosen_all, every_query_has_an_answer, one_said, same_foreseen};
 pub use names::{Shown, say_named};
 pub use queries::{Choice, Outlook, Query, append_said, say};
 pub use steps::{read_owned, read_steps};

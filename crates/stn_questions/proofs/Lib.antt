@@ -1,4 +1,5 @@
 pub mod Counted
+pub mod AmongSame
 pub mod KnownOnce
 pub mod Lasting
 pub mod Listing

@@ -2,6 +2,7 @@ pub mod Answer
 pub mod Bounds
 pub mod Durations
 pub mod Ready
+pub mod Among
 pub mod Records
 pub mod Repair
 pub mod Steps

@@ -3,7 +3,7 @@ ghost use Rattle.stn_net.specs.{Difference.IsBoundWithin, Schedule.HasSchedule, 
 ghost use Rattle.stn_lift.specs.PlanSource.{PlanSource, IsSoundSource, events_of};
 ghost use Rattle.stn_records.specs.Content.{Content};
 ghost use Rattle.stn_site.specs.{Bounds.{all_bounds, live_bounds}, Report.{IsReport, done_events}, Held.Held, Calls.{Accepted, CameBy, TookSame, TookSameItems}};
-ghost use Rattle.stn_questions.specs.{declared.asked.Question.Question, Answer.{AsksOfNoEvent, AsksOfPlan, IsAnswer}, Ready.{BeginsWithNext, IsReadyText, IsReadyWith}};
+ghost use Rattle.stn_questions.specs.{declared.asked.Question.Question, Among.IsReadyAmong, Answer.{AsksOfNoEvent, AsksOfPlan, IsAnswer}, Ready.{BeginsWithNext, IsReadyText, IsReadyWith}};
 
 use stn_conflict::{negative_cycle_is_conflict, one_way};
 use stn_records::counts_same;
@@ -71,7 +71,8 @@ pub fn ready_begins_with_next()
 /// or merged in any grouping, give the same answers: to each question where they took the same items, and
 /// to each question but that for the records where they took the same additions and withdrawals, where
 /// an amendment is the addition of its record and the withdrawal of the id that it replaces. Where they
-/// took the same additions and withdrawals, they also say the same of what may run from a time on.
+/// took the same additions and withdrawals, they also say the same of what may run from a time on, of all events (`ready`)
+/// or of those that are asked about (`among`).
 pub fn same_answers()
     ensures items { (ours theirs : List Accepted) → (one other : Held) → CameBy ours one → CameBy theirs other → TookSameItems ours theirs
         → one.source ≡ other.source → (question : Question) → (text last : List ℕ)
@@ -82,6 +83,9 @@ pub fn same_answers()
     ensures ready { (ours theirs : List Accepted) → (one other : Held) → CameBy ours one → CameBy theirs other → TookSame ours theirs
         → one.source ≡ other.source → (now : ℤ) → (text last : List ℕ)
         → IsReadyText one.source one.state now text → IsReadyText other.source other.state now last → text ≡ last }
+    ensures among { (ours theirs : List Accepted) → (one other : Held) → CameBy ours one → CameBy theirs other → TookSame ours theirs
+        → one.source ≡ other.source → (asked : ℕ → Bool) → (now : ℤ) → (text last : List ℕ)
+        → IsReadyAmong asked one.source one.state now text → IsReadyAmong asked other.source other.state now last → text ≡ last }
 {
     took_same_same_bytes();
     counts_same();

@@ -1,7 +1,7 @@
 use Rattle.std.proofs.Common.{subst}
 use Rattle.stn_lift.specs.PlanSource.{PlanSource}
-use Rattle.stn_site.proofs.Items.{same_counts}
-use Rattle.stn_questions.{specs.{Answer.IsAnswer, Ready.IsReadyText}, proofs.{Counted.{counted_answer, same_ready}, OneAnswer.same_answer}}
+use Rattle.stn_site.{specs.Bounds.all_bounds, proofs.Items.same_counts}
+use Rattle.stn_questions.{specs.{Among.{done_or_unasked, IsReadyAmong}, Answer.IsAnswer, Ready.IsReadyText}, proofs.{Counted.{counted_answer, same_ready}, AmongSame.same_among, OneAnswer.{one_ready_text, same_answer}}}
 use Rattle.stn_questions.proofs.laws.same_answers.Goals as goal
 
 pub returns-clause-items : goal.returns-clause-items
@@ -20,3 +20,9 @@ returns-clause-ready c = λ ours theirs one other p q same plan now text last fi
     c.one_ready_text.ensures other.source other.state now text last
     (same_ready other.source one.state other.state (c.counts_same.ensures.live one.state other.state (same_counts ours theirs one other p q same)) now text
     (subst (λ (source : PlanSource). IsReadyText source one.state now text) plan first)) second
+
+pub returns-clause-among : goal.returns-clause-among
+returns-clause-among c = λ ours theirs one other p q same plan asked now text last first second.
+    one_ready_text (all_bounds other.source other.state) (done_or_unasked asked other.source other.state) now text last
+    (same_among other.source one.state other.state (c.counts_same.ensures.live one.state other.state (same_counts ours theirs one other p q same)) asked now text
+    (subst (λ (source : PlanSource). IsReadyAmong asked source one.state now text) plan first)) second
