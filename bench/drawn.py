@@ -77,7 +77,7 @@ class Chart:
             self.windows = windows(self.bounds, self.events)
             self.overdue = next((event for event in left if self.windows[event][1] < now), None)
         self.moment = max(now or 0, 0)
-        reach = [late if late <= HALF_YEAR else early for early, late in self.windows[1:]]
+        reach = [self.windows[event][0 if self.is_open(event) else 1] for event in range(1, self.events + 1)]
         far = max(reach + [self.moment]) + 1
         self.gap = gap_of(0, far)
         self.end = self.gap * -(-far // self.gap)
@@ -90,13 +90,17 @@ class Chart:
     def top(self, row):
         return TOP + ROW * row
 
+    def is_open(self, event):
+        """Whether an event counts as one without a latest time."""
+        early, late = self.windows[event]
+        return early < late and late > HALF_YEAR
+
     def window_text(self, event):
         early, late = self.windows[event]
-        return time_text(early) + (" or later" if late > HALF_YEAR else f" to {time_text(late)}")
+        return time_text(early) + (" or later" if self.is_open(event) else f" to {time_text(late)}")
 
     def is_near(self, event):
-        late = self.windows[event][1]
-        return late <= HALF_YEAR and 20 * (late - self.moment) < self.end
+        return not self.is_open(event) and 20 * (self.windows[event][1] - self.moment) < self.end
 
     def is_due(self, step):
         start, end = 2 * step - 1, 2 * step
@@ -119,12 +123,12 @@ class Chart:
         """What the legend says of a step."""
         start, end = 2 * step - 1, 2 * step
         (soonest, latest), (ends, last) = self.windows[start], self.windows[end]
-        begun, is_open = start in self.done, last > HALF_YEAR
+        begun, is_open = start in self.done, self.is_open(end)
         fixed = soonest == latest and ends == last
         found = {"cannot move" if fixed else "soonest"} if not begun else {"done" if end in self.done else "running"}
         if not is_open and ends < last and not self.is_due(step):
             found.add("may last until")
-        if not begun and latest <= HALF_YEAR and soonest < latest:
+        if not begun and not self.is_open(start) and soonest < latest:
             found.add("latest start")
         return found | ({"due soon"} if self.is_due(step) else set()) | ({"no latest time"} if is_open else set())
 
@@ -141,7 +145,7 @@ class Chart:
         left, right = self.place(self.windows[start][0]), self.place(self.windows[end][0])
         last = self.windows[end][1]
         text += f"<path class='{kind}' d='M{left} {middle}h{max(2, right - left)}'/>"
-        if last > HALF_YEAR:
+        if self.is_open(end):
             text += f"<rect fill='url(#j)' x='{right}' y='{middle - 3}' width='{LEFT + WIDTH - right}' height='6'/>"
         else:
             due = self.is_due(step)
@@ -235,11 +239,11 @@ class Walk:
         names = "".join(f"{event_text(event)}: {self.step_text((event + 1) // 2, 200)}\n" for event in (bound.start, bound.to) if event)
         text = "<g>" + (f"<title>{names}</title>" if self.names else "") + \
             f"<text class='h' x='8' y='{top + 15}'>{bound.name} {link.side}</text>" \
-            f"<text class='n' x='128' y='{top + 15}'>{self.asked(link, 24)}</text>\n"
+            f"<text class='n' x='124' y='{top + 15}'>{self.asked(link, 24)}</text>\n"
         if bound.name in self.repairs:
             least, greatest = self.repairs[bound.name]
             leaves = f"{least} or more" if link.side == "upper" else f"{greatest} or less"
-            text += f"<text class='j' x='128' y='{top + 29}'>alone mends it: {leaves}</text>\n"
+            text += f"<text class='j' x='124' y='{top + 29}'>alone mends it: {leaves}</text>\n"
         text += f"<text x='{left + 8}' y='{top + 21}'>" if right < left else f"<text class='e' x='{left - 8}' y='{top + 21}'>"
         arrow = f"path d='M{left} {top + 17}H{right}'" if abs(right - left) >= 9 else f"circle class='x' cx='{left}' cy='{top + 17}' r='3'"
         return text + f"{event_text(link.begins)}</text><{arrow}/></g>\n"

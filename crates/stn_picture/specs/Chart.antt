@@ -64,12 +64,13 @@ soonest_in windows event = unsigned_abs (window_at windows event).0
 abbrev pub latest_in : List (ℤ × ℤ) → ℕ → ℕ
 latest_in windows event = unsigned_abs (window_at windows event).1
 
--- the milliseconds of half a year; what may come later has no latest time, as the horizon is a year
+-- the milliseconds of half a year
 abbrev pub half_year : ℕ
 half_year = 15768000000
 
+-- the event has no latest time: it may come later than at the soonest, and later than half a year, as the horizon is a year
 abbrev pub is_open_in : List (ℤ × ℤ) → ℕ → Bool
-is_open_in windows event = nat_lt half_year (latest_in windows event)
+is_open_in windows event = nat_lt (max half_year (soonest_in windows event)) (latest_in windows event)
 
 -- one step stands above another: its soonest start comes first, or at the same time, and its number is less
 abbrev pub is_above : List (ℤ × ℤ) → ℕ → ℕ → Bool

@@ -3,7 +3,7 @@ use Rattle.std.specs.Prelude.{ℕ, List, codes}
 
 -- that of a chart: text, paper and stripes, bars by their kinds, marks and arrows; darker ones in a dark scheme
 abbrev pub style_text : List ℕ
-style_text = codes "<style>svg{height:auto}text{font:12px system-ui,sans-serif;fill:#1b1f24}.s{font-size:11px;fill:#57606a}.n{font:11px ui-monospace,monospace}.t{font-size:14px;font-weight:600}.e{text-anchor:end}.m{text-anchor:middle}.w{fill:#bc4c00}.z{fill:#fff}.y{stroke:#f6f8fa;stroke-width:1000;stroke-dasharray:24}.g{stroke:#d8dee4}.a,.f,.d,.r{stroke:#0072b2;stroke-width:12}.p,.l{stroke:#a3cbe6;stroke-width:6}.f{stroke:#24292f}.d{stroke:#8c959f}.r{stroke:url(#h)}.l,.c{stroke:#d55e00}.c{stroke-width:1.5}.k{stroke:#1b1f24;stroke-width:2}.v{stroke:#57606a;fill:none;marker-end:url(#t)}.i{fill:#57606a}.b{fill:#a3cbe6}.x{fill:#0072b2}.q{stop-color:#a3cbe6}@media(prefers-color-scheme:dark){text{fill:#e6edf3}.s{fill:#9198a1}.w{fill:#f0883e}.z{fill:#0d1117}.y{stroke:#151b23}.g{stroke:#30363d}.a{stroke:#4aa3df}.p{stroke:#1f4a68}.f,.k{stroke:#e6edf3}.d{stroke:#6e7681}.l,.c{stroke:#f0883e}.v{stroke:#9198a1}.i{fill:#9198a1}.b{fill:#1f4a68}.x{fill:#4aa3df}.q{stop-color:#1f4a68}}</style>\n"
+style_text = codes "<style>svg{height:auto}text{font:12px system-ui,sans-serif;fill:#1b1f24}.s{font-size:11px;fill:#57606a}.n{font:11px ui-monospace,monospace}.t{font:600 13px ui-monospace,monospace}.e{text-anchor:end}.m{text-anchor:middle}.w{fill:#bc4c00}.z{fill:#fff}.y{stroke:#f6f8fa;stroke-width:1000;stroke-dasharray:24}.g{stroke:#d8dee4}.a,.f,.d,.r{stroke:#0072b2;stroke-width:12}.p,.l{stroke:#a3cbe6;stroke-width:6}.f{stroke:#24292f}.d{stroke:#8c959f}.r{stroke:url(#h)}.l,.c{stroke:#d55e00}.c{stroke-width:1.5}.k{stroke:#1b1f24;stroke-width:2}.v{stroke:#57606a;fill:none;marker-end:url(#t)}.i{fill:#57606a}.b{fill:#a3cbe6}.x{fill:#0072b2}.q{stop-color:#a3cbe6}@media(prefers-color-scheme:dark){text{fill:#e6edf3}.s{fill:#9198a1}.w{fill:#f0883e}.z{fill:#0d1117}.y{stroke:#151b23}.g{stroke:#30363d}.a{stroke:#4aa3df}.p{stroke:#1f4a68}.f,.k{stroke:#e6edf3}.d{stroke:#6e7681}.l,.c{stroke:#f0883e}.v{stroke:#9198a1}.i{fill:#9198a1}.b{fill:#1f4a68}.x{fill:#4aa3df}.q{stop-color:#1f4a68}}</style>\n"
 
 -- the hatching of what runs, what fades, the tip of an arrow
 abbrev pub parts_text : List ℕ
@@ -15,4 +15,4 @@ sites_style = codes "<style>.o1{stroke:#009e73}.o2{stroke:#e69f00}.o3{stroke:#cc
 
 -- that of the picture of a conflict, with its dots and tips
 abbrev pub walk_style : List ℕ
-walk_style = codes "<style>svg{height:auto}text{font:12px system-ui,sans-serif;fill:#1b1f24}.s{font-size:11px;fill:#57606a}.n{font:11px ui-monospace,monospace}.t{font-size:14px}.t,.h{font-weight:600}.e{text-anchor:end}.m{text-anchor:middle}.w{fill:#bc4c00}.j{font-size:11px;fill:#a0427c}.z{fill:#fff}.y{stroke:#f6f8fa;stroke-width:1000;stroke-dasharray:34}.g{stroke:#d8dee4}.o{stroke:#57606a;stroke-dasharray:2,3}.c{stroke:#d55e00;stroke-width:3}g path{stroke:#0072b2;stroke-width:3;marker:url(#d);marker-end:url(#u)}.x{fill:#0072b2}@media(prefers-color-scheme:dark){text{fill:#e6edf3}.s{fill:#9198a1}.w{fill:#f0883e}.j{fill:#e59ac6}.z{fill:#0d1117}.y{stroke:#151b23}.g{stroke:#30363d}.o{stroke:#9198a1}.c{stroke:#f0883e}g path{stroke:#4aa3df}.x{fill:#4aa3df}}</style><defs><marker id='d' refX='3' refY='3' markerWidth='6' markerHeight='6' markerUnits='userSpaceOnUse'><circle class='x' cx='3' cy='3' r='3'/></marker><marker id='u' refX='9' refY='5' markerWidth='9' markerHeight='10' markerUnits='userSpaceOnUse' orient='auto'><path class='x' d='M0 0l9 5l-9 5'/></marker></defs>\n"
+walk_style = codes "<style>svg{height:auto}text{font:12px system-ui,sans-serif;fill:#1b1f24}.s{font-size:11px;fill:#57606a}.n,.h{font:11px ui-monospace,monospace}.t{font:13px ui-monospace,monospace}.t,.h{font-weight:600}.e{text-anchor:end}.m{text-anchor:middle}.w{fill:#bc4c00}.j{font-size:11px;fill:#a0427c}.z{fill:#fff}.y{stroke:#f6f8fa;stroke-width:1000;stroke-dasharray:34}.g{stroke:#d8dee4}.o{stroke:#57606a;stroke-dasharray:2,3}.c{stroke:#d55e00;stroke-width:3}g path{stroke:#0072b2;stroke-width:3;marker:url(#d);marker-end:url(#u)}.x{fill:#0072b2}@media(prefers-color-scheme:dark){text{fill:#e6edf3}.s{fill:#9198a1}.w{fill:#f0883e}.j{fill:#e59ac6}.z{fill:#0d1117}.y{stroke:#151b23}.g{stroke:#30363d}.o{stroke:#9198a1}.c{stroke:#f0883e}g path{stroke:#4aa3df}.x{fill:#4aa3df}}</style><defs><marker id='d' refX='3' refY='3' markerWidth='6' markerHeight='6' markerUnits='userSpaceOnUse'><circle class='x' cx='3' cy='3' r='3'/></marker><marker id='u' refX='9' refY='5' markerWidth='9' markerHeight='10' markerUnits='userSpaceOnUse' orient='auto'><path class='x' d='M0 0l9 5l-9 5'/></marker></defs>\n"

@@ -149,7 +149,7 @@ abbrev pub name_opening : ℕ → List ℕ
 name_opening base = codes "<text class='h' x='8' y='" ++ decimal base ++ codes "'>"
 
 abbrev pub words_opening : ℕ → List ℕ
-words_opening base = codes "</text><text class='n' x='128' y='" ++ decimal base ++ codes "'>"
+words_opening base = codes "</text><text class='n' x='124' y='" ++ decimal base ++ codes "'>"
 
 -- the name of the link, and in words what it asks
 abbrev pub walk_words : Walk → ℕ → List ℕ
@@ -161,7 +161,7 @@ leaves_text Upper repair = printed repair.least ++ codes " or more"
 leaves_text Lower repair = printed repair.greatest ++ codes " or less"
 
 abbrev pub mend_opening : ℕ → List ℕ
-mend_opening base = codes "<text class='j' x='128' y='" ++ decimal base ++ codes "'>alone mends it: "
+mend_opening base = codes "<text class='j' x='124' y='" ++ decimal base ++ codes "'>alone mends it: "
 
 abbrev pub mend_text : ℕ → Side → Repair → List ℕ
 mend_text row side repair = mend_opening (walk_top row + 29) ++ leaves_text side repair ++ codes "</text>\n"

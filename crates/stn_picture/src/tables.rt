@@ -49,11 +49,11 @@ pub fn latest_in(windows: &[(Ms, Ms)], event: usize) -> u64
     window_at(windows, event).1.get().unsigned_abs()
 }
 
-/// Whether an event has no latest time.
+/// Whether an event has no latest time: it may come later than at the soonest, and later than half a year.
 pub fn is_open_in(windows: &[(Ms, Ms)], event: usize) -> bool
     ensures { result ≡ is_open_in windows.now event }
 {
-    HALF_YEAR < latest_in(windows, event)
+    HALF_YEAR.max(soonest_in(windows, event)) < latest_in(windows, event)
 }
 
 // Whether a step stands below another.

@@ -237,13 +237,13 @@ fn append_name_opening<B: Allocator>(out: &mut Vec<u8, B>, base: u64) -> Result<
 fn append_words_opening<B: Allocator>(out: &mut Vec<u8, B>, base: u64) -> Result<(), Memory>
     ensures { OnOk result (out.new.items ≡ out.old.items ++ is.words_opening base) }
 {
-    in_memory(write!(out, "</text><text class='n' x='128' y='{base}'>"))
+    in_memory(write!(out, "</text><text class='n' x='124' y='{base}'>"))
 }
 
 fn append_mend_opening<B: Allocator>(out: &mut Vec<u8, B>, base: u64) -> Result<(), Memory>
     ensures { OnOk result (out.new.items ≡ out.old.items ++ is.mend_opening base) }
 {
-    in_memory(write!(out, "<text class='j' x='128' y='{base}'>alone mends it: "))
+    in_memory(write!(out, "<text class='j' x='124' y='{base}'>alone mends it: "))
 }
 
 fn side_text(side: Side) -> &'static [u8]

@@ -1,6 +1,10 @@
-use Rattle.std.proofs.Common.{◌+◌, add-one, arith}
+use Rattle.std.proofs.{Common.{◌+◌, add-one, arith, sym}, lemmas.List.append-nil}
 use Rattle.stn_picture.{proofs.Drawing.range_grown, specs.{Rows.row_text, Seen.seen_chart}}
 use Rattle.stn_picture.proofs.frame.append_rows.Goals as goal
+
+-- no row stands there before the first
+pub loop-before-init : goal.loop-before-init
+loop-before-init g c = sym (append-nil c.args.out.now.items)
 
 pub loop-before-preserved : goal.loop-before-preserved
 loop-before-preserved g c =
