@@ -2,7 +2,7 @@
 use Rattle.std.{proofs.{Common.{◌≡◌, ℕ, zero, suc, ◌+◌, ◌-◌, ◌<◌, List, [], ◌∷◌, ◌++◌, map, length, Option, None, Some, Result, Ok, Err, refl, sym, ap, subst, ◌∙◌, inl, inr, arith, append_assoc, append-nil}, KnownBytes.{Appends-nil, Appends-trans}}, specs.{Prelude.flat_map, Io.KnownBytes.Appends}}
 use Rattle.stn_device.{proofs.Known.not_err, specs.{Partner.PartnerState, Callers.{CallersState, Comes, gone_too}}}
 use Rattle.stn_effects.specs.{Effects.{Effect, Then, Times, stopped, went}, Printing.{Device, Prints}}
-use Rattle.stn_exchanges.specs.{Connections.{Meeting, meeting, session_text, LetsGo, ServesSite, WithNext, ServesSites}, Joining.Shared, Visits.{Visit, visit_text, AreVisits, ComeAndGo}}
+use Rattle.stn_exchanges.specs.{Connections.{Meeting, meeting, session_text, LetsGo, ServesSite, WithNext, ServesSites}, Joining.Shared, Visits.{Visit, AreVisits, ComeAndGo}}
 use Rattle.stn_lift.specs.PlanSource.{PlanSource}
 use Rattle.stn_line.specs.declared.words.SiteLog.{SiteLog}
 use Rattle.stn_refusal.specs.declared.failure.{Failure.Failure, Fault.Fault}
@@ -69,6 +69,10 @@ come_first (Some old) left since after visit visits one gone later =
 come_none : (callers : Option CallersState) → ComeAndGo callers callers []
 come_none None = refl
 come_none (Some all) = (all.coming, refl, ap (λ (gone : List PartnerState). Some (record { coming = all.coming; gone = gone })) (sym (append-nil all.gone)))
+
+-- the line of a visit
+abbrev pub visit_text : Visit → List ℕ
+visit_text visit = session_text visit.answer
 
 module _ (Fails : Fault → Type 0) (log : SiteLog) (source : PlanSource) where
   -- the line of a session is printed of it, and nothing else

@@ -1,10 +1,9 @@
 -- What serving other sites, and sending to one, does step by step, and what is printed of it.
-use Rattle.std.specs.Prelude.{◌≡◌, ◌≢◌, ◌⊎◌, ℕ, ◌<◌, List, [], ◌∷◌, ◌++◌, codes, decimal, Option, None, Result, Ok, Err}
+use Rattle.std.specs.Prelude.{◌≡◌, ◌⊎◌, ℕ, List, [], ◌∷◌, ◌++◌, codes, decimal, Option, None, Result, Ok, Err}
 use Rattle.stn_device.specs.{Partner.{PartnerState, PartsWays}, Callers.{CallersState, Comes, gone_too}}
 use Rattle.stn_effects.specs.{Effects.{Effect, IsLack, Then, Times, failing}, Printing.{Device, Writes}}
 use Rattle.stn_lift.specs.PlanSource.{PlanSource}
-use Rattle.stn_session.specs.{Exchange.{request_bytes, IsReceived}, Failures.reply_failure, Serving.{Talk, talk, Serves}, declared.{exchange.ReplyFault.ReplyFault, session.{End.{End, TheVariants.{Closed, Cut, Refused}}, Served.Served, ServeFault.{ServeFault, TheVariants.{Read, Write, Bound, Memory}}}}}
-use Rattle.stn_session.specs.declared.exchange.ReplyFault.TheVariants as reply
+use Rattle.stn_session.specs.{Exchange.{request_bytes, Receives}, Failures.reply_failure, Serving.{Talk, talk, Serves}, declared.{exchange.ReplyFault.ReplyFault, session.{End.{End, TheVariants.{Closed, Cut, Refused}}, Served.Served, ServeFault.{ServeFault, TheVariants.{Read, Write, Bound, Memory}}}}}
 use Rattle.stn_store.specs.Steps.{Entries}
 use Rattle.stn_exchanges.specs.Joining.{Shared, TakesLog, SavesJoin, KeepsIn}
 use Rattle.stn_line.specs.declared.words.SiteLog.{SiteLog}
@@ -102,20 +101,14 @@ Asks source old new ended = Writes (request_bytes source old.shared.state) (told
     × (new.shared ≡ old.shared) × (new.out ≡ old.out)
 
 -- the replies are received: their text
-abbrev pub Receives : {P : Type 0} → PlanSource → Effect (Talk P) (List ℕ)
-Receives source old new ended = ((answer : Result (List ℕ) ReplyFault) × (ended ≡ failing reply_failure answer)
-    × IsReceived source old.state old.unheard.bytes new.unheard.bytes new.state answer
-    × (answer ≡ Err reply.Read → old.unheard.failures < new.unheard.failures) × (answer ≢ Err reply.Read → new.unheard.failures ≡ old.unheard.failures))
-    × (new.told ≡ old.told) × (new.place ≡ old.place)
+abbrev pub Hears : {P : Type 0} → PlanSource → Effect (Talk P) (List ℕ)
+Hears source old new ended = ((answer : Result (List ℕ) ReplyFault) × (ended ≡ failing reply_failure answer)
+    × Receives source old.state new.state old.unheard new.unheard answer) × (new.told ≡ old.told) × (new.place ≡ old.place)
 
 -- a site is asked, its replies are received, what the log says by then is taken in and saved, and the text of the replies is printed
 abbrev pub SendsTo : (Fault → Type 0) → SiteLog → PlanSource → Effect (Meeting PartnerState) (Unit {0})
 SendsTo Fails log source =
     Then (Asks source) (λ _.
-    Then (InTalk (Receives source)) (λ text.
+    Then (InTalk (Hears source)) (λ text.
     Then (InShared (SavesJoin Fails log source)) (λ _.
     OnPrinted (Writes text))))
-
--- no clause knows what a site says and is told
-abbrev pub IsStranger : PartnerState → Type 0
-IsStranger site = (site.unheard ≡ None) × (site.told ≡ None) × (site.ended ≡ None)

@@ -1,5 +1,5 @@
 -- What a log says by now, taken in by a site of its plan, and saved.
-use Rattle.std.specs.Prelude.{◌≡◌, ◌≢◌, true, false, Option, Some, None, Ok, Err}
+use Rattle.std.specs.Prelude.{◌≡◌, true, false, Option, Some, None, Ok, Err}
 use Rattle.stn_effects.specs.Effects.{Effect, Then, Finds, Makes, Gives}
 use Rattle.stn_lift.specs.PlanSource.{PlanSource}
 use Rattle.stn_records.specs.Content.{Content, join_contents}
@@ -24,11 +24,12 @@ FindsSaid Fails log = Finds Fails (IsSaidByLog log) (IsUnopenedLog log)
 abbrev pub Joins : (Fault → Type 0) → Held → Held → Effect Entries Content
 Joins Fails ours theirs = Makes Fails (λ state. (ours.source ≡ theirs.source) × (join_contents ours.state theirs.state ≡ Some state)) (IsMergeRefusal ours theirs)
 
--- ---- before a session and after it, the site takes in what its log says
-abbrev pub SiteTakes : (Fault → Type 0) → PlanSource → Content → Option Held → Effect Entries Content
-SiteTakes Fails source state None = Gives state
-SiteTakes Fails source state (Some said) = Joins Fails (holding_state source state) said
+-- a state is joined in this way with what a log says; if the log is gone, the state stays
+abbrev pub JoinsSaid : (Held → Effect Entries Content) → Content → Option Held → Effect Entries Content
+JoinsSaid Joined state None = Gives state
+JoinsSaid Joined state (Some said) = Joined said
 
+-- ---- before a session and after it, the site takes in what its log says
 -- what a site holds of its plan, and a store
 pub record Shared : Type 0 where
   pub state : Content
@@ -46,7 +47,7 @@ abbrev pub TakesLog : (Fault → Type 0) → SiteLog → PlanSource → Effect S
 TakesLog Fails log source =
     Becomes (λ state.
     Then (FindsSaid Fails log) (λ said.
-    SiteTakes Fails source state said))
+    JoinsSaid (λ theirs. Joins Fails (holding_state source state) theirs) state said))
 
 -- the log is saved with the state that the site holds
 abbrev pub SavesState : (Fault → Type 0) → SiteLog → PlanSource → Effect Shared (Unit {0})
@@ -59,12 +60,8 @@ SavesJoin Fails log source =
     SavesState Fails log source)
 
 -- ---- in a session it is the log that takes in a state of the site, which stays as it is
-abbrev pub LogTakes : (Fault → Type 0) → PlanSource → Content → Option Held → Effect Entries Content
-LogTakes Fails source state None = Gives state
-LogTakes Fails source state (Some said) = Joins Fails said (holding_state source state)
-
 abbrev pub KeepsIn : (Fault → Type 0) → SiteLog → PlanSource → Content → Effect Entries (Unit {0})
 KeepsIn Fails log source state =
     Then (FindsSaid Fails log) (λ said.
-    Then (LogTakes Fails source state said) (λ joined.
+    Then (JoinsSaid (λ ours. Joins Fails ours (holding_state source state)) state said) (λ joined.
     Saves Fails log.name.now (record { source = source; state = joined })))

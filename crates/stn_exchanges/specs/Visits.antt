@@ -1,7 +1,7 @@
 -- The visits that serving is made of.
-use Rattle.std.specs.Prelude.{◌≡◌, List, [], ◌∷◌, ◌++◌, map, Option, None, Some, Result, Ok, ℕ}
+use Rattle.std.specs.Prelude.{◌≡◌, List, [], ◌∷◌, ◌++◌, map, Option, None, Some, Result, Ok}
 use Rattle.stn_device.specs.{Partner.PartnerState, Callers.CallersState}
-use Rattle.stn_exchanges.specs.Connections.{Meeting, meeting, ServesSite, session_text}
+use Rattle.stn_exchanges.specs.Connections.{Meeting, meeting, ServesSite}
 use Rattle.stn_lift.specs.PlanSource.{PlanSource}
 use Rattle.stn_line.specs.declared.words.SiteLog.{SiteLog}
 use Rattle.stn_refusal.specs.declared.failure.Fault.{Fault}
@@ -12,9 +12,6 @@ pub record Visit : Type 0 where
   pub met : PartnerState
   pub gone : PartnerState
   pub answer : Result Served ServeFault
-
-abbrev pub visit_text : Visit → List ℕ
-visit_text visit = session_text visit.answer
 
 -- visits, each of which began with what the one before it left
 abbrev pub AreVisits : {Others : Type 0} → (Fault → Type 0) → SiteLog → PlanSource → List Visit → Meeting Others → Meeting Others → Type 0

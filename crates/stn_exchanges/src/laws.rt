@@ -3,7 +3,7 @@
 ghost use Rattle.std.specs.Prelude.{◌≡◌, ℕ, ◌<◌, List, length, flat_map, Option, Ok, Err};
 ghost use Rattle.stn_device.specs.Callers.{CallersState};
 ghost use Rattle.stn_effects.specs.Printing.{Prints};
-ghost use Rattle.stn_exchanges.specs.{Connections.{Meeting, ServesSite, WithNext, ServesSites}, Visits.{Visit, visit_text, AreVisits, ComeAndGo}};
+ghost use Rattle.stn_exchanges.specs.{Connections.{Meeting, session_text, ServesSite, WithNext, ServesSites}, Visits.{Visit, AreVisits, ComeAndGo}};
 ghost use Rattle.stn_lift.specs.PlanSource.{PlanSource};
 ghost use Rattle.stn_line.specs.declared.words.SiteLog.{SiteLog};
 ghost use Rattle.stn_refusal.specs.declared.failure.Failure.{Failure};
@@ -16,7 +16,7 @@ use stn_store::Store;
 pub fn served_by_visits<S: Store<A>, A: Allocator + Copy>()
     ensures { (log : SiteLog) (source : PlanSource) (count : ℕ) (old new : Meeting (Option CallersState))
         → ServesSites S.fails log source count old new (Ok tt) → (visits : List Visit) × (length visits ≡ count)
-        × AreVisits S.fails log source visits old new × ComeAndGo old.others new.others visits × Prints old.out new.out (flat_map visit_text visits) }
+        × AreVisits S.fails log source visits old new × ComeAndGo old.others new.others visits × Prints old.out new.out (flat_map (λ visit. session_text visit.answer) visits) }
 {}
 
 /// The law that serving that stops has served fewer sites, and stopped at the next one.

@@ -3,7 +3,7 @@
 ghost use Rattle.std.specs.Prelude.{◌≡◌, ◌++◌, ◌-◌, ◌^◌, ◌<◌, OnOk};
 ghost use Rattle.stn_device.specs.{Counted.failure_count, Partner.partner_state};
 ghost use Rattle.stn_effects.specs.{Effects.seen, Printing.{Device, device_of, Writes}};
-ghost use Rattle.stn_exchanges.specs.{Connections.{ended_text, fault_word, session_text, meeting, PartsAfter, ServesSite, Asks, Receives, SendsTo}, Joining.{KeepsIn, shared}};
+ghost use Rattle.stn_exchanges.specs.{Connections.{ended_text, fault_word, session_text, meeting, PartsAfter, ServesSite, Asks, Hears, SendsTo}, Joining.{KeepsIn, shared}};
 ghost use Rattle.stn_session.specs.Serving.{Serves, talk, session_answer};
 ghost use Rattle.stn_store.specs.Steps.{Entries};
 
@@ -224,8 +224,7 @@ fn hear<R: Read, W: Finish, A: Allocator + Copy, C: SiteCopy<A>>(
     partner: &mut Partner<R, W>,
     copy: &mut C,
 ) -> Result<Vec<u8, A>, Failure>
-    requires { failure_count partner.old.reader < 2 ^ 64 - 1 }
-    ensures received { (entries : Entries) → Receives (C.held copy.old).source
+    ensures received { (entries : Entries) → Hears (C.held copy.old).source
         (talk (device_of R.remaining partner.old.reader) (device_of W.contents partner.old.writer) (C.held copy.old).state entries)
         (talk (device_of R.remaining partner.new.reader) (device_of W.contents partner.new.writer) (C.held copy.new).state entries) (seen (λ text. text.items) result) }
     ensures source { (C.held copy.new).source ≡ (C.held copy.old).source }

@@ -235,7 +235,7 @@ same_bytes law script other output last text last_text at there site others one 
 pub answers : (script output text : List ℕ) (at : LineOf script) (site : ℕ) (question : Question) → AsksSite at site question → PrintsAt at output text
     → IsAnswer at.start.source (content_at (world_at at) site) question text
 answers script output text at site question asks printed =
-    answers_at script output text at site (ask question) (asked.ask question) asks.kept asks.command asks.there refl (inr (inr (asks.event, asks.apart, refl))) printed
+    answers_at script output text at site (ask question) (asked.ask question) asks.0.kept asks.0.command asks.0.there refl (inr (inr (asks.1, asks.2, refl))) printed
 
 pub ready_said : ((source : PlanSource) (state : Content) → done_or_not_chosen every_event source state ≡ done_events source state)
     → (script output text : List ℕ) (at : LineOf script) (site : ℕ) (now : ℤ) → AsksReady at site now → PrintsAt at output text
@@ -243,8 +243,8 @@ pub ready_said : ((source : PlanSource) (state : Content) → done_or_not_chosen
 ready_said all script output text at site now asks printed =
     let state = content_at (world_at at) site in
     subst (λ (done : List Bool). IsReadyWith (all_bounds at.start.source state) done now text) (all at.start.source state)
-    (answers_at script output text at site (ready asks.word) (asked.foresee outlook.Ready now every_event) asks.kept asks.command asks.there
-    (ap (λ (read : Result ℤ TimeFault). and_then (spelled read) (λ time. Ok (asked.foresee outlook.Ready time every_event))) asks.time) (inr (refl, refl)) printed)
+    (answers_at script output text at site (ready asks.0) (asked.foresee outlook.Ready now every_event) asks.1.kept asks.1.command asks.1.there
+    (ap (λ (read : Result ℤ TimeFault). and_then (spelled read) (λ time. Ok (asked.foresee outlook.Ready time every_event))) asks.2) (inr (refl, refl)) printed)
 
 -- what two sites of one plan hold is alike, where it is after the runs of their steps
 alike_at : (Took : World → List Step → ℕ → World → List Step → ℕ → Type 0) (Alike : Content → Content → Type 0)

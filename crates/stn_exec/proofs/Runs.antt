@@ -1,7 +1,9 @@
--- A run of a script that was read whole.
-use Rattle.std.{proofs.Common.{◌≡◌, ◌≢◌, ◌≤◌, ◌<◌, ◌+◌, ◌-◌, ◌^◌, ◌++◌, arith, min, ℕ, List, Option, Some, None, Result, Ok, Err, IfOk, IfSome, OnOk, length, refl, sym, ap, ◌∙◌, subst, append-nil}, specs.{Prelude.OnErr, Io.KnownBytes.{Consumes, IsAtEnd}}}
-use Rattle.stn_device.specs.Bytes.{most_bytes}
-use Rattle.stn_exec.specs.{declared.script.{Ran.Ran, RunFault.{RunFault, TheVariants.{Read, Write, Bound, Memory}}}, Output.{CountsRefusals, WritesOutput, WritesOutputPart}, Running.IsRun, Script.script_outcome}
+-- What a run leaves.
+use Rattle.std.{proofs.Common.{◌≡◌, ◌⊎◌, ◌+◌, ◌++◌, arith, ℕ, List, [], Option, Some, None, Result, Ok, Err, IfSome, inl, inr, sym, ap, ◌∙◌, subst, append-nil}, specs.Io.KnownBytes.{Consumes, IsAtEnd}}
+use Rattle.stn_device.{proofs.Known.not_err, specs.Bytes.{most_bytes, ConsumesAtMost}}
+use Rattle.stn_effects.specs.{Effects.{stopped, went}, Printing.Device}
+use Rattle.stn_refusal.specs.declared.failure.Failure.{Failure}
+use Rattle.stn_exec.{specs.{declared.script.Ran.Ran, Output.WritesOutputPart, Runs.{Streams, OnInput, OnOutput, ReadsScript, PrintsReplies, RunsScript}, Script.script_outcome}, proofs.Scripts.{part-nil, IfSome-all}}
 
 -- the script is the whole input
 whole : (input rest : Option (List ℕ)) (script : List ℕ) → Consumes input rest script → IsAtEnd rest → IfSome input (λ bytes. bytes ≡ script)
@@ -9,38 +11,51 @@ whole None rest script consumed ended = tt
 whole (Some bytes) None script consumed ended = absurd consumed
 whole (Some bytes) (Some more) script consumed ended = consumed ∙ ap (λ left. script ++ left) ended ∙ append-nil script
 
--- a failure is counted
-pub counts_more : (before after : ℕ) → after ≡ min (before + 1) (2 ^ 64 - 1) → before < 2 ^ 64 - 1 → before < after
-counts_more before after counted few = omega arith
+same_err : (failure other : Failure) → (let none : Result Ran Failure = Err failure in none) ≡ Err other → other ≡ failure
+same_err failure other is = cc
 
-pub on_ok : {T E P : Type 0} (result : Result T E) → P → OnOk result P
-on_ok (Ok value) is = is
-on_ok (Err fault) is = tt
+-- a script was read, and then run
+module _ (old between new : Streams) (script : List ℕ) (read : OnInput ReadsScript old between (Ok script)) where
+  all_read : new.unread ≡ between.unread → ReadsScript old.unread new.unread (Ok script)
+  all_read same = subst (λ (input : Device). ReadsScript old.unread input (Ok script)) (sym same) read.0
 
-module _ (input rest old new : Option (List ℕ)) (before after : ℕ) (script : List ℕ) (consumed : Consumes input rest script) where
-  pub ran_whole : (result : Result Ran RunFault) → length script ≤ most_bytes → IsRun (script_outcome script) old new before after result
-      → IfOk result (λ ran. (text : List ℕ) × Consumes input rest text × (length text ≤ most_bytes) × WritesOutput old new (script_outcome text).replies
-      × (ran.commands ≡ (script_outcome text).commands) × CountsRefusals (script_outcome text).replies ran.refused)
-  ran_whole (Ok ran) short run = (script, consumed, short, run.0, run.1, run.2)
-  ran_whole (Err fault) short run = tt
+  all_run : (ended : Result Ran Failure) → OnOutput (PrintsReplies (script_outcome script)) between new ended → PrintsReplies (script_outcome script) old.out new.out ended
+  all_run ended run = subst (λ (out : Device). PrintsReplies (script_outcome script) out new.out ended) read.1 run.0
 
-  pub part_written : (result : Result Ran RunFault) → IsAtEnd rest → IsRun (script_outcome script) old new before after result
-      → OnErr result (IfSome input (λ text. WritesOutputPart old new (script_outcome text).replies))
-  part_written (Ok ran) ended run = tt
-  part_written (Err fault) ended run = known input (whole input rest script consumed ended)
-    where
-      known : (bytes : Option (List ℕ)) → IfSome bytes (λ text. text ≡ script) → IfSome bytes (λ text. WritesOutputPart old new (script_outcome text).replies)
-      known None same = tt
-      known (Some text) same = subst (λ t. WritesOutputPart old new (script_outcome t).replies) (sym same) run.0
+pub done : (old new : Streams) (ran : Ran) → RunsScript old new (Ok ran)
+    → (script : List ℕ) × ReadsScript old.unread new.unread (Ok script) × PrintsReplies (script_outcome script) old.out new.out (Ok ran)
+done old new ran (stopped failure read is) = absurd (not_err ran failure is)
+done old new ran (went script between read run) = (script, all_read old between new script read run.1, all_run old between new script read (Ok ran) run)
 
-  pub some_part_written : (result : Result Ran RunFault) → IsRun (script_outcome script) old new before after result
-      → OnErr result ((text : List ℕ) × WritesOutputPart old new (script_outcome text).replies)
-  some_part_written (Ok ran) run = tt
-  some_part_written (Err fault) run = (script, run.0)
+pub ends : (old new : Streams) (failure : Failure) → RunsScript old new (Err failure)
+    → (ReadsScript old.unread new.unread (Err failure) × (new.out ≡ old.out))
+    ⊎ ((script : List ℕ) × ReadsScript old.unread new.unread (Ok script) × PrintsReplies (script_outcome script) old.out new.out (Err failure))
+ends old new failure (stopped why read is) = inl (subst (λ (one : Failure). ReadsScript old.unread new.unread (Err one)) (same_err failure why is) read.0, read.1)
+ends old new failure (went script between read run) = inr (script, all_read old between new script read run.1, all_run old between new script read (Err failure) run)
 
-  pub count_kept : (result : Result Ran RunFault) → result ≢ Err Write → IsRun (script_outcome script) old new before after result → after ≡ before
-  count_kept (Ok ran) other run = run.3
-  count_kept (Err Memory) other run = run.1
-  count_kept (Err Write) other run = absurd (other refl)
-  count_kept (Err Read) other run = absurd run.1
-  count_kept (Err Bound) other run = absurd run.1
+-- a front part of the output is written
+abbrev pub LeavesPart : Streams → Streams → Type 0
+LeavesPart old new = IfSome old.unread.bytes (λ script. WritesOutputPart old.out.bytes new.out.bytes (script_outcome script).replies)
+    × ((script : List ℕ) × WritesOutputPart old.out.bytes new.out.bytes (script_outcome script).replies)
+
+pub part : (old new : Streams) (failure : Failure) → RunsScript old new (Err failure) → LeavesPart old new
+part old new failure run = by (ends old new failure run)
+  where
+    none : new.out ≡ old.out → (script : List ℕ) → WritesOutputPart old.out.bytes new.out.bytes (script_outcome script).replies
+    none same script = subst (λ (out : Device). WritesOutputPart old.out.bytes out.bytes (script_outcome script).replies) (sym same) (part-nil old.out.bytes (script_outcome script).replies)
+
+    known : (input : Option (List ℕ)) (script : List ℕ) → IfSome input (λ text. text ≡ script) → WritesOutputPart old.out.bytes new.out.bytes (script_outcome script).replies
+        → IfSome input (λ text. WritesOutputPart old.out.bytes new.out.bytes (script_outcome text).replies)
+    known None script same is = tt
+    known (Some text) script same is = subst (λ t. WritesOutputPart old.out.bytes new.out.bytes (script_outcome t).replies) (sym same) is
+
+    by : (ReadsScript old.unread new.unread (Err failure) × (new.out ≡ old.out))
+        ⊎ ((script : List ℕ) × ReadsScript old.unread new.unread (Ok script) × PrintsReplies (script_outcome script) old.out new.out (Err failure)) → LeavesPart old new
+    by (inl read) = (IfSome-all old.unread.bytes _ (none read.1), ([], none read.1 []))
+    by (inr run) = (known old.unread.bytes run.0 (whole old.unread.bytes new.unread.bytes run.0 run.1.0 run.1.1) run.2.0, (run.0, run.2.0))
+
+pub used : (old new : Streams) (ended : Result Ran Failure) → RunsScript old new ended → ConsumesAtMost old.unread.bytes new.unread.bytes (most_bytes + 1)
+used old new ended (stopped failure read is) = read.0.0
+used old new ended (went script between read run) =
+    let all = all_read old between new script read run.1 in
+    (script, all.0, omega (arith, all.2))

@@ -1,9 +1,10 @@
 -- The heading and the lines of a script, one after the other.
-use Rattle.std.proofs.{Common.{◌≡◌, ℕ, ⊎_elim, ◌+◌, ◌<◌, ◌≤◌, true, false, cond, List, [], ◌∷◌, ◌++◌, length, Option, Some, None, Result, Ok, Err, Bool, IfSome, inl, inr, refl, sym, ap, ◌∙◌, arith, codes, append_assoc, subst}, KnownBytes.{Appends-nil, Appends-trans}, lemmas.Bool.{cases_lt, false≢true, Decides.nat_tests}}
+use Rattle.std.proofs.{Common.{◌≡◌, ℕ, ⊎_elim, min, ◌+◌, ◌-◌, ◌^◌, ◌<◌, ◌≤◌, true, false, cond, List, [], ◌∷◌, ◌++◌, length, Option, Some, None, Result, Ok, Err, Bool, IfSome, inl, inr, refl, sym, ap, ◌∙◌, arith, codes, append_assoc, subst}, KnownBytes.{Appends-nil, Appends-trans}, lemmas.Bool.{cases_lt, false≢true, Decides.nat_tests}}
 use Rattle.stn_device.specs.Bytes.{AppendsPart}
+use Rattle.stn_effects.specs.Printing.{Device}
 use Rattle.stn_text.specs.Lines.{lines_of, words_of}
 use Rattle.stn_refusal.specs.{declared.{code.Code.TheVariants.NoSite, refusal.Refusal.Refusal, failure.Failure.{Failure, TheVariants.Refused}}, Printed.refusal_text, Refusals.refused}
-use Rattle.stn_exec.{specs.{Heading.IsHeadingFailure, Effect.{CommandReply, CommandEffect}, Command.{Command, command_of}, Output.{IsReplyText, IsOutput, CountsRefusals, WritesOutput, WritesOutputPart}, Running.IsReplied, Saying.IsDone, Script.{Outcome, nothing_run, followed_by, form_effect, is_skipped, line_effect, effect_outcome, line_outcome, lines_outcome, next_line, Part, heading_part, sites_of, Based, Start, based, with_sites, heading_of, started, last_line, script_outcome}}, proofs.Outputs.{not_both, counts_join, one_refusal}}
+use Rattle.stn_exec.{specs.{Heading.IsHeadingFailure, Effect.{CommandReply, CommandEffect}, Command.{Command, command_of}, Output.{IsReplyText, IsOutput, CountsRefusals, WritesOutput, WritesOutputPart}, Running.IsReplied, Runs.IsCutOff, Saying.IsDone, Script.{Outcome, nothing_run, followed_by, form_effect, is_skipped, line_effect, effect_outcome, line_outcome, lines_outcome, next_line, Part, heading_part, sites_of, Based, Start, based, with_sites, heading_of, started, last_line, script_outcome}}, proofs.Outputs.{not_both, counts_join, one_refusal}}
 use Rattle.stn_command.specs.Words.{and_then}
 use Rattle.stn_lift.specs.PlanSource.{events_of}
 use Rattle.stn_records.specs.Id.{IsSite}
@@ -158,6 +159,11 @@ texts-part a b c whole done first later now p q e f = (
   },
   Appends-trans a b c p.0 q.0 p.2 q.2,
 )
+
+-- so nothing more, and why
+pub cut_later : (a b c : Device) (failure : Failure) → b.failures ≡ a.failures → IsCutOff b c failure → IsCutOff a c failure
+cut_later a b c failure same (inl write) = inl (write.0, write.1 ∙ ap (λ n. min (n + 1) (2 ^ 64 - 1)) same)
+cut_later a b c failure same (inr memory) = inr (memory.0, memory.1 ∙ same)
 
 -- nothing was written
 pub part-nil : (a : Option (List ℕ)) (replies : List CommandReply) → WritesOutputPart a a replies

@@ -8,5 +8,6 @@ pub mod Script
 pub mod Heading
 pub mod Output
 pub mod Running
+pub mod Runs
 pub mod Reports
 pub mod ReadBack

@@ -1,9 +1,9 @@
 -- For proofs alone: no public clause cites these words.
 -- What the code has read of a line, and what running it leaves.
-use Rattle.std.specs.{Prelude.{◌≡◌, ℕ, ◌+◌, ◌-◌, ◌^◌, min, Bool, List, ◌++◌, Option, Result, Ok, Err}, Bool.Decides}
+use Rattle.std.specs.{Prelude.{◌≡◌, ℕ, Bool, List, ◌++◌}, Bool.Decides}
 use Rattle.stn_text.specs.Lines.{words_of}
 use Rattle.stn_world.specs.World.{World}
-use Rattle.stn_exec.specs.{declared.{command.{Command.Command as CommandOfLine, Action.Action as ActionOfLine, BoundWords.BoundWords as BoundOfLine, ChangeWords.ChangeWords as ChangeOfLine, QueryWords.QueryWords as QueryOfLine}, script.{Ran.Ran, RunFault.{RunFault, TheVariants.{Write, Memory}}}}, Effect.CommandEffect, Script.Outcome, Output.{IsReplyText, IsRefusal, CountsRefusals, WritesOutput, WritesOutputPart}, Command.{BoundWords, ChangeWords, add, amend, withdraw, done, QueryWords, report, check, next, rehearse, ready, ask, repairs, Action, change, merge, send_all, send_items, deliver, query, Command, sites_command}}
+use Rattle.stn_exec.specs.{declared.command.{Command.Command as CommandOfLine, Action.Action as ActionOfLine, BoundWords.BoundWords as BoundOfLine, ChangeWords.ChangeWords as ChangeOfLine, QueryWords.QueryWords as QueryOfLine}, Effect.CommandEffect, Output.{IsReplyText, IsRefusal}, Command.{BoundWords, ChangeWords, add, amend, withdraw, done, QueryWords, report, check, next, rehearse, ready, ask, repairs, Action, change, merge, send_all, send_items, deliver, query, Command, sites_command}}
 use Rattle.stn_exec.specs.declared.command.Action.TheVariants as line
 use Rattle.stn_exec.specs.declared.command.ChangeWords.TheVariants as changing
 use Rattle.stn_exec.specs.declared.command.QueryWords.TheVariants as asking
@@ -49,15 +49,3 @@ pub record IsReplied (world : World) (old new : List ℕ) (effect : CommandEffec
   pub printed : IsReplyText effect.reply text
   pub appended : new ≡ old ++ text
   pub answered : Decides refused (IsRefusal effect.reply)
-
--- what a fault of a run of lines leaves in the writer's count of failures; a run of lines reads nothing
-abbrev pub LeavesCount : RunFault → ℕ → ℕ → Type 0
-LeavesCount Write before after = after ≡ min (before + 1) (2 ^ 64 - 1)
-LeavesCount Memory before after = after ≡ before
-LeavesCount other before after = ⊥
-
--- lines were run: all their output was written, and they were counted; or a front part of it, up to a fault
-abbrev pub IsRun : Outcome → Option (List ℕ) → Option (List ℕ) → ℕ → ℕ → Result Ran RunFault → Type 0
-IsRun outcome old new before after (Ok ran) =
-    WritesOutput old new outcome.replies × (ran.commands ≡ outcome.commands) × CountsRefusals outcome.replies ran.refused × (after ≡ before)
-IsRun outcome old new before after (Err fault) = WritesOutputPart old new outcome.replies × LeavesCount fault before after

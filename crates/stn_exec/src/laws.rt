@@ -1,12 +1,14 @@
-ghost use Rattle.std.specs.Prelude.{◌≡◌, ◌↔◌, ℕ, ℤ, List, Some, Ok};
+ghost use Rattle.std.specs.Prelude.{◌≡◌, ◌⊎◌, ◌↔◌, ℕ, ℤ, ◌+◌, List, Some, Result, Ok, Err, IfSome};
 ghost use Rattle.std.specs.FinMap as map;
 ghost use Rattle.stn_text.specs.Lines.{lines_of};
+ghost use Rattle.stn_device.specs.Bytes.{most_bytes, ConsumesAtMost};
 ghost use Rattle.stn_net.specs.Difference.{Difference};
+ghost use Rattle.stn_refusal.specs.declared.failure.Failure.{Failure};
 ghost use Rattle.stn_records.specs.{Content.{Content, Item, HasItem}, Id.{SiteCounter, IsId}, declared.record.Record.Record};
 ghost use Rattle.stn_site.specs.{Lines.line, declared.names.BoundName.BoundName, Report.IsReport};
 ghost use Rattle.stn_questions.specs.{declared.asked.Question.Question, Answer.{AsksOfPlan, IsAnswer}, Bounds.named_line, Ready.IsReadyText, Records.record_line};
 ghost use Rattle.stn_world.specs.{World.{opening_world, content_at}, Steps.{run, TookAt, TookSameAt, TookSameItemsAt}};
-ghost use Rattle.stn_exec.specs.{ReadBack.{IsName, IsReadable, ReadsBack}, Output.{IsOutput, CountsRefusals}, Script.{Start, heading_of, last_line, script_outcome}, Reports.{steps_of_lines, LineOf, first_world, steps_before, world_at, ReportsSite, AsksSite, AsksReady, PrintsAt, PrintSame}};
+ghost use Rattle.stn_exec.specs.{ReadBack.{IsName, IsReadable, ReadsBack}, Output.{IsOutput, CountsRefusals, WritesOutputPart}, Runs.{Streams, ReadsScript, PrintsReplies, RunsScript}, Script.{Start, heading_of, last_line, script_outcome}, declared.script.Ran.Ran, Reports.{steps_of_lines, LineOf, first_world, steps_before, world_at, ReportsSite, AsksSite, AsksReady, PrintsAt, PrintSame}};
 
 use stn_command::{chosen_all, every_query_has_an_answer, one_said};
 use stn_questions::{one_answer, one_ready_text};
@@ -22,6 +24,22 @@ pub fn one_script()
 {
     one_said();
 }
+
+/// The law of what a run leaves. One that comes to its end read a whole script, and wrote just its output. One that a fault ends could
+/// not read, and wrote nothing; or it read a script, and wrote a front part of its output. It read at most one byte more than a script
+/// may have.
+pub fn runs_write_output()
+    ensures done { (old new : Streams) (ran : Ran) → RunsScript old new (Ok ran) → (script : List ℕ)
+        × ReadsScript old.unread new.unread (Ok script) × PrintsReplies (script_outcome script) old.out new.out (Ok ran) }
+    ensures ends { (old new : Streams) (failure : Failure) → RunsScript old new (Err failure)
+        → (ReadsScript old.unread new.unread (Err failure) × (new.out ≡ old.out))
+        ⊎ ((script : List ℕ) × ReadsScript old.unread new.unread (Ok script) × PrintsReplies (script_outcome script) old.out new.out (Err failure)) }
+    ensures part { (old new : Streams) (failure : Failure) → RunsScript old new (Err failure)
+        → IfSome old.unread.bytes (λ script. WritesOutputPart old.out.bytes new.out.bytes (script_outcome script).replies)
+        × ((script : List ℕ) × WritesOutputPart old.out.bytes new.out.bytes (script_outcome script).replies) }
+    ensures used { (old new : Streams) (ended : Result Ran Failure) → RunsScript old new ended
+        → ConsumesAtMost old.unread.bytes new.unread.bytes (most_bytes + 1) }
+{}
 
 /// The law that each script has an output, and a number of refusals, whatever its text is.
 pub fn every_script_has_an_output()

@@ -3,7 +3,7 @@
 
 pub use laws::{
     every_script_has_an_output, listed_bounds_read_back, one_script, questions_are_answered,
-    ready_is_answered, scripts_are_runs,
+    ready_is_answered, runs_write_output, scripts_are_runs,
 };
 pub use script::{Ran, RunFault, run};
 pub use stn_device::{Counted, MOST_BYTES};

@@ -1,9 +1,10 @@
-ghost use Rattle.std.specs.{Prelude.{◌≡◌, ◌≢◌, ◌+◌, ◌-◌, ◌^◌, ◌<◌, ◌≤◌, ◌++◌, ◌∷◌, List, ℕ, length, Ok, Err, OnOk, OnErr, IfOk, IfSome, IsErrOf}, Io.KnownBytes.{Consumes, IsAtEnd, Keeps}};
-ghost use Rattle.stn_device.specs.{Counted.{counted_device, failure_count, KeepsCount}, Bytes.{most_bytes, ConsumesAtMost}};
+ghost use Rattle.std.specs.Prelude.{◌≡◌, ◌+◌, ◌^◌, ◌<◌, ◌≤◌, ◌∷◌, length, Err, OnOk, IfOk};
+ghost use Rattle.stn_device.specs.Bytes.{most_bytes};
+ghost use Rattle.stn_effects.specs.{Effects.failing, Printing.device_of};
 ghost use Rattle.stn_text.specs.Lines.{lines_of, words_of};
 ghost use Rattle.stn_refusal.specs.declared.failure.Failure.TheVariants.{Refused};
 ghost use Rattle.stn_world.specs.World.{HasSite};
-ghost use Rattle.stn_exec.specs.{Effect.{action_effect, command_effect}, Output.{CountsRefusals, WritesOutput, WritesOutputPart}, Running.{seen_action, seen_command, IsReplied, IsRun}, Saying.{IsDone, DoesCall}, Script.{line_effect, line_outcome, lines_outcome, started, script_outcome, last_line}, declared.script.RunFault.TheVariants.{Read, Write, Bound, Memory}, Failures.run_failure};
+ghost use Rattle.stn_exec.specs.{Effect.{action_effect, command_effect}, Failures.run_failure, Running.{seen_action, seen_command, IsReplied}, Runs.{streams, PrintsReplies, RunsScript}, Saying.{IsDone, DoesCall}, Script.{line_effect, line_outcome, lines_outcome, started, script_outcome, last_line}, declared.script.RunFault.TheVariants.{Write, Memory}};
 
 use crate::actions::{answered, change, send, sent, tell};
 use crate::answer::Answer;
@@ -82,8 +83,8 @@ fn run_lines<W: Write, A: Allocator + Copy>(
     writer: &mut Counted<W>,
 ) -> Result<Ran, RunFault>
     requires { number + length text.now < 2 ^ 32 }
-    ensures run { IsRun (lines_outcome number world.old (lines_of text.now))
-        (W.contents (counted_device writer.old)) (W.contents (counted_device writer.new)) (failure_count writer.old) (failure_count writer.new) result }
+    ensures run { PrintsReplies (lines_outcome number world.old (lines_of text.now))
+        (device_of W.contents writer.old) (device_of W.contents writer.new) (failing run_failure result) }
 {
     let mut ran = Ran {
         commands: 0,
@@ -110,8 +111,8 @@ fn run_line<W: Write, A: Allocator + Copy>(
     line: &[u8],
     writer: &mut Counted<W>,
 ) -> Result<Ran, RunFault>
-    ensures run { IsRun (line_outcome number world.old (words_of line.now))
-        (W.contents (counted_device writer.old)) (W.contents (counted_device writer.new)) (failure_count writer.old) (failure_count writer.new) result }
+    ensures run { PrintsReplies (line_outcome number world.old (words_of line.now))
+        (device_of W.contents writer.old) (device_of W.contents writer.new) (failing run_failure result) }
     ensures world { OnOk result (world.new ≡ (line_outcome number world.old (words_of line.now)).world) }
 {
     match opening_word(line) {
@@ -231,8 +232,8 @@ fn run_script<W: Write, A: Allocator + Copy>(
     writer: &mut Counted<W>,
 ) -> Result<Ran, RunFault>
     requires { length script.now ≤ most_bytes }
-    ensures run { IsRun (script_outcome script.now)
-        (W.contents (counted_device writer.old)) (W.contents (counted_device writer.new)) (failure_count writer.old) (failure_count writer.new) result }
+    ensures run { PrintsReplies (script_outcome script.now)
+        (device_of W.contents writer.old) (device_of W.contents writer.new) (failing run_failure result) }
 {
     match open(alloc, number_behind(script), script) {
         Ok((mut world, commands)) => {
@@ -249,8 +250,8 @@ fn refuse<W: Write, A: Allocator + Copy>(
     refusal: Refusal,
     writer: &mut Counted<W>,
 ) -> Result<Ran, RunFault>
-    ensures run { IsRun (started (Err (Refused refusal)))
-        (W.contents (counted_device writer.old)) (W.contents (counted_device writer.new)) (failure_count writer.old) (failure_count writer.new) result }
+    ensures run { PrintsReplies (started (Err (Refused refusal)))
+        (device_of W.contents writer.old) (device_of W.contents writer.new) (failing run_failure result) }
 {
     let mut out = Vec::new(alloc);
     refusal.print(&mut out)?;
@@ -275,41 +276,8 @@ pub fn run<R: Read, W: Write, A: Allocator + Copy>(
     reader: &mut Counted<R>,
     writer: &mut Counted<W>,
 ) -> Result<Ran, RunFault>
-    requires reader_counts { failure_count reader.old < 2 ^ 64 - 1 }
-    requires writer_counts { failure_count writer.old < 2 ^ 64 - 1 }
-
-    // The whole script was read, and just its output was written.
-    ensures ran { IfOk result (λ ran. (script : List ℕ)
-        × Consumes (R.remaining (counted_device reader.old)) (R.remaining (counted_device reader.new)) script
-        × (length script ≤ most_bytes)
-        × WritesOutput (W.contents (counted_device writer.old)) (W.contents (counted_device writer.new)) (script_outcome script).replies
-        × (ran.commands ≡ (script_outcome script).commands)
-        × CountsRefusals (script_outcome script).replies ran.refused) }
-    ensures end { OnOk result (IsAtEnd (R.remaining (counted_device reader.new))) }
-
-    // Each fault has its cause.
-    ensures read { IsErrOf result RunFault.Read → failure_count reader.old < failure_count reader.new }
-    ensures write { IsErrOf result RunFault.Write → failure_count writer.old < failure_count writer.new }
-    ensures bound { IsErrOf result RunFault.Bound
-        → IfSome (R.remaining (counted_device reader.old)) (λ script. most_bytes < length script) }
-
-    // What a fault leaves.
-    ensures read_unwritten { IsErrOf result RunFault.Read
-        → Keeps (W.contents (counted_device writer.old)) (W.contents (counted_device writer.new)) }
-    ensures bound_unwritten { IsErrOf result RunFault.Bound
-        → Keeps (W.contents (counted_device writer.old)) (W.contents (counted_device writer.new)) }
-    ensures part { OnErr result (IfSome (R.remaining (counted_device reader.old))
-        (λ script. WritesOutputPart (W.contents (counted_device writer.old)) (W.contents (counted_device writer.new))
-        (script_outcome script).replies)) }
-
-    // Where the input is not known, it is that of some script.
-    ensures some_part { OnErr result ((script : List ℕ)
-        × WritesOutputPart (W.contents (counted_device writer.old)) (W.contents (counted_device writer.new)) (script_outcome script).replies) }
-
-    ensures reader_kept { result ≢ Err RunFault.Read → KeepsCount reader.old reader.new }
-    ensures writer_kept { result ≢ Err RunFault.Write → KeepsCount writer.old writer.new }
-    ensures used { ConsumesAtMost (R.remaining (counted_device reader.old))
-        (R.remaining (counted_device reader.new)) (most_bytes + 1) }
+    ensures runs { RunsScript (streams (device_of R.remaining reader.old) (device_of W.contents writer.old))
+        (streams (device_of R.remaining reader.new) (device_of W.contents writer.new)) (failing run_failure result) }
 {
     match read_whole(alloc, reader, MOST_BYTES) {
         Ok(script) => run_script(alloc, &script, writer),

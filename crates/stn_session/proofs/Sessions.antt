@@ -1,13 +1,13 @@
 -- A session that goes on, frame by frame, and what it keeps.
 use Rattle.std.{proofs.{Common.{◌≡◌, ◌≢◌, ℕ, ◌+◌, ◌<◌, ◌≤◌, cond, Bool, true, false, List, [], ◌∷◌, ◌++◌, length, Option, Some, None, Result, Ok, Err, refl, sym, ap, subst, ◌∙◌, inl, inr, ⊎_elim, arith, append_assoc, append-nil, length-append}, KnownBytes.{Consumes-nil, Consumes-trans, Appends-nil, Appends-trans}, lemmas.List.Sums.fold-append}, specs.{Prelude.{flat_map, is_some, min, ◌^◌, ◌-◌, IsErrOf}, Io.KnownBytes.{Consumes, Appends, IsAtEnd}}}
-use Rattle.stn_device.{specs.{Bytes.AppendsPart, declared.whole.ReadFault.ReadFault}, proofs.Known.{not_err, fails_more}}
+use Rattle.stn_device.{specs.{Bytes.AppendsPart, declared.whole.ReadFault.ReadFault}, proofs.Known.fails_more}
 use Rattle.stn_time.proofs.Each.{each_pushed}
 use Rattle.stn_wire.{proofs.Streams.cut_more, specs.{Frame.{FrameContent, spelling, refused, IsFrame}, Front.{IsFront, faulty, unfinished}, Stream.{wire_fault, frame_code, IsNextFrame, IsCounted, Held.Stream}, declared.stream.fault.FrameFault.FrameFault}}
 use Rattle.stn_effects.specs.{Effects.{Effect, Gives}, Printing.Device}
 use Rattle.stn_lift.specs.PlanSource.{PlanSource}
 use Rattle.stn_records.specs.Content.{Content}
 use Rattle.stn_refusal.specs.declared.failure.Failure.{Failure}
-use Rattle.stn_session.specs.{Session.{Reply, said, Session, answer, opening, followed, advanced, talked, broken_off}, Serving.{IsReplyBytes, AreReplies, WritesReplies, Reaches, EndsSession, GoesOn, Talk, talk, KeepsChange, KeepsEach, KeepsNothing, Point, HasReplied, HearsWell, BreaksOffSession, EndsAt, Serves, session_answer, serve_fault}, declared.session.{End.{End, TheVariants.{Closed, Cut, Refused}}, Served.Served, KeepingFault.KeepingFault, ServeFault.{ServeFault, TheVariants.{Read, Write, Bound, Memory}}}, Turns.{IsChange, Wrote, KeepsTurn, KeepsLast, WroteKept, WroteRefused}}
+use Rattle.stn_session.specs.{Session.{Reply, said, Session, answer, opening, followed, advanced, talked, broken_off}, Serving.{IsReplyBytes, AreReplies, WritesReplies, Reaches, EndsSession, GoesOn, WritesPart, Talk, talk, KeepsChange, KeepsEach, KeepsNothing, Point, HasReplied, HearsWell, BreaksOffSession, EndsAt, Serves, session_answer, serve_fault}, declared.{session.{End.{End, TheVariants.{Closed, Cut, Refused}}, Served.Served, KeepingFault.KeepingFault, ServeFault.{ServeFault, TheVariants.{Read, Write, Bound, Memory}}}, replies.Turn.Turn}, Turns.{IsChange, KeepsTurn, AnswersFrame, TellsRefused}}
 use Rattle.stn_session.specs.declared.session.KeepingFault.TheVariants as keeping
 use Rattle.stn_device.specs.declared.whole.ReadFault.TheVariants as stream
 
@@ -20,9 +20,6 @@ replies_more (one ∷ first) done reply bytes all spoken =
 pub writes_more : (a b c : Option (List ℕ)) (replies : List Reply) (reply : Reply) (bytes : List ℕ) → WritesReplies a b replies → IsReplyBytes reply bytes → Appends b c bytes → WritesReplies a c (replies ++ reply ∷ [])
 writes_more a b c replies reply bytes done spoken more =
     (done.0 ++ bytes, replies_more replies done.0 reply bytes done.1 spoken, Appends-trans a b c done.0 bytes done.2 more)
-
-writes_same : (a b c : Option (List ℕ)) (replies : List Reply) → WritesReplies a b replies → Appends b c [] → WritesReplies a c replies
-writes_same a b c replies done none = (done.0, done.1, subst (Appends a c) (append-nil done.0) (Appends-trans a b c done.0 [] done.2 none))
 
 -- ---- frames, one after the other
 abbrev pub reaches_frame : (first : Session) (bytes : List ℕ) (session : Session) (rest later : List ℕ) (frame : FrameContent) → Reaches first bytes session rest → IsFrame frame → rest ≡ spelling frame ++ later
@@ -143,25 +140,35 @@ module _ {P : Type 0} {Keeps : Content → Effect P (Unit {0})} {source : PlanSo
         ((p.session, (p.on, some, front, refl), p.says, p.counted, p.state_is), refl, done, hears now.told now.state now.place)
 
     -- nothing was written
-    says_same : (then : Device) (state : Content) (place : P) → Appends now.told.bytes then.bytes [] → then.failures ≡ now.told.failures → HasReplied p.session old (talk heard then state place)
-    says_same then state place none kept = (writes_same old.told.bytes now.told.bytes then.bytes p.session.replies p.says.0 none, kept ∙ p.says.1)
+    says_same : (then : Device) (state : Content) (place : P) → then ≡ now.told → HasReplied p.session old (talk heard then state place)
+    says_same then state place same = subst (λ (told : Device). WritesReplies old.told.bytes told.bytes p.session.replies × (told.failures ≡ old.told.failures)) (sym same) p.says
 
     -- a write failed
     told_fails : (then : Device) → old.told.failures < 2 ^ 64 - 1 → then.failures ≡ min (now.told.failures + 1) (2 ^ 64 - 1) → old.told.failures < then.failures
     told_fails then room fails = fails_more old.told.failures now.told.failures then.failures fails p.says.1 room
 
+    -- so a part of a reply was
+    writes_part : (then : Device) (next : Session) (reply : Reply) (bytes : List ℕ) → next.replies ≡ p.session.replies ++ reply ∷ [] → IsReplyBytes reply bytes
+        → AppendsPart now.told.bytes then.bytes bytes → WritesPart old.told.bytes then.bytes p.session next
+    writes_part then next reply bytes more spoken part = record {
+      done = p.says.0.0;
+      part = part.0;
+      later = part.1;
+      replied = p.says.0.1;
+      whole = subst (λ (replies : List Reply). AreReplies replies (p.says.0.0 ++ (part.0 ++ part.1))) (sym more)
+          (replies_more p.session.replies p.says.0.0 reply (part.0 ++ part.1) p.says.0.1 (subst (IsReplyBytes reply) part.2 spoken));
+      appended = Appends-trans old.told.bytes now.told.bytes then.bytes p.says.0.0 part.0 p.says.0.2 part.3;
+    }
+
     -- a fault of the bytes is answered, or not
     module _ (fault : FrameFault) (front : IsFront (rest ++ more) (faulty (wire_fault fault))) (then : Device) where
-      fault_answered : Appends now.told.bytes then.bytes (spelling (refused (frame_code fault))) → then.failures ≡ now.told.failures
-          → Serves Keeps source old (talk heard then now.state now.place) (Ok (Ok (record { frames = count; end = Refused (frame_code fault) })))
-      fault_answered wrote kept = ends_with then now.state now.place (Ok (Ok (record { frames = count; end = Refused (frame_code fault) }))) (
+      pub refuses : (code : ℕ) → code ≡ frame_code fault → TellsRefused code now.told then (Ok tt)
+          → Serves Keeps source old (talk heard then now.state now.place) (Ok (Ok (record { frames = count; end = Refused code })))
+      refuses code is wrote = ends_with then now.state now.place (Ok (Ok (record { frames = count; end = Refused code }))) (
         (
-          broken_off p.session (frame_code fault),
-          inr (fault, p.on, front, refl, refl),
-          (
-            writes_more old.told.bytes now.told.bytes then.bytes p.session.replies (said (refused (frame_code fault))) (spelling (refused (frame_code fault))) p.says.0 refl wrote,
-            kept ∙ p.says.1,
-          ),
+          broken_off p.session code,
+          inr (fault, p.on, front, is, refl),
+          (writes_more old.told.bytes now.told.bytes then.bytes p.session.replies (said (refused code)) (spelling (refused code)) p.says.0 refl wrote.0, wrote.1 ∙ p.says.1),
           p.counted,
           p.state_is,
         ),
@@ -170,50 +177,33 @@ module _ {P : Type 0} {Keeps : Content → Effect P (Unit {0})} {source : PlanSo
         hears then now.state now.place,
       )
 
-      fault_cut_off : AppendsPart now.told.bytes then.bytes (spelling (refused (frame_code fault))) → old.told.failures < then.failures
-          → Serves Keeps source old (talk heard then now.state now.place) (Ok (Err Write))
-      fault_cut_off part fails = breaks_with then now.state now.place Write (
+      pub refusal_fails : old.told.failures < 2 ^ 64 - 1 → (broken : KeepingFault) (code : ℕ) → code ≡ frame_code fault → TellsRefused code now.told then (Err broken)
+          → Serves Keeps source old (talk heard then now.state now.place) (session_answer (Err broken))
+      refusal_fails room (keeping.Serve Write) code is part = breaks_with then now.state now.place Write (
         (
           broken_off p.session (frame_code fault),
           record { goes_on = inr (fault, front, refl); state = p.state_is; keeps = inl (refl, (refl, refl)) },
-          record {
-            done = p.says.0.0;
-            part = part.0;
-            later = part.1;
-            replied = p.says.0.1;
-            whole = replies_more p.session.replies p.says.0.0 (said (refused (frame_code fault))) (part.0 ++ part.1) p.says.0.1 (sym part.2);
-            appended = Appends-trans old.told.bytes now.told.bytes then.bytes p.says.0.0 part.0 p.says.0.2 part.3;
-          },
+          writes_part then (broken_off p.session (frame_code fault)) (said (refused (frame_code fault))) (spelling (refused (frame_code fault))) refl refl
+              (subst (λ k. AppendsPart now.told.bytes then.bytes (spelling (refused k))) is part.0),
         ),
-        fails,
+        told_fails then room part.1,
         hears then now.state now.place,
       )
-
-      pub refuses : (code : ℕ) → code ≡ frame_code fault → Appends now.told.bytes then.bytes (spelling (refused code)) → then.failures ≡ now.told.failures
-          → Serves Keeps source old (talk heard then now.state now.place) (Ok (Ok (record { frames = count; end = Refused code })))
-      refuses code is wrote kept =
-          subst (λ k. Serves Keeps source old (talk heard then now.state now.place) (Ok (Ok (record { frames = count; end = Refused k })))) (sym is)
-          (fault_answered (subst (λ k. Appends now.told.bytes then.bytes (spelling (refused k))) is wrote) kept)
-
-      module _ {X : Type 0} (room : old.told.failures < 2 ^ 64 - 1) (call : Result X KeepingFault)
-          (fails : IsErrOf call (keeping.Serve Write) → then.failures ≡ min (now.told.failures + 1) (2 ^ 64 - 1)) (keeps : call ≢ Err (keeping.Serve Write) → then.failures ≡ now.told.failures) where
-        pub refusal_fails : (broken : KeepingFault) → call ≡ Err broken → (code : ℕ) → code ≡ frame_code fault → WroteRefused code now.told.bytes then.bytes (Err broken)
-            → Serves Keeps source old (talk heard then now.state now.place) (session_answer (Err broken))
-        refusal_fails (keeping.Serve Write) by code is part =
-            fault_cut_off (subst (λ k. AppendsPart now.told.bytes then.bytes (spelling (refused k))) is part) (told_fails then room (fails by))
-        refusal_fails (keeping.Serve Memory) by code is none = breaks_with then now.state now.place Memory
-            (says_same then now.state now.place none (keeps (λ e. cc)), refl, hears then now.state now.place, inl p.state_is)
-        refusal_fails other by code is none = absurd none
+      refusal_fails room (keeping.Serve Memory) code is same =
+          breaks_with then now.state now.place Memory (says_same then now.state now.place same, refl, hears then now.state now.place, inl p.state_is)
+      refusal_fails room (keeping.Serve Read) code is none = absurd none
+      refusal_fails room (keeping.Serve Bound) code is none = absurd none
+      refusal_fails room (keeping.Keep failure) code is none = absurd none
 
     -- a frame is answered, or not
-    module _ (frame : FrameContent) (later : List ℕ) (is : IsFrame frame) (front : rest ++ more ≡ spelling frame ++ later) (then : Device) (state : Content) where
+    module _ (frame : FrameContent) (later : List ℕ) (is_frame : IsFrame frame) (front : rest ++ more ≡ spelling frame ++ later) (then : Device) (state : Content) where
       next_is : advanced p.session frame ≡ followed p.session (answer source now.state greeted frame)
       next_is =
           ap (λ e. cond (is_some e) p.session (followed p.session (answer p.session.source p.session.state p.session.greeted frame))) p.on
           ∙ (λ i. followed p.session (answer (sym p.source_is i) (sym p.state_is i) (sym p.greeted_is i) frame))
 
       goes_on : GoesOn p.session (rest ++ more) (advanced p.session frame)
-      goes_on = inl (frame, later, is, front, refl)
+      goes_on = inl (frame, later, is_frame, front, refl)
 
       module _ (left : state ≡ (answer source now.state greeted frame).state) where
         state_left : state ≡ (advanced p.session frame).state
@@ -224,107 +214,87 @@ module _ {P : Type 0} {Keeps : Content → Effect P (Unit {0})} {source : PlanSo
         moves place kept change = subst (λ (s : Content). KeepsChange Keeps p.session.state s now.place place kept) state_left
             (subst (λ (s : Content). KeepsChange Keeps s state now.place place kept) p.state_is change)
 
-        -- lack of memory after it was taken
-        frame_taken : Appends now.told.bytes then.bytes [] → then.failures ≡ now.told.failures → Serves Keeps source old (talk heard then state now.place) (Ok (Err Memory))
-        frame_taken none kept = breaks_with then state now.place Memory
-            (says_same then state now.place none kept, refl, hears then state now.place, inr (advanced p.session frame, goes_on, state_left))
-
-        -- its state was not kept
-        frame_unkept : (place : P) (failure : Failure) → Appends now.told.bytes then.bytes [] → then.failures ≡ now.told.failures
-            → KeepsChange Keeps now.state state now.place place (Err failure) → Serves Keeps source old (talk heard then state place) (Err failure)
-        frame_unkept place failure none kept change = ends_with then state place (Err failure) (
+      -- it was not, or its reply not written whole
+      module _ (room : old.told.failures < 2 ^ 64 - 1) (place : P) where
+        pub frame_fails : (broken : KeepingFault)
+            → AnswersFrame Keeps (answer source now.state greeted frame) (talk heard now.told now.state now.place) (talk heard then state place) (Err broken)
+            → Serves Keeps source old (talk heard then state place) (session_answer (Err broken))
+        frame_fails (keeping.Serve Write) is = breaks_with then state place Write (
+          (
+            advanced p.session frame,
+            record { goes_on = goes_on; state = state_left is.0.0; keeps = moves is.0.0 place (Ok tt) is.0.1 },
+            writes_part then (advanced p.session frame) (answer source now.state greeted frame).reply is.1.0 (ap (λ (s : Session). s.replies) next_is) is.1.1 is.1.2.0,
+          ),
+          told_fails then room is.1.2.1,
+          hears then state place,
+        )
+        frame_fails (keeping.Serve Memory) is =
+            subst (λ there. Serves Keeps source old (talk heard then state there) (Ok (Err Memory))) (sym is.1)
+            (breaks_with then state now.place Memory (
+              says_same then state now.place is.2,
+              refl,
+              hears then state now.place,
+              ⊎_elim (λ same. inl (same ∙ p.state_is)) (λ left. inr (advanced p.session frame, goes_on, state_left left)) is.0,
+            ))
+        frame_fails (keeping.Serve Read) none = absurd none
+        frame_fails (keeping.Serve Bound) none = absurd none
+        frame_fails (keeping.Keep failure) is = ends_with then state place (Err failure) (
           p.on,
-          says_same then state place none kept,
-          (advanced p.session frame, record { goes_on = goes_on; state = state_left; keeps = moves place (Err failure) change }),
+          says_same then state place is.1,
+          (advanced p.session frame, record { goes_on = goes_on; state = state_left is.0.0; keeps = moves is.0.0 place (Err failure) is.0.1 }),
           hears then state place,
         )
 
-        module _ (bytes : List ℕ) (said_bytes : IsReplyBytes (answer source now.state greeted frame).reply bytes) (place : P) (keeps_change : KeepsChange Keeps now.state state now.place place (Ok tt)) where
-          moved : KeepsChange Keeps (talked (opening source old.state) p.reached.frames).state (advanced (talked (opening source old.state) p.reached.frames) frame).state now.place place (Ok tt)
-          moved = subst (λ (s : Session). KeepsChange Keeps s.state (advanced s frame).state now.place place (Ok tt)) p.reached.talked (moves place (Ok tt) keeps_change)
+      -- it was
+      module _ (place : P) (turn : Turn)
+          (is : AnswersFrame Keeps (answer source now.state greeted frame) (talk heard now.told now.state now.place) (talk heard then state place) (Ok turn)) where
+        moved : KeepsChange Keeps (talked (opening source old.state) p.reached.frames).state (advanced (talked (opening source old.state) p.reached.frames) frame).state now.place place (Ok tt)
+        moved = subst (λ (s : Session). KeepsChange Keeps s.state (advanced s frame).state now.place place (Ok tt)) p.reached.talked (moves is.0.0 place (Ok tt) is.0.1)
 
-          frame_cut_off : AppendsPart now.told.bytes then.bytes bytes → old.told.failures < then.failures → Serves Keeps source old (talk heard then state place) (Ok (Err Write))
-          frame_cut_off part fails = breaks_with then state place Write (
+        next_said : HasReplied (advanced p.session frame) old (talk heard then state place)
+        next_said = (
+          subst (λ (s : Session). WritesReplies old.told.bytes then.bytes s.replies) (sym next_is)
+              (writes_more old.told.bytes now.told.bytes then.bytes p.session.replies (answer source now.state greeted frame).reply is.1.0 p.says.0 is.1.1 is.1.2.0),
+          is.1.2.1 ∙ p.says.1,
+        )
+
+        pub frame_answered : turn.ended ≡ None → (so_far : ℕ) → so_far ≡ taken + length more
+            → Progress Keeps source old (talk heard then state place) later so_far turn.greeted (count + 1)
+        frame_answered on so_far so_far_is = record {
+          bytes = p.bytes ++ more;
+          session = advanced p.session frame;
+          consumed = consumed_all;
+          well = well ∙ p.well;
+          many = so_far_is ∙ many_all;
+          reached = reaches_frame (opening source old.state) (p.bytes ++ more) p.session (rest ++ more) later frame reached_all is_frame front;
+          on = ap (λ (s : Session). s.ended) next_is ∙ (sym is.3 ∙ on);
+          says = next_said;
+          counted = ap (λ n. n + 1) p.counted ∙ sym (ap (λ (s : Session). s.frames) next_is);
+          source_is = p.source_is ∙ sym (ap (λ (s : Session). s.source) next_is);
+          state_is = state_left is.0.0;
+          greeted_is = is.2 ∙ sym (ap (λ (s : Session). s.greeted) next_is);
+          each = each_more Keeps (opening source old.state) p.reached.frames frame old.place now.place place p.each moved;
+        }
+
+        pub frame_ends : (code : ℕ) → turn.ended ≡ Some code → Serves Keeps source old (talk heard then state place) (Ok (Ok (record { frames = count + 1; end = Refused code })))
+        frame_ends code end = record {
+          at = record { bytes = p.bytes ++ more; session = advanced p.session frame; rest = later; kept = place };
+          consumed = consumed_all;
+          reached = reaches_frame (opening source old.state) (p.bytes ++ more) p.session (rest ++ more) later frame reached_all is_frame front;
+          each = each_more Keeps (opening source old.state) p.reached.frames frame old.place now.place place p.each moved;
+          ends = (
             (
               advanced p.session frame,
-              record { goes_on = goes_on; state = state_left; keeps = moves place (Ok tt) keeps_change },
-              record {
-                done = p.says.0.0;
-                part = part.0;
-                later = part.1;
-                replied = p.says.0.1;
-                whole = subst (λ (s : Session). AreReplies s.replies (p.says.0.0 ++ (part.0 ++ part.1))) (sym next_is)
-                    (replies_more p.session.replies p.says.0.0 (answer source now.state greeted frame).reply (part.0 ++ part.1) p.says.0.1 (subst (IsReplyBytes (answer source now.state greeted frame).reply) part.2 said_bytes));
-                appended = Appends-trans old.told.bytes now.told.bytes then.bytes p.says.0.0 part.0 p.says.0.2 part.3;
-              },
+              inl (ap (λ (s : Session). s.ended) next_is ∙ (sym is.3 ∙ end), refl),
+              next_said,
+              ap (λ n. n + 1) p.counted ∙ sym (ap (λ (s : Session). s.frames) next_is),
+              state_left is.0.0,
             ),
-            fails,
-            hears then state place,
-          )
-
-          module _ (wrote : Appends now.told.bytes then.bytes bytes) (kept : then.failures ≡ now.told.failures) (says : Bool) (says_is : says ≡ (answer source now.state greeted frame).greeted) where
-            next_said : HasReplied (advanced p.session frame) old (talk heard then state place)
-            next_said = (
-              subst (λ (s : Session). WritesReplies old.told.bytes then.bytes s.replies) (sym next_is)
-                  (writes_more old.told.bytes now.told.bytes then.bytes p.session.replies (answer source now.state greeted frame).reply bytes p.says.0 said_bytes wrote),
-              kept ∙ p.says.1,
-            )
-
-            pub frame_answered : (answer source now.state greeted frame).ended ≡ None → (so_far : ℕ) → so_far ≡ taken + length more
-                → Progress Keeps source old (talk heard then state place) later so_far says (count + 1)
-            frame_answered on so_far so_far_is = record {
-              bytes = p.bytes ++ more;
-              session = advanced p.session frame;
-              consumed = consumed_all;
-              well = well ∙ p.well;
-              many = so_far_is ∙ many_all;
-              reached = reaches_frame (opening source old.state) (p.bytes ++ more) p.session (rest ++ more) later frame reached_all is front;
-              on = ap (λ (s : Session). s.ended) next_is ∙ on;
-              says = next_said;
-              counted = ap (λ n. n + 1) p.counted ∙ sym (ap (λ (s : Session). s.frames) next_is);
-              source_is = p.source_is ∙ sym (ap (λ (s : Session). s.source) next_is);
-              state_is = state_left;
-              greeted_is = says_is ∙ sym (ap (λ (s : Session). s.greeted) next_is);
-              each = each_more Keeps (opening source old.state) p.reached.frames frame old.place now.place place p.each moved;
-            }
-
-            pub frame_ends : (code : ℕ) → (answer source now.state greeted frame).ended ≡ Some code
-                → Serves Keeps source old (talk heard then state place) (Ok (Ok (record { frames = count + 1; end = Refused code })))
-            frame_ends code end = record {
-              at = record { bytes = p.bytes ++ more; session = advanced p.session frame; rest = later; kept = place };
-              consumed = consumed_all;
-              reached = reaches_frame (opening source old.state) (p.bytes ++ more) p.session (rest ++ more) later frame reached_all is front;
-              each = each_more Keeps (opening source old.state) p.reached.frames frame old.place now.place place p.each moved;
-              ends = (
-                (
-                  advanced p.session frame,
-                  inl (ap (λ (s : Session). s.ended) next_is ∙ end, refl),
-                  next_said,
-                  ap (λ n. n + 1) p.counted ∙ sym (ap (λ (s : Session). s.frames) next_is),
-                  state_left,
-                ),
-                refl,
-                tt,
-                (few_all few, well ∙ p.well),
-              );
-            }
-
-      -- lack of memory before it was
-      frame_kept : Appends now.told.bytes then.bytes [] → then.failures ≡ now.told.failures → state ≡ now.state → Serves Keeps source old (talk heard then state now.place) (Ok (Err Memory))
-      frame_kept none kept same = breaks_with then state now.place Memory
-          (says_same then state now.place none kept, refl, hears then state now.place, inl (same ∙ p.state_is))
-
-      module _ {X : Type 0} (room : old.told.failures < 2 ^ 64 - 1) (place : P) (call : Result X KeepingFault)
-          (fails : IsErrOf call (keeping.Serve Write) → then.failures ≡ min (now.told.failures + 1) (2 ^ 64 - 1)) (keeps : call ≢ Err (keeping.Serve Write) → then.failures ≡ now.told.failures) where
-        pub frame_fails : (broken : KeepingFault) → call ≡ Err broken → WroteKept Keeps (answer source now.state greeted frame) now.told.bytes then.bytes now.state state now.place place (Err broken)
-            → Serves Keeps source old (talk heard then state place) (session_answer (Err broken))
-        frame_fails (keeping.Serve Write) by wrote = frame_cut_off wrote.0.3 wrote.0.0 wrote.0.1 place wrote.1 wrote.0.2 (told_fails then room (fails by))
-        frame_fails (keeping.Serve Memory) by wrote =
-            subst (λ there. Serves Keeps source old (talk heard then state there) (Ok (Err Memory))) (sym wrote.1)
-            (⊎_elim (λ same. frame_kept wrote.0.0 (keeps (λ e. cc)) same) (λ left. frame_taken left wrote.0.0 (keeps (λ e. cc))) wrote.0.1)
-        frame_fails (keeping.Serve Read) by none = absurd none.0
-        frame_fails (keeping.Serve Bound) by none = absurd none.0
-        frame_fails (keeping.Keep failure) by wrote = frame_unkept wrote.1 place failure wrote.0 (keeps (λ e. cc)) wrote.2
+            refl,
+            tt,
+            (few_all few, well ∙ p.well),
+          );
+        }
 
 -- ---- a turn keeps the state that it changed
 pub turn_kept : {P : Type 0} (Keeps : PlanSource → Content → Effect P (Unit {0})) (source here : PlanSource) (before after there : Content) (place kept : P) (changed : Bool)

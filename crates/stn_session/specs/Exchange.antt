@@ -1,6 +1,7 @@
 -- What a site asks of another, and what it makes of the replies.
-use Rattle.std.specs.{Prelude.{◌≡◌, ◌⊎◌, ℕ, ◌+◌, ◌≤◌, fold, flat_map, List, [], ◌∷◌, ◌++◌, length, Option, Some, None, Result, Ok, Err, ⊤}, List.AllByRecursion, Io.KnownBytes.{Consumes, IsAtEnd}}
+use Rattle.std.specs.{Prelude.{◌≡◌, ◌≢◌, ◌⊎◌, ℕ, ◌+◌, ◌-◌, ◌^◌, ◌≤◌, min, fold, flat_map, List, [], ◌∷◌, ◌++◌, length, Option, Some, None, Result, Ok, Err, ⊤}, List.AllByRecursion, Io.KnownBytes.{Consumes, IsAtEnd}}
 use Rattle.stn_device.specs.Bytes.{most_bytes}
+use Rattle.stn_effects.specs.Printing.{Device}
 use Rattle.stn_lift.specs.PlanSource.{PlanSource}
 use Rattle.stn_records.specs.Content.{Content, joined_contents}
 use Rattle.stn_site.specs.{Refusals.take_refusal, declared.faults.ReplicaFault.ReplicaFault, Held.holding_state}
@@ -116,3 +117,8 @@ pub record IsReceived (source : PlanSource) (first : Content) (before after : Op
   pub came : reception ≡ replied source (expecting first) frames
   pub is : IsReception reception rest (length bytes) after answer
   pub left : state ≡ reception.state
+
+-- so from a reader, of which a call failed only where that is the answer
+abbrev pub Receives : PlanSource → Content → Content → Device → Device → Result (List ℕ) ReplyFault → Type 0
+Receives source first state old new answer = IsReceived source first old.bytes new.bytes state answer
+    × (answer ≡ Err Read → new.failures ≡ min (old.failures + 1) (2 ^ 64 - 1)) × (answer ≢ Err Read → new.failures ≡ old.failures)

@@ -1,10 +1,11 @@
 // What a site asks of another, and what it makes of the replies.
-ghost use Rattle.std.specs.{Prelude.{◌≡◌, ◌≢◌, ◌⊎◌, ◌-◌, ◌^◌, ◌<◌, ◌++◌, ℕ, List, Option, Err, IfOk, IfErr, OnOk, OnErr, IsErrOf}, Io.KnownBytes.Appends};
-ghost use Rattle.stn_device.specs.{Bytes.AppendsPart, Counted.{counted_device, failure_count, CountsFailure, KeepsCount}};
+ghost use Rattle.std.specs.Prelude.{◌≡◌, ◌≢◌, ◌⊎◌, ◌++◌, List, ℕ, Option, Err, IfOk, IfErr, OnOk, OnErr, IsErrOf};
+ghost use Rattle.stn_device.specs.{Counted.{counted_device, CountsFailure, KeepsCount}, Failures.output_failure};
+ghost use Rattle.stn_effects.specs.{Effects.failing, Printing.{device_of, Writes}};
 ghost use Rattle.stn_lift.specs.PlanSource.{PlanSource};
 ghost use Rattle.stn_records.specs.Content.{Content};
 ghost use Rattle.stn_wire.specs.{Frame.{content, same, records, text}, Stream.{unread, pending, IsReading}};
-ghost use Rattle.stn_session.specs.{Exchange.{request_bytes, at_stage, greeting, handing, telling, failed, greeted_by, handed, reception_of, unexpected, IsReceived, seen_value}, Turns.{FindsFrame, Came, Leads}, declared.exchange.ReplyFault.TheVariants.{Read, Memory}, Failures.reply_failure};
+ghost use Rattle.stn_session.specs.{Exchange.{request_bytes, at_stage, greeting, handing, telling, failed, greeted_by, handed, reception_of, unexpected, IsReceived, Receives, seen_value}, Turns.{FindsFrame, Came, Leads}, declared.exchange.ReplyFault.TheVariants.{Read, Memory}, Failures.reply_failure};
 
 use crate::replies::append_state;
 use std::alloc::{AllocError, Allocator};
@@ -25,13 +26,9 @@ pub fn send_requests<W: Write, A: Allocator + Copy, C: SiteCopy<A>>(
     copy: &C,
     writer: &mut Counted<W>,
 ) -> Result<(), OutputFault>
-    ensures sent { OnOk result (Appends (W.contents (counted_device writer.old)) (W.contents (counted_device writer.new))
-        (request_bytes (C.held copy.now).source (C.held copy.now).state)) }
-    ensures part { OnErr result (AppendsPart (W.contents (counted_device writer.old)) (W.contents (counted_device writer.new))
-        (request_bytes (C.held copy.now).source (C.held copy.now).state)) }
+    ensures asked { Writes (request_bytes (C.held copy.now).source (C.held copy.now).state)
+        (device_of W.contents writer.old) (device_of W.contents writer.new) (failing output_failure result) }
     ensures unwritten { IsErrOf result OutputFault.Memory → writer.new ≡ writer.old }
-    ensures write { IsErrOf result OutputFault.Write → CountsFailure writer.old writer.new }
-    ensures kept { result ≢ Err OutputFault.Write → KeepsCount writer.old writer.new }
 {
     let mut out = Vec::new(alloc);
     append_requests(copy, &mut out)?;
@@ -103,15 +100,11 @@ pub fn receive_replies<R: Read, A: Allocator + Copy, C: SiteCopy<A>>(
     reader: &mut Counted<R>,
     copy: &mut C,
 ) -> Result<Vec<u8, A>, ReplyFault>
-    requires { failure_count reader.old < 2 ^ 64 - 1 }
-
     // The bytes that were read are frames and a rest; the answer and the site's state are what these come to.
-    ensures received { IsReceived (C.held copy.old).source (C.held copy.old).state (R.remaining (counted_device reader.old))
-        (R.remaining (counted_device reader.new)) (C.held copy.new).state (seen_value (λ bytes. bytes.items) result) }
+    ensures received { Receives (C.held copy.old).source (C.held copy.old).state (C.held copy.new).state
+        (device_of R.remaining reader.old) (device_of R.remaining reader.new) (seen_value (λ bytes. bytes.items) result) }
     ensures source { (C.held copy.new).source ≡ (C.held copy.old).source }
     ensures site { (C.held copy.new).site ≡ (C.held copy.old).site }
-    ensures read { IsErrOf result Read → failure_count reader.old < failure_count reader.new }
-    ensures kept { result ≢ Err Read → KeepsCount reader.old reader.new }
 {
     let mut frames = FrameReader::new(alloc);
     take_replies(&mut frames, reader, copy)
@@ -143,8 +136,8 @@ fn take_same<R: Read, A: Allocator + Copy>(
 ) -> Result<(), ReplyFault>
     requires { IsReading frames.old }
     ensures leads { (source : PlanSource) → (first : Content) → (before : Option (List ℕ))
-        → Came source first before (R.remaining (counted_device reader.old)) (pending frames.old) frames.old.count greeting first
-        → Leads source first before (R.remaining (counted_device reader.new)) frames.new handing first result }
+        → Came source first before (R.remaining (counted_device reader.old)) (pending frames.old) frames.old.count (at_stage greeting first)
+        → Leads source first before (R.remaining (counted_device reader.new)) frames.new (at_stage handing first) result }
     ensures read { IsErrOf result Read → CountsFailure reader.old reader.new }
     ensures kept { result ≢ Err Read → KeepsCount reader.old reader.new }
 {
@@ -162,8 +155,8 @@ fn take_records<R: Read, A: Allocator + Copy, C: SiteCopy<A>>(
 ) -> Result<(), ReplyFault>
     requires { IsReading frames.old }
     ensures leads { (first : Content) → (before : Option (List ℕ))
-        → Came (C.held copy.old).source first before (R.remaining (counted_device reader.old)) (pending frames.old) frames.old.count handing (C.held copy.old).state
-        → Leads (C.held copy.old).source first before (R.remaining (counted_device reader.new)) frames.new telling (C.held copy.new).state result }
+        → Came (C.held copy.old).source first before (R.remaining (counted_device reader.old)) (pending frames.old) frames.old.count (at_stage handing (C.held copy.old).state)
+        → Leads (C.held copy.old).source first before (R.remaining (counted_device reader.new)) frames.new (at_stage telling (C.held copy.new).state) result }
     ensures source { (C.held copy.new).source ≡ (C.held copy.old).source }
     ensures site { (C.held copy.new).site ≡ (C.held copy.old).site }
     ensures read { IsErrOf result Read → CountsFailure reader.old reader.new }
@@ -183,7 +176,7 @@ fn take_text<R: Read, A: Allocator + Copy>(
 ) -> Result<Vec<u8, A>, ReplyFault>
     requires { IsReading frames.old }
     ensures received { (source : PlanSource) → (first : Content) → (before : Option (List ℕ)) → (state : Content)
-        → Came source first before (R.remaining (counted_device reader.old)) (pending frames.old) frames.old.count telling state
+        → Came source first before (R.remaining (counted_device reader.old)) (pending frames.old) frames.old.count (at_stage telling state)
         → IsReceived source first before (R.remaining (counted_device reader.new)) state (seen_value (λ bytes. bytes.items) result) }
     ensures read { IsErrOf result Read → CountsFailure reader.old reader.new }
     ensures kept { result ≢ Err Read → KeepsCount reader.old reader.new }
@@ -220,7 +213,13 @@ fn refusal_of<A: Allocator>(frame: &Frame<A>) -> ReplyFault
 {
     match frame {
         Frame::Refused(code) => ReplyFault::Refused(*code),
-        _ => ReplyFault::Reply,
+        Frame::OldHello(_)
+        | Frame::OldRecords(_)
+        | Frame::Hello(_)
+        | Frame::Records(_)
+        | Frame::Ask
+        | Frame::Text(_)
+        | Frame::Same => ReplyFault::Reply,
     }
 }
 

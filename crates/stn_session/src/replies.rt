@@ -43,7 +43,9 @@ pub(crate) fn reply_to<A: Allocator + Copy, C: SiteCopy<A>>(
         Frame::Records(records) if greeted => take(records, copy, out),
         Frame::Ask if greeted => report(alloc, copy, out),
         Frame::OldHello(_) | Frame::OldRecords(_) => end(Code::OldVersion, greeted, out),
-        _ => end(Code::Unexpected, greeted, out),
+        Frame::Records(_) | Frame::Ask | Frame::Text(_) | Frame::Refused(_) | Frame::Same => {
+            end(Code::Unexpected, greeted, out)
+        }
     }
 }
 

@@ -1,8 +1,8 @@
-ghost use Rattle.std.specs.Prelude.{◌≡◌, ◌≢◌, ◌-◌, ◌^◌, ◌<◌, true, Err, IfOk, IfErr, OnOk, IsErrOf};
-ghost use Rattle.stn_device.specs.Counted.{counted_device, failure_count, CountsFailure, KeepsCount};
+ghost use Rattle.std.specs.Prelude.{◌≡◌, ◌-◌, ◌^◌, ◌<◌, true, IfOk, IfErr, OnOk};
+ghost use Rattle.stn_device.specs.Counted.{failure_count};
 ghost use Rattle.stn_wire.specs.Frame.{content};
-ghost use Rattle.stn_effects.specs.Printing.{device_of};
-ghost use Rattle.stn_session.specs.{Session.answer, Serving.{Serves, KeepsNothing, talk, session_answer, serve_fault}, Turns.{KeepsTurn, WroteKept, WroteRefused}, declared.session.{KeepingFault.TheVariants.{Serve, Keep}, ServeFault.TheVariants.{Read, Write, Memory}}};
+ghost use Rattle.stn_effects.specs.Printing.{Device, device_of};
+ghost use Rattle.stn_session.specs.{Session.answer, Serving.{Serves, KeepsNothing, talk, session_answer, serve_fault}, Turns.{KeepsTurn, AnswersFrame, TellsRefused}, declared.session.{KeepingFault.TheVariants.{Serve, Keep}, ServeFault.TheVariants.{Read, Write, Memory}}};
 
 use crate::keeper::{Keeper, Nowhere};
 use crate::replies::{Turn, append_refused, reply_to};
@@ -108,11 +108,10 @@ fn answer_frame<P, K: Keeper<P, A>, W: Write, A: Allocator + Copy, C: SiteCopy<A
 ) -> Result<Turn, KeepingFault>
     ensures source { (C.held copy.new).source ≡ (C.held copy.old).source }
     ensures site { (C.held copy.new).site ≡ (C.held copy.old).site }
-    ensures wrote { WroteKept (K.keeps keeper.now (C.held copy.old).source)
+    ensures answered { (unheard : Device) → AnswersFrame (K.keeps keeper.now (C.held copy.old).source)
         (answer (C.held copy.old).source (C.held copy.old).state greeted (content frame.now))
-        (W.contents (counted_device writer.old)) (W.contents (counted_device writer.new)) (C.held copy.old).state (C.held copy.new).state place.old place.new result }
-    ensures write { IsErrOf result (Serve Write) → CountsFailure writer.old writer.new }
-    ensures kept { result ≢ Err (Serve Write) → KeepsCount writer.old writer.new }
+        (talk unheard (device_of W.contents writer.old) (C.held copy.old).state place.old)
+        (talk unheard (device_of W.contents writer.new) (C.held copy.new).state place.new) result }
 {
     let mut out = Vec::new(alloc);
     let turn = reply_to(alloc, frame, greeted, copy, &mut out)?;
@@ -143,9 +142,7 @@ fn refuse<W: Write, A: Allocator + Copy>(
     code: u8,
     writer: &mut Counted<W>,
 ) -> Result<(), KeepingFault>
-    ensures wrote { WroteRefused code (W.contents (counted_device writer.old)) (W.contents (counted_device writer.new)) result }
-    ensures write { IsErrOf result (Serve Write) → CountsFailure writer.old writer.new }
-    ensures kept { result ≢ Err (Serve Write) → KeepsCount writer.old writer.new }
+    ensures { TellsRefused code (device_of W.contents writer.old) (device_of W.contents writer.new) result }
 {
     let mut out = Vec::new(alloc);
     append_refused(code, &mut out)?;

@@ -1,7 +1,6 @@
 use Rattle.std.proofs.{Common.{Err, refl, ap}, lemmas.Result.err_from_is_err_and}
 use Rattle.stn_device.{proofs.Known.not_err, specs.Partner.partner_state}
-use Rattle.stn_effects.specs.Printing.{device_of}
-use Rattle.stn_exchanges.proofs.Asked.{unasked, lacked}
+use Rattle.stn_exchanges.proofs.Asked.{lacked}
 use Rattle.stn_exchanges.proofs.partners.ask.Goals as goal
 
 pub returns-in_err-send_requests : goal.returns-in_err-send_requests
@@ -10,7 +9,7 @@ returns-in_err-send_requests g c =
     let is = c.in_err-send_requests.ensures in
     let why = c.in_err-send_requests.field-0.0 in
     rw (p.1, p.2) (λ entries out. (
-      unasked _ why _ _ _ refl is.part (λ e. ap (device_of g.W.Write.contents) (is.unwritten e)) is.write,
+      is.asked,
       (λ e. ap (λ writer. partner_state g.R.Read.remaining g.W.Write.contents g.W.Finish.ended (record { reader = c.args.partner.now.reader; writer = writer })) (is.unwritten (ap Err (lacked why e)))),
       refl,
       refl,
@@ -20,4 +19,4 @@ returns-in_err-send_requests g c =
 pub returns : goal.returns
 returns g c =
     let is = c.in_ok-send_requests.ensures in
-    λ entries out. ((is.sent, is.kept (λ e. cc)), (λ e. absurd (not_err tt _ e)), refl, refl, refl)
+    λ entries out. (is.asked, (λ e. absurd (not_err tt _ e)), refl, refl, refl)

@@ -1,6 +1,6 @@
-use Rattle.std.proofs.{Common.{◌<◌, ◌-◌, ◌^◌, refl, sym, ap, subst, ◌∙◌}, lemmas.Result.err_from_is_err_and}
+use Rattle.std.proofs.{Common.{refl, ◌∙◌}, lemmas.Result.err_from_is_err_and}
 use Rattle.stn_device.specs.Partner.{partner_state}
-use Rattle.stn_effects.{specs.{Effects.{stopped, went}, Printing.{Device, device_of}}, proofs.Endings.wrote}
+use Rattle.stn_effects.{specs.{Effects.{stopped, went}, Printing.device_of}, proofs.Endings.wrote}
 use Rattle.stn_exchanges.specs.{Connections.meeting, Joining.shared}
 use Rattle.stn_exchanges.proofs.partners.send_to_partner.Goals as goal
 
@@ -12,11 +12,6 @@ returns-in_err-ask g c =
       source = refl;
       site = refl;
     })
-
-pub hear-requires : goal.hear-requires
-hear-requires g c =
-    let same = ap (λ (site : Device). site.failures) (c.in_ok-ask.ensures (g.S.Store.entries c.args.store.now) (device_of g.O.Write.contents c.args.out.now)).2 in
-    subst (λ n. n < 2 ^ 64 - 1) (sym same) c.requires.reader_counts
 
 pub returns-in_err-text : goal.returns-in_err-text
 returns-in_err-text g c =

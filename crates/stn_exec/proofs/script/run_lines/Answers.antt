@@ -1,7 +1,7 @@
-use Rattle.std.proofs.{Common.{◌≡◌, ◌++◌, ℕ, refl, ap, subst, append-nil, ◌∙◌, arith}, lemmas.{Grind.common_steps, Result.err_from_is_err_and}}
-use Rattle.stn_device.specs.Counted.{failure_count}
+use Rattle.std.proofs.{Common.{◌≡◌, ◌++◌, refl, ap, append-nil, ◌∙◌, arith}, lemmas.{Grind.common_steps, Result.err_from_is_err_and}}
+use Rattle.stn_effects.specs.Printing.{device_of}
 use Rattle.stn_text.specs.Lines.{lines_of, words_of}
-use Rattle.stn_exec.{specs.{Running.LeavesCount, Script.{Outcome, line_outcome, lines_outcome}}, proofs.Scripts.{lines_outcome-none, lines_outcome-more, line_outcome-counts, texts-more, texts-part}}
+use Rattle.stn_exec.{specs.{Failures.run_failure, Script.{Outcome, line_outcome, lines_outcome}}, proofs.Scripts.{lines_outcome-none, lines_outcome-more, line_outcome-counts, texts-more, texts-part, cut_later}}
 use Rattle.stn_exec.proofs.script.run_lines.Goals as goal
 
 pub overflow_add-ran : goal.overflow_add-ran
@@ -21,7 +21,8 @@ returns-in_err-more g c =
     rw (p.1, p.2) (record {
       run = (
         texts-part _ _ _ _ _ _ _ _ l.invariant.text.1 c.in_err-more.ensures.run.0 l.invariant.text.2 (ap (λ (o : Outcome). o.replies) more),
-        subst (λ (n : ℕ). LeavesCount c.in_err-more.field-0.0 n (failure_count c.run_line.new.writer)) l.invariant.kept c.in_err-more.ensures.run.1,
+        cut_later (device_of g.W.Write.contents c.args.writer.now) (device_of g.W.Write.contents l.writer) (device_of g.W.Write.contents c.run_line.new.writer)
+            (run_failure c.in_err-more.field-0.0) l.invariant.kept c.in_err-more.ensures.run.1,
       );
     })
 

@@ -5,13 +5,13 @@ use Rattle.stn_session.proofs.exchange.take_records.Goals as goal
 pub returns-in_err-frame-clause-leads : goal.returns-in_err-frame-clause-leads
 returns-in_err-frame-clause-leads g c =
     let p = err_from_is_err_and c.from_residual.result c.from_residual.ensures.1 in
-    rw (p.1, p.2) (λ first before came. next_lost _ _ _ _ _ c.args.frames.now c.next_reply.new.frames _ _ came tt c.in_err-frame.field-0.0 c.in_err-frame.ensures.finds)
+    rw (p.1, p.2) (λ first before came. next_lost _ _ _ _ _ c.args.frames.now c.next_reply.new.frames _ came tt c.in_err-frame.field-0.0 c.in_err-frame.ensures.finds)
 
 pub returns-in_err-theirs-clause-leads : goal.returns-in_err-theirs-clause-leads
 returns-in_err-theirs-clause-leads g c =
     let p = err_from_is_err_and c.from_residual-in_err-theirs.result c.from_residual-in_err-theirs.ensures.1 in
     rw (p.1, p.2) (λ first before came.
-    next_refused _ _ _ _ _ c.args.frames.now c.next_reply.new.frames _ _ came c.in_ok-frame.frame c.in_ok-frame.ensures.finds c.in_err-theirs.field-0.0
+    next_refused _ _ _ _ _ c.args.frames.now c.next_reply.new.frames _ came c.in_ok-frame.frame c.in_ok-frame.ensures.finds c.in_err-theirs.field-0.0
     (c.in_err-theirs.ensures.refused (g.C.SiteCopy.held c.args.copy.now).source (g.C.SiteCopy.held c.args.copy.now).state))
 
 pub returns-clause-leads : goal.returns-clause-leads

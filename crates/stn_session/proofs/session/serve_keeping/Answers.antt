@@ -1,8 +1,8 @@
 use Rattle.std.proofs.{Common.{Ok, Err, ◌+◌, ◌≤◌, length, refl, sym, ap, subst, ◌∙◌, arith}, lemmas.Result.err_from_is_err_and}
-use Rattle.stn_device.specs.Counted.{counted_device}
+use Rattle.stn_effects.specs.Printing.{device_of}
 use Rattle.stn_lift.specs.PlanSource.{PlanSource}
 use Rattle.stn_wire.{specs.{Frame.content, Stream.{pending, Held.Stream}}, proofs.Streams.{count_fits, measure_falls}}
-use Rattle.stn_session.{specs.{Session.answer, Turns.WroteKept}, proofs.Sessions.{begun, closes, cuts, stream_fails, refuses, refusal_fails, frame_fails, frame_answered, frame_ends}}
+use Rattle.stn_session.{specs.{Session.answer, Serving.talk, Turns.AnswersFrame}, proofs.Sessions.{begun, closes, cuts, stream_fails, refuses, refusal_fails, frame_fails, frame_answered, frame_ends}}
 use Rattle.stn_session.proofs.session.serve_keeping.Goals as goal
 
 pub frames-init : goal.frames-init
@@ -26,15 +26,17 @@ pub returns-in_err-turn-in-Frame-clause-served : goal.returns-in_err-turn-in-Fra
 returns-in_err-turn-in-Frame-clause-served g c =
     let p = err_from_is_err_and c.from_residual-in_err-turn-in-Frame.result c.from_residual-in_err-turn-in-Frame.ensures.1 in
     let gave = rw c.in-Frame.is at c.in_ok-frame.ensures.gives in
-    let fault = c.in_err-turn-in-Frame.field-0.0 in
-    let lost = c.in_err-turn-in-Frame.ensures in
     let i = c.frames.invariant in
+    let fault = c.in_err-turn-in-Frame.field-0.0 in
+    let heard = device_of g.R.Read.remaining c.next.new.reader in
+    let told = device_of g.W.Write.contents in
+    let held = g.C.SiteCopy.held in
+    let lost = subst (λ (s : PlanSource). AnswersFrame (g.K.Keeper.keeps c.args.keeper.now s) (answer s (held c.frames.copy).state c.frames.greeted (content c.in-Frame.frame))
+    (talk heard (told c.frames.writer) (held c.frames.copy).state c.frames.place)
+    (talk heard (told c.answer_frame-answered.new.writer) (held c.answer_frame-answered.new.copy).state c.answer_frame-answered.new.place) (Err fault)) i.source
+    (c.in_err-turn-in-Frame.ensures.answered heard) in
     rw (p.1, p.2) (frame_fails i.progress _ gave.bytes gave.consumed gave.counted.1 (c.in_ok-frame.ensures.kept (λ e. cc)) (content c.in-Frame.frame) (pending c.next.new.self) gave.next.0 gave.next.1 _
-    (g.C.SiteCopy.held c.answer_frame-answered.new.copy).state c.requires.writer_counts c.answer_frame-answered.new.place _ lost.write lost.kept fault refl
-    (subst (λ (s : PlanSource). WroteKept (g.K.Keeper.keeps c.args.keeper.now s)
-    (answer s (g.C.SiteCopy.held c.frames.copy).state c.frames.greeted (content c.in-Frame.frame))
-    (g.W.Write.contents (counted_device c.frames.writer)) (g.W.Write.contents (counted_device c.answer_frame-answered.new.writer))
-    (g.C.SiteCopy.held c.frames.copy).state (g.C.SiteCopy.held c.answer_frame-answered.new.copy).state c.frames.place c.answer_frame-answered.new.place (Err fault)) i.source lost.wrote))
+    (g.C.SiteCopy.held c.answer_frame-answered.new.copy).state c.requires.writer_counts c.answer_frame-answered.new.place fault lost)
 
 pub frames-smaller : goal.frames-smaller
 frames-smaller g c =
@@ -46,15 +48,10 @@ frames-preserved g c =
     let gave = rw c.in-Frame.is at c.in_ok-frame.ensures.gives in
     let i = c.frames.invariant in
     let turn = c.in_ok-turn-in-Frame in
-    let wrote = subst (λ (s : PlanSource). WroteKept (g.K.Keeper.keeps c.args.keeper.now s)
-    (answer s (g.C.SiteCopy.held c.frames.copy).state c.frames.greeted (content c.in-Frame.frame))
-    (g.W.Write.contents (counted_device c.frames.writer)) (g.W.Write.contents (counted_device c.answer_frame-answered.new.writer))
-    (g.C.SiteCopy.held c.frames.copy).state (g.C.SiteCopy.held c.answer_frame-answered.new.copy).state c.frames.place c.answer_frame-answered.new.place (Ok turn.turn)) i.source turn.ensures.wrote in
     record {
       reading = gave.next.2;
       progress = frame_answered i.progress _ gave.bytes gave.consumed gave.counted.1 (c.in_ok-frame.ensures.kept (λ e. cc)) (content c.in-Frame.frame) (pending c.next.new.self) gave.next.0 gave.next.1 _
-          (g.C.SiteCopy.held c.answer_frame-answered.new.copy).state wrote.0.3 wrote.0.0 wrote.0.1 c.answer_frame-answered.new.place wrote.1 wrote.0.2 (turn.ensures.kept (λ e. cc)) turn.turn.greeted wrote.0.4
-          (sym wrote.0.5 ∙ c.in-None.is) c.next.new.self.count gave.counted.0;
+          (g.C.SiteCopy.held c.answer_frame-answered.new.copy).state c.answer_frame-answered.new.place turn.turn (rw i.source at (turn.ensures.answered (device_of g.R.Read.remaining c.next.new.reader))) c.in-None.is c.next.new.self.count gave.counted.0;
       source = turn.ensures.source ∙ i.source;
       site = turn.ensures.site ∙ i.site;
       few = count_fits (pending c.frames.frames) gave.bytes (pending c.next.new.self) (content c.in-Frame.frame) gave.next.1 c.frames.frames.count c.next.new.self.count gave.counted.0 c.frames.count i.few;
@@ -65,30 +62,22 @@ returns-in-Some-clause-served g c =
     let gave = rw c.in-Frame.is at c.in_ok-frame.ensures.gives in
     let i = c.frames.invariant in
     let turn = c.in_ok-turn-in-Frame in
-    let wrote = subst (λ (s : PlanSource). WroteKept (g.K.Keeper.keeps c.args.keeper.now s)
-    (answer s (g.C.SiteCopy.held c.frames.copy).state c.frames.greeted (content c.in-Frame.frame))
-    (g.W.Write.contents (counted_device c.frames.writer)) (g.W.Write.contents (counted_device c.answer_frame-answered.new.writer))
-    (g.C.SiteCopy.held c.frames.copy).state (g.C.SiteCopy.held c.answer_frame-answered.new.copy).state c.frames.place c.answer_frame-answered.new.place (Ok turn.turn)) i.source turn.ensures.wrote in
     frame_ends i.progress _ gave.bytes gave.consumed gave.counted.1 (c.in_ok-frame.ensures.kept (λ e. cc)) (content c.in-Frame.frame) (pending c.next.new.self) gave.next.0 gave.next.1 _
-    (g.C.SiteCopy.held c.answer_frame-answered.new.copy).state wrote.0.3 wrote.0.0 wrote.0.1 c.answer_frame-answered.new.place wrote.1 wrote.0.2 (turn.ensures.kept (λ e. cc)) turn.turn.greeted wrote.0.4
-    c.in-Some.code (sym wrote.0.5 ∙ c.in-Some.is)
+    (g.C.SiteCopy.held c.answer_frame-answered.new.copy).state c.answer_frame-answered.new.place turn.turn (rw i.source at (turn.ensures.answered (device_of g.R.Read.remaining c.next.new.reader))) c.in-Some.code c.in-Some.is
 
 pub returns-in_err-refuse-in-Faulty-clause-served : goal.returns-in_err-refuse-in-Faulty-clause-served
 returns-in_err-refuse-in-Faulty-clause-served g c =
     let p = err_from_is_err_and c.from_residual-in_err-refuse-in-Faulty.result c.from_residual-in_err-refuse-in-Faulty.ensures.1 in
     let gave = rw c.in-Faulty.is at c.in_ok-frame.ensures.gives in
-    let fault = c.in_err-refuse-in-Faulty.field-0.0 in
-    let lost = c.in_err-refuse-in-Faulty.ensures in
     let i = c.frames.invariant in
-    rw (p.1, p.2) (refusal_fails i.progress _ gave.bytes gave.consumed gave.counted.1 (c.in_ok-frame.ensures.kept (λ e. cc)) c.in-Faulty.fault gave.next _ c.requires.writer_counts _ lost.write lost.kept fault refl
-    c.code-code.result c.code-code.ensures lost.wrote)
+    rw (p.1, p.2) (refusal_fails i.progress _ gave.bytes gave.consumed gave.counted.1 (c.in_ok-frame.ensures.kept (λ e. cc)) c.in-Faulty.fault gave.next _ c.requires.writer_counts
+    c.in_err-refuse-in-Faulty.field-0.0 c.code-code.result c.code-code.ensures c.in_err-refuse-in-Faulty.ensures)
 
 pub returns-in-Faulty-clause-served : goal.returns-in-Faulty-clause-served
 returns-in-Faulty-clause-served g c =
     let gave = rw c.in-Faulty.is at c.in_ok-frame.ensures.gives in
     let i = c.frames.invariant in
-    let told = c.in_ok-refuse-in-Faulty.ensures in
-    refuses i.progress _ gave.bytes gave.consumed gave.counted.1 (c.in_ok-frame.ensures.kept (λ e. cc)) c.in-Faulty.fault gave.next _ c.code-code.result c.code-code.ensures told.wrote (told.kept (λ e. cc))
+    refuses i.progress _ gave.bytes gave.consumed gave.counted.1 (c.in_ok-frame.ensures.kept (λ e. cc)) c.in-Faulty.fault gave.next _ c.code-code.result c.code-code.ensures c.in_ok-refuse-in-Faulty.ensures
 
 pub returns-in-Closed-clause-served : goal.returns-in-Closed-clause-served
 returns-in-Closed-clause-served g c =
