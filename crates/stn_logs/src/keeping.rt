@@ -250,7 +250,7 @@ impl<A: Allocator + Copy> Kept<A> {
     }
 
     /// What a log says, which is loaded only where its bytes are not those that say what is known. It has to be kept again.
-    pub(crate) fn caught_up<S: Store<A>>(
+    pub fn caught_up<S: Store<A>>(
         &mut self,
         store: &S,
         log: &SiteLog<'_>,
@@ -289,7 +289,7 @@ impl<A: Allocator + Copy> Kept<A> {
     }
 
     /// Keeps what is known.
-    pub(crate) fn keep(&mut self, known: Known<A>) {
+    pub fn keep(&mut self, known: Known<A>) {
         drop(self.known.replace(known));
     }
 

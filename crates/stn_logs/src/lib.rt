@@ -2,7 +2,7 @@
 #![tactic(auto)]
 
 pub use commands::{answer, answer_with};
-pub use keeping::{Kept, find_log};
+pub use keeping::{Kept, Known, find_log};
 pub use laws::{no_answer_nothing_saved, one_ending};
 
 mod answered;

@@ -1,3 +1,4 @@
+mod Done
 mod Opened
 mod Refusals
 mod Steps

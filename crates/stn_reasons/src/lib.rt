@@ -1,16 +1,20 @@
-//! Why a command ends without an answer, as people read it.
+//! What people should know of a command besides its answer: why it ends without one, what it waits for, and hints.
 #![tactic(auto)]
 
 pub use absent::absent_event;
 pub use file::refused_file;
+pub use hints::{Hint, hints_of};
 pub use laws::told_word_refuses;
 pub use reason::{reason_in_line, reason_of};
 pub use refused::{Form, RefusedWord, refused_word};
 pub use telling::{append_counts, append_refused_word};
+pub use waiting::waiting_of;
 
 mod absent;
 mod file;
+mod hints;
 mod laws;
 mod reason;
 mod refused;
 mod telling;
+mod waiting;

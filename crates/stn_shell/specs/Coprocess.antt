@@ -7,8 +7,8 @@ use Rattle.stn_effects.specs.{Effects.{Effect, Then, Repeats, Catches, Gives, se
 use Rattle.stn_exec.specs.Script.{is_skipped}
 use Rattle.stn_line.specs.{Commands.stn, declared.words.{SiteLog.SiteLog, Line.{Line, TheVariants.{Run, Make, Change, Ask, Explain, Shell, Serve, Send}}}}
 use Rattle.stn_logs.specs.Commands.{DoesLine}
-use Rattle.stn_reasons.specs.Reasons.{IsReasonInLine}
-use Rattle.stn_shell.specs.{Asking.{AskFor, no_text, not_of_shell}, Lines.{AreWithinLine, AreOfLine, Takes}, Outside.{Outside, outside, InStore, OnOutput, OnError, TellsSome}, declared.coprocess.Progress.Progress}
+use Rattle.stn_reasons.specs.{Hints.IsHinted, Reasons.IsReasonInLine, Waiting.TellsWaiting}
+use Rattle.stn_shell.specs.{Asking.{AskFor, no_text, not_of_shell}, Lines.{AreWithinLine, AreOfLine, Takes}, Outside.{Outside, outside, InStore, Mentions, OnOutput, OnError, TellsOnly}, declared.coprocess.Progress.Progress}
 use Rattle.stn_store.specs.Steps.{LoadsLog}
 use Rattle.stn_refusal.specs.{Printed.refusal_text, Refusals.{refused_at, out_of_memory}, declared.{failure.{Failure.{Failure, TheVariants.{Refused, Failed}}, Fault.Fault}, refusal.Refusal.Refusal}}
 use Rattle.stn_refusal.specs.declared.code.Code.TheVariants as code
@@ -21,9 +21,6 @@ line_words log site [] = codes "stn" ∷ []
 line_words log site (command ∷ words) =
     if bytes_eq command (codes "explain") then codes "stn" ∷ command ∷ words
     else codes "stn" ∷ command ∷ log ∷ site ∷ words
-
-abbrev pub words_on : SiteLog → List Text → List Text
-words_on log words = line_words log.name.now (decimal log.site) words
 
 -- a shell does commands on a log that is there, and explanations
 abbrev pub is_of_shell : Line → Bool
@@ -50,26 +47,22 @@ ReadsCommand number words err told (Err failure) =
 
 -- the words of a line on a log are texts; a word that is none is told
 abbrev pub ReadsTexts : SiteLog → ℕ → List Text → Effect Device (List Text)
-ReadsTexts log number words err told (Ok all) = AllByRecursion IsUtf8 words × (all ≡ words_on log words) × (told ≡ err)
+ReadsTexts log number words err told (Ok all) = AllByRecursion IsUtf8 words × (all ≡ line_words log.name.now (decimal log.site) words) × (told ≡ err)
 ReadsTexts log number words err told (Err failure) =
     ((¬ (AllByRecursion IsUtf8 words)) × TellsText no_text err told × (failure ≡ refused_at code.Line number)) ⊎ ((failure ≡ out_of_memory) × (told ≡ err))
 
--- the reason of a refusal is told, on one line
-abbrev pub TellsWhyRefused : Line → Refusal → Outside → Outside → Type 0
-TellsWhyRefused line refusal old new = TellsSome (IsReasonInLine old.entries line refusal) old.err new.err
-    × (new.entries ≡ old.entries) × (new.unread ≡ old.unread) × (new.out ≡ old.out)
-
--- what a command does; where it is refused, its reason is told
+-- what a command does; its hints are told, or, where it is refused, its reason: either on one line
 abbrev pub SaysWhy : Line → Effect Outside (List ℕ) → Effect Outside (List ℕ)
-SaysWhy line Does old new (Ok text) = Does old new (Ok text)
-SaysWhy line Does old new (Err (Refused refusal)) = (between : Outside) × Does old between (Err (Refused refusal)) × TellsWhyRefused line refusal between new
+SaysWhy line Does old new (Ok text) = (between : Outside) × Does old between (Ok text) × TellsOnly (IsHinted between.entries line) between new
+SaysWhy line Does old new (Err (Refused refusal)) = (between : Outside) × Does old between (Err (Refused refusal)) × TellsOnly (IsReasonInLine between.entries line refusal) between new
 SaysWhy line Does old new (Err (Failed fault)) = Does old new (Err (Failed fault))
 
 -- the command of such words is done
 abbrev pub DoesWords : (Fault → Type 0) → ℕ → List Text → Effect Outside (List ℕ)
 DoesWords Fails number words =
     Then (OnError (ReadsCommand number words)) (λ line.
-    SaysWhy line (InStore (DoesLine Fails line)))
+    Then (Mentions (λ _. TellsWaiting line)) (λ _.
+    SaysWhy line (InStore (DoesLine Fails line))))
 
 -- ---- a line
 -- what is printed for it: the answer, or the refusal

@@ -1,6 +1,7 @@
 -- What there is outside of a program, and how effects on parts of it are effects on all.
 use Rattle.std.specs.Prelude.{◌≡◌, ◌⊎◌, ℕ, List, Ok, Err}
 use Rattle.stn_effects.specs.{Effects.Effect, Printing.{Device, Tells, TellsText}}
+use Rattle.stn_exec.specs.Runs.{Streams, streams}
 use Rattle.stn_line.specs.declared.words.Line.{Line}
 use Rattle.stn_reasons.specs.Reasons.{IsReason}
 use Rattle.stn_store.specs.Steps.{Entries}
@@ -28,19 +29,27 @@ OnOutput Does old new ended = Does old.out new.out ended × (new.entries ≡ old
 abbrev pub OnError : {X : Type 0} → Effect Device X → Effect Outside X
 OnError Does old new ended = Does old.err new.err ended × (new.entries ≡ old.entries) × (new.unread ≡ old.unread) × (new.out ≡ old.out)
 
+-- on the input and the output alone
+abbrev pub InStreams : {X : Type 0} → Effect Streams X → Effect Outside X
+InStreams Does old new ended = Does (streams old.unread old.out) (streams new.unread new.out) ended × (new.entries ≡ old.entries) × (new.err ≡ old.err)
+
 -- a text of this kind is printed on the standard error, as far as that takes it; or there was no memory for one
 abbrev pub TellsSome : (List ℕ → Type 0) → Device → Device → Type 0
 TellsSome Is err told = ((text : List ℕ) × Is text × TellsText text err told) ⊎ (told ≡ err)
 
--- the reason of a command's failure is
-abbrev pub TellsReason : Line → Failure → Entries → Device → Device → Type 0
-TellsReason line failure entries = TellsSome (IsReason entries line failure)
+-- such a text is told, and nothing else is changed
+abbrev pub TellsOnly : (List ℕ → Type 0) → Outside → Outside → Type 0
+TellsOnly Is old new = TellsSome Is old.err new.err × (new.entries ≡ old.entries) × (new.unread ≡ old.unread) × (new.out ≡ old.out)
+
+-- a text is told, of a kind that the entries decide
+abbrev pub Mentions : (Entries → List ℕ → Type 0) → Effect Outside (Unit {0})
+Mentions Is old new ended = TellsOnly (Is old.entries) old new × (ended ≡ Ok tt)
 
 -- why nothing further was done is told: the failure, and then its reason
 pub record TellsWhy (line : Line) (failure : Failure) (old new : Outside) : Type 0 where
   pub between : Device
   pub told : Tells failure old.out new.out old.err between
-  pub reason : TellsReason line failure old.entries between new.err
+  pub reason : TellsSome (IsReason old.entries line failure) between new.err
   pub entries : new.entries ≡ old.entries
   pub unread : new.unread ≡ old.unread
 

@@ -8,11 +8,12 @@ ghost use Rattle.stn_exec.specs.Script.{is_skipped as skips};
 ghost use Rattle.stn_logs.specs.Commands.{DoesLine};
 ghost use Rattle.stn_refusal.specs.Printed.{refusal_text};
 ghost use Rattle.stn_shell.specs.Coprocess as spec;
-ghost use Rattle.stn_shell.specs.{Coprocess.{standing, line_words, DoesText, DoesWords, ReadsTexts, DoesLines, RunsShell, SaysWhy, Turns}, Outside.{outside, InStore, OnError}};
+ghost use Rattle.stn_shell.specs.{Coprocess.{standing, line_words, DoesText, DoesWords, ReadsTexts, DoesLines, RunsShell, SaysWhy, Turns}, Outside.{outside, InStore, Mentions, OnError}};
+ghost use Rattle.stn_reasons.specs.Waiting.{TellsWaiting};
 
 use crate::lines::read_line;
 use crate::process::NO_TEXT;
-use crate::reasons::tell_in_line;
+use crate::reasons::{tell_hints, tell_in_line, tell_waiting};
 use itoa::Buffer;
 use std::alloc::Global;
 use std::io::{Read, Write};
@@ -292,7 +293,7 @@ fn reply_to<S: Store<Global>, E: Write>(
     }
 }
 
-// Does a command of a shell. Why it is refused is told.
+// Does a command of a shell. Before that is told what it waits for, and then its hints, or why it is refused.
 fn answer_line<S: Store<Global>, E: Write>(
     alloc: Global,
     store: &mut S,
@@ -300,12 +301,16 @@ fn answer_line<S: Store<Global>, E: Write>(
     line: &Line<'_>,
     err: &mut Counted<E>,
 ) -> Result<Vec<u8>, Failure>
-    ensures { (unread out : Device) → SaysWhy line.now (InStore (DoesLine S.fails line.now))
+    ensures { (unread out : Device) → Then (Mentions (λ _. TellsWaiting line.now)) (λ _. SaysWhy line.now (InStore (DoesLine S.fails line.now)))
         (outside (S.entries store.old) unread out (device_of E.contents err.old))
         (outside (S.entries store.new) unread out (device_of E.contents err.new)) (seen (λ answered. answered.items) result) }
 {
+    tell_waiting(alloc, store, line, err);
     match answer_with(alloc, store, kept, line) {
-        Ok(answered) => Ok(answered),
+        Ok(answered) => {
+            tell_hints(alloc, store, kept, line, err);
+            Ok(answered)
+        }
         Err(Failure::Refused(refusal)) => {
             tell_in_line(alloc, store, line, refusal, err);
             Err(Failure::Refused(refusal))

@@ -10,7 +10,7 @@ ghost use Rattle.stn_refusal.specs.declared.failure.Fault.TheVariants.{Net as Fa
 ghost use Rattle.stn_store.specs.{Files.IsFileFault, Steps.{Entries, LoadsLog}};
 
 use crate::coprocess::run_shell;
-use crate::reasons::{tell_reason, unusable};
+use crate::reasons::{tell_hints, tell_reason, tell_waiting, unusable};
 use std::alloc::Global;
 use std::fs::File;
 use std::io::{Read, Write};
@@ -22,7 +22,7 @@ use stn_effects::{print, print_now, tell, tell_failure, tell_fault};
 use stn_exchanges::{Peer, Service, connect, send_to_partner, serve_each};
 use stn_exec::run;
 use stn_line::{Line, LineFault, SiteLog, line, said};
-use stn_logs::answer;
+use stn_logs::{Kept, answer_with};
 use stn_refusal::{Failure, Fault};
 use stn_site::SitePlan;
 use stn_store::{FileStore, Store};
@@ -48,7 +48,7 @@ pub fn execute<
 
 /// Does the command of the words over a store, and says its status. The first word is the program's name. The status is 0 where nothing
 /// was refused and no device failed, 1 where something was, 2 where the words are no command's. An answer or a refusal is printed to
-/// `out`, a device's fault, the reason of a refusal or a fault, and a mistake in the words to `err`.
+/// `out`, a device's fault, the reason of a refusal or a fault, hints, and a mistake in the words to `err`.
 pub fn execute_over<
     S: Store<Global>,
     T: AllocGlobal + Clock + Net<Listener = TcpListener, Stream = TcpStream>,
@@ -201,7 +201,7 @@ fn do_line<
             seconds,
         } => status_of(send_to(rt, store, log, *address, limit(*seconds), out)),
         Line::Make(..) | Line::Change(..) | Line::Ask(..) | Line::Explain { .. } => {
-            status_of(tell_answer(rt.alloc(), store, line, out))
+            status_of(tell_answer(rt.alloc(), store, line, out, err))
         }
     }
 }
@@ -222,29 +222,33 @@ fn run_input<R: Read, W: Write>(
     reader: &mut Counted<R>,
     out: &mut Counted<W>,
 ) -> Result<u8, Failure>
-    requires reader_counts { failure_count reader.old < 2 ^ 64 - 1 }
-    requires out_counts { failure_count out.old < 2 ^ 64 - 1 }
     ensures status { IfOk result (λ status. status ≤ 1) }
-    ensures ran { RunsInput (device_of R.remaining reader.old) (device_of R.remaining reader.new)
-        (device_of W.contents out.old) (device_of W.contents out.new) result }
+    ensures ran { (entries : Entries) (err : Device) → RunsInput
+        (outside entries (device_of R.remaining reader.old) (device_of W.contents out.old) err)
+        (outside entries (device_of R.remaining reader.new) (device_of W.contents out.new) err) result }
 {
     let ran = run(alloc, reader, out)?;
     Ok(if ran.refused == 0 { 0 } else { 1 })
 }
 
-// Does a command on a log, and prints its answer.
-fn tell_answer<S: Store<Global>, W: Write>(
+// Does a command on a log, and prints its answer. Before that is told what it waits for, and then its hints.
+fn tell_answer<S: Store<Global>, W: Write, E: Write>(
     alloc: Global,
     store: &mut S,
     line: &Line<'_>,
     out: &mut Counted<W>,
+    err: &mut Counted<E>,
 ) -> Result<(), Failure>
-    ensures { (unread err : Device) → Answers S.fails line.now
-        (outside (S.entries store.old) unread (device_of W.contents out.old) err)
-        (outside (S.entries store.new) unread (device_of W.contents out.new) err) result }
+    ensures { (unread : Device) → Answers S.fails line.now
+        (outside (S.entries store.old) unread (device_of W.contents out.old) (device_of E.contents err.old))
+        (outside (S.entries store.new) unread (device_of W.contents out.new) (device_of E.contents err.new)) result }
 {
-    let text = answer(alloc, store, line)?;
-    print(&text, out)
+    let mut kept = Kept::nothing();
+    tell_waiting(alloc, store, line, err);
+    let text = answer_with(alloc, store, &mut kept, line)?;
+    print(&text, out)?;
+    tell_hints(alloc, store, &mut kept, line, err);
+    Ok(())
 }
 
 // How long a session or an exchange of so many seconds may take.

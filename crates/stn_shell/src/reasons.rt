@@ -1,11 +1,11 @@
-//! Why commands end without an answer, told on the standard error.
+//! What people should know of a command besides its answer, told on the standard error.
 
 ghost use Rattle.std.specs.Prelude.{◌≡◌};
 ghost use Rattle.stn_effects.specs.Printing.{device_of};
-ghost use Rattle.stn_reasons.specs.Reasons.{IsReasonInLine};
+ghost use Rattle.stn_reasons.specs.{Hints.IsHinted, Reasons.{IsReason, IsReasonInLine}, Waiting.TellsWaiting};
 ghost use Rattle.stn_refusal.specs.declared.failure.Failure.TheVariants.{Failed};
 ghost use Rattle.stn_refusal.specs.declared.failure.Fault.TheVariants.{Net as FaultOfNet};
-ghost use Rattle.stn_shell.specs.Outside.{TellsReason, TellsSome};
+ghost use Rattle.stn_shell.specs.Outside.{TellsSome};
 
 use std::alloc::Global;
 use std::io::{self, Write};
@@ -13,7 +13,8 @@ use stn_cause::Cause;
 use stn_device::Counted;
 use stn_effects::tell;
 use stn_line::Line;
-use stn_reasons::{reason_in_line, reason_of};
+use stn_logs::Kept;
+use stn_reasons::{hints_of, reason_in_line, reason_of, waiting_of};
 use stn_refusal::{Failure, Fault, Refusal};
 use stn_store::{Store, Trouble};
 
@@ -25,7 +26,7 @@ pub fn tell_reason<S: Store<Global>, E: Write>(
     failure: Failure,
     err: &mut Counted<E>,
 )
-    ensures { TellsReason line.now failure (S.entries store.now) (device_of E.contents err.old) (device_of E.contents err.new) }
+    ensures { TellsSome (IsReason (S.entries store.now) line.now failure) (device_of E.contents err.old) (device_of E.contents err.new) }
 {
     match reason_of(alloc, store, line, failure) {
         Ok(reason) => tell(&reason, err),
@@ -46,6 +47,37 @@ pub fn tell_in_line<S: Store<Global>, E: Write>(
     match reason_in_line(alloc, store, line, refusal) {
         Ok(why) => tell(&why, err),
         Err(_) => {}
+    }
+}
+
+/// Tells that a command waits for its log, if another program holds that.
+pub fn tell_waiting<S: Store<Global>, E: Write>(
+    alloc: Global,
+    store: &S,
+    line: &Line<'_>,
+    err: &mut Counted<E>,
+)
+    ensures { TellsSome (TellsWaiting line.now) (device_of E.contents err.old) (device_of E.contents err.new) }
+{
+    match waiting_of(alloc, store, line) {
+        Ok(waiting) => tell(&waiting, err),
+        Err(_) => {}
+    }
+}
+
+/// Tells the hints of a command that was done, on one line. A log that can't be read any more gives none.
+pub fn tell_hints<S: Store<Global>, E: Write>(
+    alloc: Global,
+    store: &S,
+    kept: &mut Kept<Global>,
+    line: &Line<'_>,
+    err: &mut Counted<E>,
+)
+    ensures { TellsSome (IsHinted (S.entries store.now) line.now) (device_of E.contents err.old) (device_of E.contents err.new) }
+{
+    match hints_of(alloc, store, kept, line) {
+        Ok(hints) => tell(&hints, err),
+        Err(_) => drop(store.trouble()),
     }
 }
 

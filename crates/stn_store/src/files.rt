@@ -3,7 +3,7 @@
 ghost use Rattle.std.specs.{Prelude.{◌≡◌, Ok, Err, MatchResult, IfOk, IfErr}, String.string_bytes};
 ghost use Rattle.stn_store.specs.{Files.IsFileFault, Store.IsLack};
 
-use crate::lock::{Lock, can_lock};
+use crate::lock::{Lock, can_lock, is_locked};
 use crate::log::spell_log;
 use crate::look::{Look, SeenFile};
 use crate::place::{Place, resolve};
@@ -98,6 +98,12 @@ fn hold_at<T: Files<File = File> + AllocGlobal>(rt: &T, path: &str) -> Result<He
     Ok(HeldFile { name, place, lock })
 }
 
+// Whether another program holds the log of a path.
+fn is_held_at<T: Files<File = File> + AllocGlobal>(rt: &T, path: &str) -> Result<bool, Undone> {
+    let path = resolve(rt, path)?;
+    Ok(is_locked(rt, path.as_str())?)
+}
+
 // Finds out whether the log of a path can be held and saved.
 fn can_save_at<T: Files<File = File> + AllocGlobal>(rt: &T, path: &str) -> Result<(), Undone>
     ensures { IfErr result (λ undone. IsLack IsFileFault undone.failure) }
@@ -128,6 +134,10 @@ impl<T: Files<File = File> + AllocGlobal + Clock> Store<Global> for FileStore<'_
 
     fn hold(&self, path: &str) -> Result<HeldFile, Failure> {
         self.told(hold_at(self.rt, path))
+    }
+
+    fn is_held(&self, path: &str) -> bool {
+        is_held_at(self.rt, path).unwrap_or(false)
     }
 
     fn can_save(&self, path: &str) -> Result<(), Failure> {

@@ -7,11 +7,12 @@ use crate::beside::{give_owner, make_file};
 use crate::place::NEW_MODE;
 use crate::same::has_name;
 use crate::trouble::{Undone, named};
-use std::fs::{self, File, Metadata, OpenOptions, Permissions};
+use std::fs::{self, File, Metadata, OpenOptions, Permissions, TryLockError};
 use std::io::{self, ErrorKind};
 use std::os::unix::fs::{MetadataExt, PermissionsExt};
 use std::rt::Files;
 use stn_cause::Cause;
+use stn_time::Memory;
 
 // The bits of a mode that say who may read, write and run a file.
 const ALL_BITS: u32 = 0o777;
@@ -77,6 +78,23 @@ fn wait_for<T: Files<File = File>>(rt: &T, path: &str, mode: u32) -> Result<File
         }
     }
     Err(Cause::Late)
+}
+
+/// Whether another program holds a log, by its lock. One that is not there, or is none, is held by nobody.
+pub fn is_locked<T: Files<File = File> + AllocGlobal>(rt: &T, log: &str) -> Result<bool, Memory> {
+    let path = format!(in rt.alloc(); "{log}.lock")?;
+    Ok(match open_empty(rt, path.as_str()) {
+        Ok(lock) => is_taken(&lock),
+        Err(_) => false,
+    })
+}
+
+// Whether an open lock is taken. A shared lock, let go at once, keeps nobody else from asking so.
+fn is_taken(lock: &File) -> bool {
+    match lock.try_lock_shared() {
+        Err(TryLockError::WouldBlock) => true,
+        Ok(()) | Err(TryLockError::Error(_)) => false,
+    }
 }
 
 /// Finds out whether a log can be held, and waits for nobody.

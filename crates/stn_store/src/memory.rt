@@ -88,6 +88,11 @@ impl<A: Allocator + Copy> Store<A> for MemoryStore<A> {
         Ok(HeldName { name })
     }
 
+    // Nobody else has what is in memory.
+    fn is_held(&self, _name: &str) -> bool {
+        false
+    }
+
     fn can_save(&self, _name: &str) -> Result<(), Failure> {
         Ok(())
     }

@@ -31,6 +31,9 @@ pub trait Store<A: Allocator + Copy> {
         ensures named { IfOk result (λ held. held_name held ≡ name.now) }
         ensures failed { IfErr result (IsLack fails) };
 
+    /// Whether another program holds the log of a name, as far as that shows. Nobody is waited for, and no lock is made.
+    fn is_held(&self, name: &str) -> bool;
+
     /// Finds out whether a log can be held and saved under a name. No log is changed, and nobody is waited for. Of files, the lock may be
     /// made, and a file beside the log is made and removed.
     fn can_save(&self, name: &str) -> Result<(), Failure>

@@ -16,7 +16,7 @@ answered Fails line old new ended (inr (inr (inl is))) = subst (λ one. Succeeds
 answered Fails line old new ended (inr (inr (inr is))) = subst (λ one. Succeeds (Answers Fails one) old new ended → Does Fails one old new ended) (sym is.1) (λ does. does)
 
 pub returns-in-Run : goal.returns-in-Run
-returns-in-Run g c = record { status = c.run_input.ensures.status; done = rw c.in-Run.is (c.run_input.ensures.ran, refl, refl) }
+returns-in-Run g c = record { status = c.run_input.ensures.status; done = rw c.in-Run.is (c.run_input.ensures.ran (g.S.Store.entries c.args.store.now) (device_of g.E.Write.contents c.args.err.now)) }
 
 pub returns-in-Shell : goal.returns-in-Shell
 returns-in-Shell g c = record { status = c.run_shell.ensures.status; done = rw c.in-Shell.is c.run_shell.ensures.ran }
@@ -33,4 +33,4 @@ pub returns-in-Make-clause-done : goal.returns-in-Make-clause-done
 returns-in-Make-clause-done g c =
     let line = c.args.line.now in
     answered g.S.Store.fails line _ _ c.status_of-in-Make.result c.in-Make.is (succeeded (Answers g.S.Store.fails line) _ _ c.tell_answer.result c.status_of-in-Make.result c.status_of-in-Make.ensures
-    (c.tell_answer.ensures (device_of g.R.Read.remaining c.args.reader.now) (device_of g.E.Write.contents c.args.err.now)))
+    (c.tell_answer.ensures (device_of g.R.Read.remaining c.args.reader.now)))

@@ -17,11 +17,9 @@ returns-in_err-peer g c =
 
 pub returns : goal.returns
 returns g c =
-    let site = c.in_ok-peer.peer in
     let after = c.send_to_partner.new.partner in
-    let met : PartnerState = record { unheard = None; told = None; ended = None; failed_reads = failure_count site.reader; failed_writes = failure_count site.writer } in
     let gone : PartnerState = record { unheard = None; told = None; ended = None; failed_reads = failure_count after.reader; failed_writes = failure_count after.writer } in
     let entries = g.S.Store.entries c.args.store.now in
     let out = device_of g.W.Write.contents c.args.out.now in
     λ unread err. went c.in_ok-plan.plan (outside entries unread out err) (c.in_ok-plan.ensures, refl, refl, refl)
-    (went tt (outside entries unread out err) refl ((c.send_to_partner.new.copy.state, met, gone, (refl, refl, refl), c.send_to_partner.ensures.sent), refl, refl))
+    (went tt (outside entries unread out err) refl ((c.send_to_partner.new.copy.state, gone, rw (c.in_ok-peer.ensures.reads, c.in_ok-peer.ensures.writes) at c.send_to_partner.ensures.sent), refl, refl))
