@@ -7,6 +7,18 @@ usage: bench/edits.py [CRATE ..]    with no crate: all that have edits there
 
 rt tries them in a copy of the repository, where the edits of bench/edits/CRATE take the place of those of
 crates/CRATE/must-fail. The copy shares what is built with the repository, so only what isn't built yet is proved first.
+
+How to write an edit:
+
+- Its line `file:` names a file of the crate. The text after `old:` has to occur once in it; with that after `new:`, the crate
+  still has to compile. The line `shows:` names the call whose clause refuses the wrong body; a second such line, a call that
+  only passes it on.
+- The prover must refuse it at once. If it searches until its limit, write an answer that names the clause on which the right body
+  rests. Keep the names that answers cite, or the edit shows only that they are gone: another operator (`!=` for `==`), `&&`, `||`,
+  a `return` or another call renames goals; another argument, `&`, `|`, `.max(..)`, `.and(..)`, `.or(..)?` and `.map_err(..)?` keep
+  them.
+- A goal that it breaks has an answer in proofs/, if only `search rules` or `grind (arith, common_steps)`, or the prover runs once
+  more to offer one. An edit that gives its goal another name can't have one.
 """
 import re
 import shutil

@@ -34,11 +34,17 @@ TOLD = 30
 SECONDS = 60
 LITTER = re.compile(r"^(.*)\.saving-[0-9]+$")
 NOBODY = 65534
+WAITING = ": another program holds it, waiting\n"
+
+
+def besides(err):
+    """What a standard error says besides hints, and that a command waits."""
+    return "".join(it for it in err.splitlines(True) if not it.startswith("hint: ") and not it.endswith(WAITING))
 
 
 def fault_in(err):
-    """The first line of a standard error: the fault. Its reason stands after it."""
-    return "".join(err.splitlines(True)[:1])
+    """The first line of a standard error but for these: the fault. Its reason stands after it."""
+    return "".join(besides(err).splitlines(True)[:1])
 
 
 class Wrong(Exception):
@@ -73,7 +79,7 @@ class Program:
 
     def answers(self, wanted, *words, **options):
         status, out, err = self.run(*words, **options)
-        check((status, out, err) == (0, wanted, ""), f"{words}: {status} {out!r} {err!r} in place of {wanted!r}")
+        check((status, out, besides(err)) == (0, wanted, ""), f"{words}: {status} {out!r} {err!r} in place of {wanted!r}")
 
     def refuses(self, wanted, *words, **options):
         status, out, err = self.run(*words, **options)
@@ -86,7 +92,7 @@ class Program:
     def add(self, log, number=0, site="1", **options):
         """Adds a bound: its id."""
         status, out, err = self.run("add", log, site, "z", "s1", f"--hi={1000 + number}", **options)
-        check(status == 0 and out.startswith("added ") and err == "", f"add {log}: {status} {out!r} {err!r}")
+        check(status == 0 and out.startswith("added ") and besides(err) == "", f"add {log}: {status} {out!r} {err!r}")
         return out.split()[1]
 
     def records(self, log, site="1"):
@@ -159,18 +165,20 @@ def one_new_log(stn):
 
 
 def waits(stn):
-    """Who changes a log waits for who holds it; who reads it doesn't."""
+    """Who changes a log waits for who holds it, and says so; who reads it doesn't, and who is refused by its words neither."""
     stn.answers("made\n", "bare", "a.log", "1", "1")
     first = stn.add("a.log")
     with open("a.log.lock", "rb") as lock:
         fcntl.flock(lock, fcntl.LOCK_EX)
-        adding = stn.start("add", "a.log", "1", "z", "s1")
+        adding = stn.start("add", "a.log", "1", "z", "s1", "--hi=9")
         time.sleep(0.5)
         check(adding.poll() is None, "add didn't wait")
         check(stn.records("a.log") == 1, "report of a log that is held")
+        refused = stn.run("add", "a.log", "1", "z", "S1")
+        check(refused[1] == "refused 70 0\n" and WAITING not in refused[2], f"words of a log that is held: {refused}")
         check(first == "1.1", first)
     out, err = adding.communicate(timeout=SECONDS)
-    check((out, err) == (b"added 1.2\n", b""), f"add after the wait: {out!r} {err!r}")
+    check((out, err.decode()) == (b"added 1.2\n", "a.log" + WAITING), f"add after the wait: {out!r} {err!r}")
 
 
 def all_wait(stn):
@@ -191,7 +199,7 @@ def all_wait(stn):
             time.sleep(0.3)
             check(running.poll() is None, f"{words[0]} didn't wait")
         answer = running.communicate(timeout=SECONDS)
-        check(answer == (wanted, b""), f"{words}: {answer} in place of {wanted}")
+        check(answer[0] == wanted and answer[1].decode().startswith("a.log" + WAITING), f"{words}: {answer} in place of {wanted}")
 
 
 def holder_stopped(stn):
@@ -376,7 +384,7 @@ def link_changes(stn):
         os.symlink("b.log", "next")
         os.rename("next", "one.log")
     answer = adding.communicate(timeout=SECONDS)
-    check(answer == (b"added 1.1\n", b""), f"add: {answer}")
+    check((answer[0], besides(answer[1].decode())) == (b"added 1.1\n", ""), f"add: {answer}")
     check((stn.records("a.log"), stn.records("b.log")) == (1, 0), "the bound is in the other log")
     check(os.readlink("one.log") == "b.log", "the link was changed")
     check(stn.add("one.log") == "1.1" and stn.records("b.log") == 1, "the next command follows the link as it is")
@@ -456,7 +464,8 @@ def next_lock(stn):
             fcntl.flock(removed, fcntl.LOCK_UN)
             time.sleep(0.5)
             check(adding.poll() is None, "add took a lock that was removed")
-    check(adding.communicate(timeout=SECONDS) == (b"added 1.1\n", b""), "add by the next lock")
+    answer = adding.communicate(timeout=SECONDS)
+    check((answer[0], besides(answer[1].decode())) == (b"added 1.1\n", ""), f"add by the next lock: {answer}")
 
 
 def hard_links(stn):

@@ -22,6 +22,7 @@ PROGRAM = TOP / "out" / "stn"
 # A session may take so long, and a machine that does other work at the same time so much longer.
 SECONDS = 2
 SLACK = 4
+WAITING = ": another program holds it, waiting\n"
 FAILED = []
 
 
@@ -32,10 +33,11 @@ def check(what, holds, shown=""):
 
 
 def run(*words):
-    """A command's output, or the line of its refusal or fault without the reason, its status, and how long it took."""
+    """A command's output, or the line of its refusal or fault without the reason, its status, and how long it took. Hints, and
+    that it waits, are left out."""
     start = time.monotonic()
     done = subprocess.run([PROGRAM, *map(str, words)], stdout=subprocess.PIPE, stderr=subprocess.STDOUT, timeout=120)
-    lines = done.stdout.decode().splitlines(True)
+    lines = [it for it in done.stdout.decode().splitlines(True) if not it.startswith("hint: ") and not it.endswith(WAITING)]
     told = lines[:1] if lines and lines[0].startswith(("fault ", "refused ")) else lines
     return "".join(told), done.returncode, time.monotonic() - start
 
