@@ -14,12 +14,12 @@ A link has to lead to a file, and where it names an anchor, to a heading of it. 
 folder of a crate, and a file of `specs/` and `proofs/` is also named without its ending; a name alone is that of some file.
 
 A name is a word in backticks, perhaps after its crate, its module or its type, as in `Type::name`. PROMISES.md, and what
-README.md says of proofs and crates, name functions, types, traits, constants, what a trait says of its types, definitions,
+README.md says of proofs, name functions, types, traits, constants, what a trait says of its types, definitions,
 crates, and clauses of the functions that the same item names before; the parentheses after a function list clauses. In
 PROMISES.md the section of a crate has to name each function with a clause that another crate can call: `pub`, and handed on
 by `lib.rt`, or of a type or trait that is.
 
-The table of crates in README.md has a row for each, with its lines of code, within a tenth.
+The table of crates in READING.md has a row for each.
 
 The help of the program and FORMATS.md list the numbers of all refusals: just those of the table that the proofs cite.
 """
@@ -32,7 +32,8 @@ from pathlib import Path
 TOP = Path(__file__).resolve().parent.parent
 CRATES = TOP / "crates"
 README = TOP / "README.md"
-LISTED = [README, TOP / "docs" / "GUIDE.md", TOP / "docs" / "READING.md"]
+READING = TOP / "docs" / "READING.md"
+LISTED = [README, TOP / "docs" / "GUIDE.md", READING]
 HELP = CRATES / "stn_line" / "src" / "help.rt"
 FORMATS = TOP / "docs" / "FORMATS.md"
 DOCUMENTS = [README, *sorted((TOP / "docs").glob("*.md")), TOP / "bench" / "README.md"]
@@ -43,7 +44,7 @@ HEAD = re.compile(r"^(?P<end>\}|\});?$|^(?:pub )?(?:unsafe )?(?P<kind>impl|trait
                   r"|^ *(?P<pub>pub )?(?:pub\(crate\) )?(?:unsafe )?fn (?P<name>\w+)", re.M)
 END_OF_HEAD = re.compile(r"(?:\b(?P<what>ensures|requires|decreases)(?: (?P<clause>\w+))? )?\{|;\n")
 SPAN = re.compile(r"(?<=` )\((?P<clauses>`\w+`(?:,\s+`\w+`)*)\)|`(?P<name>[A-Za-z_]\w*(?:::\w+)*)`")
-CRATE_ROW = re.compile(r"^\| `(\w+)` \|.*\| ([\d,]+) \|$", re.M)
+CRATE_ROW = re.compile(r"^\| `(\w+)` \|.*\|$", re.M)
 LINK = re.compile(r"\]\(([^()\s]+)\)")
 PATH = re.compile(r"(?<![\w./~-])(?:\./)?[\w.-]+(?:/[\w.-]*)+|(?<![\w./-])[\w-]+\.(?:md|py|antt|rt)\b")
 
@@ -293,13 +294,11 @@ def other_names():
 
 
 def crate_rows():
-    """Where the table of crates lacks a crate, or has its lines of code wrong by more than a tenth."""
-    rows = {match[1]: (number, int(match[2].replace(",", ""))) for number, match in found(CRATE_ROW, README)}
+    """The crates that the table of crates lacks."""
+    rows = {match[1] for _, match in found(CRATE_ROW, READING)}
     for name in [line.partition(":")[0] for line in lines_of(TOP / "crates.txt") if not line.startswith("#")]:
-        number, said = rows.get(name, (1, 0))
-        lines = sum(len(lines_of(path)) for path in (CRATES / name / "src").rglob("*.rt"))
-        if name not in OF_TESTS | {"stn"} and not 0.9 * lines <= said <= 1.1 * lines:
-            yield README, number, f"{name} has {lines} lines, not {said}"
+        if name not in OF_TESTS | {"stn", *rows}:
+            yield READING, 1, f"the table of crates lacks {name}"
 
 
 def without_listings(document):
@@ -326,7 +325,7 @@ def missing_names(document, functions, others, named):
     The functions that the sections of their crates name are added to `named`."""
     text = without_listings(document)
     for section, begins, item in items(text):
-        if document == README and section not in ("What is proved", "The crates"):
+        if document == README and section != "What is proved":
             continue
         owner, clauses = "", set()
         for match in SPAN.finditer(item):
