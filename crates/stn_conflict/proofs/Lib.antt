@@ -9,6 +9,8 @@ pub mod Rows
 pub mod Steps
 pub mod Known
 pub mod Relaxing
+pub mod Lowering
+pub mod Sweeps
 pub mod Searches
 pub mod Found
 pub mod Turned

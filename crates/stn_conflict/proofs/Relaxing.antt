@@ -1,7 +1,7 @@
-use Rattle.std.{proofs.{Common.{◌≡◌, ◌≢◌, inl, inr, ℕ, Bool, true, false, ◌+◌, ◌<◌, ◌≤◌, List, [], ◌∷◌, ◌++◌, length, set, take, replicate, sym, subst, ap, refl, ◌∙◌, arith}, lemmas.{Int.ints, Bool.{cases_eq, cases_lt, false≢true}, List.{take-take, get_or-set_same, get_or-set_other, get_or-replicate, get_or_append_left, get_or_push, length-append, length-set, length-replicate, Sums.sum_by-set, Elements.{All-from_get_or, All-take, All-append, All-push}}}}, specs.Prelude.{ℤ, pos, negsuc, neg_ℤ, ◌+ℤ◌, ◌-ℤ◌, ◌≤ℤ◌, ◌<ℤ◌, All, unsigned_abs}}
+use Rattle.std.{proofs.{Common.{◌≡◌, ◌≢◌, inl, inr, ℕ, Bool, true, false, ◌+◌, ◌<◌, ◌≤◌, List, [], ◌∷◌, ◌++◌, length, set, take, replicate, sym, subst, ap, refl, ◌∙◌, arith}, lemmas.{Int.ints, Bool.{cases_eq, cases_lt, false≢true}, List.{take-take, get_or-set_same, get_or-set_other, get_or-replicate, get_or_append_left, get_or_push, length-append, length-set, length-replicate, Elements.{All-from_get_or, All-take, All-append, All-push}}}}, specs.Prelude.{ℤ, pos, ◌+ℤ◌, ◌-ℤ◌, ◌≤ℤ◌, ◌<ℤ◌, All}}
 use Rattle.stn_time.{specs.Time.{horizon, IsWithinHorizon}, proofs.Each.All-left}
 use Rattle.stn_net.{specs.{Difference.{Difference, NamesEvents}, Schedule.{Meets, IsSchedule, HasSchedule, times_of}, Horizon.horizon_bounds}, proofs.Widest.horizon_times}
-use Rattle.stn_conflict.{specs.{declared.links.{Link.Link, Side.{Side, TheVariants.{Upper, Lower}}}, Arcs.{Arc, arc, arc_of, bound_at}, Relaxation.{NamesAmong, IsNetwork, AreEstimates, AreDistances, AreRelaxed, IsRelaxed, IsRelaxedBut, IsPossibleGap, is_fresh, room}}, proofs.{Tightness.{schedule_before, link_kept, link_reaches, link_among}, Known.known_first, LevelTable.meets_moved}}
+use Rattle.stn_conflict.{specs.{declared.links.{Link.Link, Side.{Side, TheVariants.{Upper, Lower}}}, Arcs.{Arc, arc, arc_of, bound_at}, Relaxation.{NamesAmong, IsNetwork, AreEstimates, AreDistances, AreRelaxed, IsFloor, IsRelaxedBut, IsPossibleGap, is_fresh}}, proofs.{Lowering.{fell_elsewhere, stale_before}, Tightness.{schedule_before, link_kept, link_reaches, link_among}, Known.known_first, LevelTable.meets_moved}}
 
 -- the events of the plan are so many and the origin
 pub among_events : (bounds : List Difference) (events count : ℕ) → count ≡ events + 1 → All (NamesEvents events) bounds → All (NamesAmong count) bounds
@@ -77,72 +77,46 @@ estimates_of_more bounds events low middle start far more long named h =
       least = λ time s. h.least time (back time s);
     }
 
--- in each schedule the link's end comes no later than its beginning and the link allow
-way_sound : (bounds : List Difference) (start : ℕ) (far : List ℤ) (link : Link) (time : ℕ → ℤ) → AreEstimates bounds start far → link.place < length bounds → IsSchedule bounds time
-    → (time (arc_of bounds link).to -ℤ time start) ≤ℤ (times_of far (arc_of bounds link).from +ℤ (arc_of bounds link).weight)
-way_sound bounds start far link time h there s =
-    let ends = link_among bounds (length far) link h.named there in
-    let begin = h.sound time s (arc_of bounds link).from ends.0 in
-    let kept = link_kept bounds link time there s in
+-- a schedule, moved so that `start` stands at 0, is a floor of the estimates
+pub floor_of : (bounds : List Difference) (start : ℕ) (far : List ℤ) (time : ℕ → ℤ) → AreEstimates bounds start far → IsSchedule bounds time
+    → IsFloor bounds start far (λ x. time x -ℤ time start)
+floor_of bounds start far time h s = record {
+  own = omega (arith, ints);
+  within = h.least time s;
+  below = h.sound time s;
+  met = λ link there. (let kept = link_kept bounds link time there s in omega (arith, ints));
+}
+
+-- by a floor the link's end comes no later than the estimate at its beginning and the link allow
+pub below_way : (bounds : List Difference) (start : ℕ) (far : List ℤ) (link : Link) (low : ℕ → ℤ) → All (NamesAmong (length far)) bounds → link.place < length bounds
+    → IsFloor bounds start far low → low (arc_of bounds link).to ≤ℤ (times_of far (arc_of bounds link).from +ℤ (arc_of bounds link).weight)
+below_way bounds start far link low named there h =
+    let begin = h.below (arc_of bounds link).from (link_among bounds (length far) link named there).0 in
+    let met = h.met link there in
     omega (arith, ints)
 
--- an estimate of the start below 0 refuses each schedule
-pub refused_at_start : (bounds : List Difference) (start : ℕ) (far : List ℤ) (link : Link) (way : ℤ) → AreEstimates bounds start far → link.place < length bounds
-    → way ≡ times_of far (arc_of bounds link).from +ℤ (arc_of bounds link).weight → (arc_of bounds link).to ≡ start → way <ℤ times_of far (arc_of bounds link).to → ¬ HasSchedule bounds
-refused_at_start bounds start far link way h there is same less (time, s) =
-    let sound = way_sound bounds start far link time h there s in
-    let own = h.own in
-    let now = ap time same in
+-- an estimate of the start below 0 refuses each floor
+pub refused_at_start : (bounds : List Difference) (start : ℕ) (far : List ℤ) (link : Link) (low : ℕ → ℤ) → All (NamesAmong (length far)) bounds → times_of far start ≡ pos 0
+    → link.place < length bounds → (arc_of bounds link).to ≡ start
+    → (times_of far (arc_of bounds link).from +ℤ (arc_of bounds link).weight) <ℤ times_of far (arc_of bounds link).to → ¬ IsFloor bounds start far low
+refused_at_start bounds start far link low named own there same less h =
+    let below = below_way bounds start far link low named there h in
+    let zero = h.own in
+    let now = ap low same in
     let at = ap (times_of far) same in
     omega (arith, ints)
 
 -- and so does one beyond the horizon
-pub refused_beyond : (bounds : List Difference) (start : ℕ) (far : List ℤ) (link : Link) (way : ℤ) → AreEstimates bounds start far → link.place < length bounds
-    → way ≡ times_of far (arc_of bounds link).from +ℤ (arc_of bounds link).weight → way ≤ℤ horizon → ¬ IsWithinHorizon way → ¬ HasSchedule bounds
-refused_beyond bounds start far link way h there is most beyond (time, s) =
-    let sound = way_sound bounds start far link time h there s in
-    let ends = link_among bounds (length far) link h.named there in
-    let least = h.least time s (arc_of bounds link).to ends.1 in
+pub refused_beyond : (bounds : List Difference) (start : ℕ) (far : List ℤ) (link : Link) (low : ℕ → ℤ) → All (NamesAmong (length far)) bounds → link.place < length bounds
+    → (times_of far (arc_of bounds link).from +ℤ (arc_of bounds link).weight) ≤ℤ horizon
+    → ¬ IsWithinHorizon (times_of far (arc_of bounds link).from +ℤ (arc_of bounds link).weight) → ¬ IsFloor bounds start far low
+refused_beyond bounds start far link low named there most beyond h =
+    let below = below_way bounds start far link low named there h in
+    let least = h.within (arc_of bounds link).to (link_among bounds (length far) link named there).1 in
     beyond (omega (arith, ints), most)
 
--- a natural number is its own absolute value
-abs_is : (z : ℤ) → pos 0 ≤ℤ z → pos (unsigned_abs z) ≡ z
-abs_is (pos n) h = refl
-abs_is (negsuc n) h = absurd (omega (arith, ints))
-
--- the estimate at the link's end falls
-pub relaxed_estimates : (bounds : List Difference) (start : ℕ) (far : List ℤ) (link : Link) (x : ℕ) (way : ℤ) → AreEstimates bounds start far → link.place < length bounds
-    → x ≡ (arc_of bounds link).to → way ≡ times_of far (arc_of bounds link).from +ℤ (arc_of bounds link).weight
-    → x ≢ start → neg_ℤ horizon ≤ℤ way → way <ℤ times_of far x
-    → AreEstimates bounds start (set far x way) × (room (set far x way) < room far)
-relaxed_estimates bounds start far link x way h there to is apart least less =
-    let ends = link_among bounds (length far) link h.named there in
-    let long : length (set far x way) ≡ length far = length-set far x way in
-    let xs : x < length far = rw to ends.1 in
-    let here : times_of (set far x way) x ≡ way = get_or-set_same far x way (pos 0) xs in
-    let others : (y : ℕ) → y ≢ x → times_of (set far x way) y ≡ times_of far y = λ y differs. get_or-set_other far x y way (pos 0) differs in
-    let falls = sum_by-set (λ (z : ℤ). unsigned_abs (z +ℤ horizon)) far x way (pos 0) xs in
-    let now = abs_is (way +ℤ horizon) (omega (arith, ints)) in
-    let then = abs_is (times_of far x +ℤ horizon) (omega (arith, ints)) in (
-      record {
-        named = rw long h.named;
-        start_named = omega (arith, h.start_named);
-        own = others start (λ e. apart (sym e)) ∙ h.own;
-        sound = λ time s y below. elim (cases_eq y x) [
-          | inl same ↦ (
-              let at : times_of (set far x way) y ≡ way = ap (times_of (set far x way)) same ∙ here in
-              let sound = way_sound bounds start far link time h there s in
-              let end : time y ≡ time (arc_of bounds link).to = ap time (same ∙ to) in
-              omega (arith, ints))
-          | inr differs ↦ (let at = others y differs in let sound = h.sound time s y (omega arith) in omega (arith, ints))
-        ];
-        least = λ time s y below. h.least time s y (omega arith);
-      },
-      omega (arith, ints),
-    )
-
 -- where each link is relaxed, the estimates, moved so that the origin stands at 0, are a schedule
-relaxed_schedule : (bounds : List Difference) (far : List ℤ) → AreRelaxed bounds far
+relaxed_schedule : (bounds : List Difference) (far : List ℤ) → AreRelaxed bounds (times_of far)
     → IsSchedule bounds (λ x. times_of far x -ℤ times_of far 0)
 relaxed_schedule bounds far relaxed = record {
   origin = omega (arith, ints);
@@ -152,7 +126,7 @@ relaxed_schedule bounds far relaxed = record {
 }
 
 -- and the estimates are the distances
-pub settled : (bounds : List Difference) (start : ℕ) (far : List ℤ) → AreEstimates bounds start far → AreRelaxed bounds far
+pub settled : (bounds : List Difference) (start : ℕ) (far : List ℤ) → AreEstimates bounds start far → AreRelaxed bounds (times_of far)
     → HasSchedule bounds × AreDistances bounds start far
 settled bounds start far h relaxed =
     let time : ℕ → ℤ = λ x. times_of far x -ℤ times_of far 0 in
@@ -168,49 +142,17 @@ settled bounds start far h relaxed =
 -- one link further back
 pub back_over : (bounds : List Difference) (count start here from to : ℕ) (weight sum : ℤ) (link : Link) → All (NamesAmong count) bounds → link.place < length bounds
     → from ≡ (arc_of bounds link).from → to ≡ (arc_of bounds link).to → weight ≡ (arc_of bounds link).weight → to ≡ here
-    → ((time : ℕ → ℤ) → IsSchedule bounds time → (time start -ℤ time here) ≤ℤ sum)
-    → (from < count) × ((time : ℕ → ℤ) → IsSchedule bounds time → (time start -ℤ time from) ≤ℤ (sum +ℤ weight))
+    → ((low : ℕ → ℤ) → AreRelaxed bounds low → (low start -ℤ low here) ≤ℤ sum)
+    → (from < count) × ((low : ℕ → ℤ) → AreRelaxed bounds low → (low start -ℤ low from) ≤ℤ (sum +ℤ weight))
 back_over bounds count start here from to weight sum link named there is_from is_to is_weight same kept = (
   rw is_from (link_among bounds count link named there).0,
-  λ time s.
-      let step = link_kept bounds link time there s in
-      let so_far = kept time s in
-      let begin = ap time is_from in
-      let end = ap time (sym is_to ∙ same) in
+  λ low met.
+      let step = met link there in
+      let so_far = kept low met in
+      let begin = ap low is_from in
+      let end = ap low (sym is_to ∙ same) in
       omega (arith, ints),
 )
-
--- where the estimate of x falls, the events whose estimates are not fresh are others
-fell_elsewhere : (fresh : List Bool) (x y : ℕ) → x < length fresh → is_fresh (set fresh x true) y ≡ false → y ≢ x
-fell_elsewhere fresh x y there stale same = false≢true (sym stale ∙ ap (is_fresh (set fresh x true)) same ∙ get_or-set_same fresh x true true there)
-
--- and theirs were not fresh before
-pub stale_before : (fresh : List Bool) (x y : ℕ) → x < length fresh → is_fresh (set fresh x true) y ≡ false → is_fresh fresh y ≡ false
-stale_before fresh x y there stale = sym (get_or-set_other fresh x y true true (fell_elsewhere fresh x y there stale)) ∙ stale
-
--- the links from them that were relaxed still are
-pub relaxed_still : (bounds : List Difference) (far : List ℤ) (fresh : List Bool) (link : Link) (x : ℕ) (way : ℤ) → x < length far → x < length fresh → way <ℤ times_of far x
-    → IsRelaxed bounds far link → is_fresh (set fresh x true) (arc_of bounds link).from ≡ false → IsRelaxed bounds (set far x way) link
-relaxed_still bounds far fresh link x way xs ys less relaxed stale =
-    let a = arc_of bounds link in
-    let from = get_or-set_other far x a.from way (pos 0) (fell_elsewhere fresh x a.from ys stale) in
-    elim (cases_eq a.to x) [
-      | inl same ↦ (
-          let to : times_of (set far x way) a.to ≡ way = ap (times_of (set far x way)) same ∙ get_or-set_same far x way (pos 0) xs in
-          let was = ap (times_of far) same in
-          omega (arith, ints))
-      | inr differs ↦ (let to = get_or-set_other far x a.to way (pos 0) differs in omega (arith, ints))
-    ]
-
--- and so is the link by which the estimate falls
-pub relaxed_now : (bounds : List Difference) (far : List ℤ) (fresh : List Bool) (link : Link) (x : ℕ) (way : ℤ) → x < length far → x < length fresh
-    → x ≡ (arc_of bounds link).to → way ≡ times_of far (arc_of bounds link).from +ℤ (arc_of bounds link).weight
-    → is_fresh (set fresh x true) (arc_of bounds link).from ≡ false → IsRelaxed bounds (set far x way) link
-relaxed_now bounds far fresh link x way xs ys to is stale =
-    let a = arc_of bounds link in
-    let from = get_or-set_other far x a.from way (pos 0) (fell_elsewhere fresh x a.from ys stale) in
-    let end : times_of (set far x way) a.to ≡ way = ap (times_of (set far x way)) (sym to) ∙ get_or-set_same far x way (pos 0) xs in
-    omega (arith, ints)
 
 -- where all estimates are fresh, nothing is claimed
 pub all_fresh : (bounds : List Difference) (far : List ℤ) (fresh : List Bool) (count : ℕ) → fresh ≡ replicate count true → All (NamesAmong count) bounds → IsRelaxedBut bounds far fresh
@@ -218,7 +160,7 @@ all_fresh bounds far fresh count is named = λ link there stale.
     absurd (false≢true (sym stale ∙ ap (λ l. is_fresh l (arc_of bounds link).from) is ∙ get_or-replicate count (arc_of bounds link).from true true (link_among bounds count link named there).0))
 
 -- over the distances each link is met
-pub distances_relaxed : (bounds : List Difference) (start : ℕ) (far : List ℤ) → AreDistances bounds start far → AreRelaxed bounds far
+pub distances_relaxed : (bounds : List Difference) (start : ℕ) (far : List ℤ) → AreDistances bounds start far → AreRelaxed bounds (times_of far)
 distances_relaxed bounds start far d = λ link there.
     let ends = link_among bounds (length far) link d.named there in
     link_reaches bounds start link (times_of far (arc_of bounds link).from) (times_of far (arc_of bounds link).to) there (d.tightest (arc_of bounds link).from ends.0) (d.tightest (arc_of bounds link).to ends.1)

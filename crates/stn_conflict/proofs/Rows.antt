@@ -1,7 +1,7 @@
 -- Rows of looks, by the event at which their links begin.
-use Rattle.std.{proofs.{Common.{◌≡◌, ◌≢◌, inl, inr, ℕ, zero, suc, ◌+◌, ◌-◌, ◌*◌, ◌<◌, ◌≤◌, List, [], ◌∷◌, ◌++◌, length, map, set, take, refl, sym, subst, ap, ◌∙◌, arith}, lemmas.{Bool.{cases_eq, cases_lt}, List.{map-set, map-append, get_or-map, get_or_default, get_or-take, length-map, length-set, length-take, length-append, get_or-set_same, get_or-set_other, get_or_append_left, get_or-append_right, get_or_past, Sorted.{IsNonDecreasingBy-push, IsNonDecreasingBy-short}, Elements.{Contains-push, Contains-append_left, Contains-push_cases}}}}, specs.{Prelude.{Vec, slice_index_or}, List.{Contains, Sorted.IsNonDecreasingBy}}}
+use Rattle.std.{proofs.{Common.{◌≡◌, ◌≢◌, inl, inr, ℕ, zero, suc, ◌+◌, ◌-◌, ◌*◌, ◌<◌, ◌≤◌, List, [], ◌∷◌, ◌++◌, length, map, set, take, refl, sym, subst, ap, ◌∙◌, arith}, lemmas.{Bool.{cases_eq, cases_lt}, List.{map-set, map-append, get_or-map, get_or_default, get_or-take, length-map, length-set, length-take, length-append, get_or-set_same, get_or-set_other, get_or_append_left, get_or-append_right, get_or_past, Sorted.{IsNonDecreasingBy-push, IsNonDecreasingBy-short}, Elements.{Contains-push, Contains-append_left, Contains-push_cases}}}}, specs.{Prelude.{Vec, All, slice_index_or}, List.{Contains, Sorted.IsNonDecreasingBy}}}
 use Rattle.stn_net.specs.Difference.{Difference}
-use Rattle.stn_conflict.{specs.{declared.{graph.Direction.{Direction, TheVariants.{Forward, Backward}}, links.Link.Link, outgoing.{Look.Look, Rows.Rows}}, Arcs.{Arc, arc, arc_of, bound_at, rank}, Directions.facing, Search.{across, other_side}, Relaxation.{row_of, HasLink, HasRows, IsCutAt, IsLook, IsRow, ahead, AreRowsTo, AreFirstRows}}, proofs.{OneCycle.rank_tells, Steps.{place_of_rank, rank_place, rank_within}, Turned.{arc_ahead, arc_listed, length_facing}}}
+use Rattle.stn_conflict.{specs.{declared.{graph.Direction.{Direction, TheVariants.{Forward, Backward}}, links.Link.Link, outgoing.{Look.Look, Rows.Rows}}, Arcs.{Arc, arc, arc_of, bound_at, rank}, Directions.facing, Search.{across, other_side}, Relaxation.{row_of, HasLink, HasRows, IsCutAt, IsLook, IsRow, NamesAmong, ahead, AreRowsTo, AreFirstRows}}, proofs.{OneCycle.rank_tells, Steps.{place_of_rank, rank_place, rank_within}, Tightness.link_among, Turned.{arc_ahead, arc_listed, length_facing}}}
 
 -- what makes a look one at a link of the bounds
 pub is_look : (bounds : List Difference) (bound : Difference) (link : Link) (look : Look) (from : ℕ) → bound ≡ bound_at bounds link.place → look.link ≡ link → from ≡ (arc bound link.side).from
@@ -265,3 +265,21 @@ module _ {A : Type 0} where
   -- a row that is read
   pub row_is : (rows : List (Vec Look A)) (x : ℕ) (row : Vec Look A) → x < length rows → row ≡ slice_index_or rows x row → row_of rows x ≡ row.items
   row_is rows x row below is = get_or-map (λ (r : Vec Look A). r.items) rows x row [] below ∙ ap (λ (r : Vec Look A). r.items) (sym is)
+
+  module _ (bounds : List Difference) (count : ℕ) (rows : List (Vec Look A)) (bound : Difference) (link : Link) (look : Look) (from : ℕ) (row new : Vec Look A) (named : All (NamesAmong count) bounds)
+      (there : link.place < length bounds) (is : bound ≡ bound_at bounds link.place) (begins : from ≡ (arc bound link.side).from) (at : row ≡ slice_index_or rows from row) where
+    from_among : from < count
+    from_among = omega (arith, begins, (link_among bounds count link named there).0, ap (λ b. (arc b link.side).from) is)
+
+    -- the next link's look in its row
+    pub rows_next : (seen next : ℕ) → rank link ≡ seen → seen + 1 ≡ next → look.link ≡ link → look.to ≡ (arc bound link.side).to → look.onward ≡ (arc bound link.side).weight → look.back ≡ (arc bound (other_side link.side)).weight
+        → AreRowsTo bounds count seen rows → new.items ≡ row.items ++ look ∷ [] → AreRowsTo bounds count next (set rows from new)
+    rows_next seen next ranked more names ends onward back h items =
+        let read = row_is rows from row (omega (arith, from_among, h.long)) at in
+        let whole = rows_push bounds count seen from rows new look h (ap rank names ∙ ranked) (is_look bounds bound link look from is names begins ends onward back) from_among
+        (items ∙ ap (λ l. l ++ look ∷ []) (sym read)) in
+        subst (λ n. AreRowsTo bounds count n (set rows from new)) more whole
+
+    -- nothing more in it
+    pub rows_same : (seen : ℕ) → AreRowsTo bounds count seen rows → new.items ≡ row.items → AreRowsTo bounds count seen (set rows from new)
+    rows_same seen h items = rows_kept bounds count seen from rows new h from_among (items ∙ sym (row_is rows from row (omega (arith, from_among, h.long)) at))

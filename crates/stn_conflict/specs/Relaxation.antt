@@ -1,5 +1,5 @@
 -- For proofs alone: no public clause cites these words.
-use Rattle.std.specs.{Prelude.{◌≡◌, ℕ, ℤ, pos, neg_ℤ, ◌+ℤ◌, ◌-ℤ◌, ◌≤ℤ◌, ◌<◌, ◌≤◌, ◌+◌, ◌*◌, Bool, true, false, List, [], length, map, All, Contains, Vec, slice_index_or, sum_by, unsigned_abs}, List.Sorted.IsNonDecreasingBy}
+use Rattle.std.specs.{Prelude.{◌≡◌, ℕ, ℤ, pos, neg_ℤ, ◌+ℤ◌, ◌-ℤ◌, ◌≤ℤ◌, ◌<ℤ◌, ◌<◌, ◌≤◌, ◌+◌, ◌*◌, Bool, true, false, List, [], length, map, All, Contains, Vec, slice_index_or}, List.Sorted.IsNonDecreasingBy}
 use Rattle.stn_time.specs.Time.{horizon}
 use Rattle.stn_net.specs.{Event.most_events, Difference.{Difference, NamesEvents}, Schedule.{IsSchedule, times_of}, Matrix.Tightest.IsTightest}
 use Rattle.stn_conflict.specs.{declared.{graph.Direction.{Direction, TheVariants.{Forward, Backward}}, links.Link.Link, outgoing.{Look.Look, Rows.Rows}, relaxation.Search.Search}, Arcs.{arc_of, rank}, Search.across}
@@ -28,13 +28,13 @@ pub record AreDistances (bounds : List Difference) (start : ℕ) (far : List ℤ
   pub start_named : start < length far
   pub tightest : (x : ℕ) → x < length far → IsTightest bounds start x (times_of far x)
 
--- the estimate at the link's end is no more than that at its beginning and the link allow
-abbrev pub IsRelaxed : List Difference → List ℤ → Link → Type 0
-IsRelaxed bounds far link = times_of far (arc_of bounds link).to ≤ℤ (times_of far (arc_of bounds link).from +ℤ (arc_of bounds link).weight)
+-- by these times the link's end comes no later after its beginning than the link allows
+abbrev pub IsRelaxed : List Difference → (ℕ → ℤ) → Link → Type 0
+IsRelaxed bounds times link = times (arc_of bounds link).to ≤ℤ (times (arc_of bounds link).from +ℤ (arc_of bounds link).weight)
 
--- each link is relaxed
-abbrev pub AreRelaxed : List Difference → List ℤ → Type 0
-AreRelaxed bounds far = (link : Link) → link.place < length bounds → IsRelaxed bounds far link
+-- and so for each link
+abbrev pub AreRelaxed : List Difference → (ℕ → ℤ) → Type 0
+AreRelaxed bounds times = (link : Link) → link.place < length bounds → IsRelaxed bounds times link
 
 -- the event's estimate was lowered since its links were relaxed
 abbrev pub is_fresh : List Bool → ℕ → Bool
@@ -43,11 +43,7 @@ is_fresh fresh event = slice_index_or fresh event true
 -- each link from an event whose estimate is not fresh is relaxed
 abbrev pub IsRelaxedBut : List Difference → List ℤ → List Bool → Type 0
 IsRelaxedBut bounds far fresh =
-    (link : Link) → link.place < length bounds → is_fresh fresh (arc_of bounds link).from ≡ false → IsRelaxed bounds far link
-
--- how far the estimates can fall before one of them is beyond the horizon
-abbrev pub room : List ℤ → ℕ
-room far = sum_by (λ z. unsigned_abs (z +ℤ horizon)) far
+    (link : Link) → link.place < length bounds → is_fresh fresh (arc_of bounds link).from ≡ false → IsRelaxed bounds (times_of far) link
 
 -- each table of a search has one entry for each of so many events
 pub record HasTables {A : Type 0} (count : ℕ) (search : Search A) : Type 0 where
@@ -56,21 +52,46 @@ pub record HasTables {A : Type 0} (count : ℕ) (search : Search A) : Type 0 whe
   pub by : length search.by.items ≡ count
   pub fresh : length search.fresh.items ≡ count
 
+-- the search has an estimate for each of so many events, 0 for the one from which it began
+pub record IsBegun {A : Type 0} (bounds : List Difference) (count : ℕ) (search : Search A) : Type 0 where
+  pub tables : HasTables count search
+  pub named : All (NamesAmong count) bounds
+  pub start_named : search.start < count
+  pub own : times_of search.far.items search.start ≡ pos 0
+
 -- the search has estimates of the distances of so many events from `start`
 pub record IsSearch {A : Type 0} (bounds : List Difference) (start count : ℕ) (search : Search A) : Type 0 where
   pub tables : HasTables count search
   pub from : search.start ≡ start
   pub estimates : AreEstimates bounds start search.far.items
 
+-- times that relax each link, lie within the horizon of `start`, and are no later than the estimates
+pub record IsFloor (bounds : List Difference) (start : ℕ) (far : List ℤ) (low : ℕ → ℤ) : Type 0 where
+  pub own : low start ≡ pos 0
+  pub within : (x : ℕ) → x < length far → neg_ℤ horizon ≤ℤ low x
+  pub below : (x : ℕ) → x < length far → low x ≤ℤ times_of far x
+  pub met : AreRelaxed bounds low
+
+-- none of the estimates rose, and none fell below a floor
+pub record Lowers (bounds : List Difference) (start : ℕ) (old new : List ℤ) : Type 0 where
+  pub long : length new ≡ length old
+  pub fall : (x : ℕ) → times_of new x ≤ℤ times_of old x
+  pub floors : (low : ℕ → ℤ) → IsFloor bounds start old low → IsFloor bounds start new low
+
+-- an event is fresh if it was or its estimate fell, and no other is
+pub record Freshens (old : List ℤ) (old_fresh : List Bool) (new : List ℤ) (new_fresh : List Bool) : Type 0 where
+  pub kept : (x : ℕ) → is_fresh new_fresh x ≡ false → (is_fresh old_fresh x ≡ false) × (times_of new x ≡ times_of old x)
+  pub others : (x : ℕ) → times_of new x ≡ times_of old x → is_fresh old_fresh x ≡ false → is_fresh new_fresh x ≡ false
+
+-- the estimate of the event fell
+pub record HasFallen (old new : List ℤ) (event : ℕ) : Type 0 where
+  pub there : event < length new
+  pub less : times_of new event <ℤ times_of old event
+
 -- the link is relaxed, if it is one of the bounds from an event whose estimate is not fresh
 abbrev pub IsRelaxedOf : {A : Type 0} → List Difference → Search A → Link → Type 0
 IsRelaxedOf bounds search link =
-    link.place < length bounds → is_fresh search.fresh.items (arc_of bounds link).from ≡ false → IsRelaxed bounds search.far.items link
-
--- an event whose estimate is not fresh had none that was, and a link from it that was relaxed still is
-pub record KeepsRelaxed {A : Type 0} (bounds : List Difference) (old new : Search A) : Type 0 where
-  pub stale : (x : ℕ) → is_fresh new.fresh.items x ≡ false → is_fresh old.fresh.items x ≡ false
-  pub relaxed : (link : Link) → IsRelaxed bounds old.far.items link → IsRelaxedOf bounds new link
+    link.place < length bounds → is_fresh search.fresh.items (arc_of bounds link).from ≡ false → IsRelaxed bounds (times_of search.far.items) link
 
 -- some link of the bounds leads from the one event to the other, and has this weight
 abbrev pub IsArcTo : List Difference → ℕ → ℕ → ℤ → Type 0

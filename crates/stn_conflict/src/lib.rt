@@ -9,7 +9,7 @@ pub use links::{
 pub use network::Network;
 pub use reach::distances;
 pub use search::cycle;
-pub use times::{earliest, latest, soonest};
+pub use times::{earliest, earliest_and_latest, latest, soonest};
 pub use ways::both_ways;
 
 mod graph;

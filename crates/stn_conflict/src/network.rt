@@ -44,7 +44,7 @@ impl<A: Allocator + Copy> Network<A> {
     {
         let mut bounds = Vec::from_slice(alloc, base)?;
         bounds.extend_from_slice(extra)?;
-        let rows = Rows::new(alloc, events)?;
+        let rows = Rows::new(alloc, events, 0)?;
         let mut latest = Search::new(alloc, usize::from(events) + 1)?;
         latest.begin(Event::origin());
         latest.fresh.fill(true);

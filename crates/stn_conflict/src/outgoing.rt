@@ -30,19 +30,20 @@ impl<A: Allocator + Copy> Rows<A> {
         requires { All (NamesAmong (events + 1)) (base.now ++ extra.now) }
         ensures { IfOk result (λ rows. AreRows (base.now ++ extra.now) (events + 1) rows.outgoing.items) }
     {
-        let mut rows = Rows::new(alloc, events)?;
+        let links = 2 * (base.len() + extra.len());
+        let mut rows = Rows::new(alloc, events, links / (usize::from(events) + 1))?;
         rows.add(base, extra)?;
         Ok(rows)
     }
 
-    // No links, among so many events beside the origin.
+    // No links, among so many events beside the origin, with place for so many from each.
     #[tactic(auto, using(std::proofs::lemmas::List::length_push, crate::proofs::Rows::rows_empty, crate::proofs::Rows::rows_of_none))]
-    pub fn new(alloc: A, events: u16) -> Result<Rows<A>, Memory>
+    pub fn new(alloc: A, events: u16, each: usize) -> Result<Rows<A>, Memory>
         ensures { IfOk result (λ rows. (bounds : List Difference) → AreFirstRows bounds (events + 1) rows) }
     {
         let mut outgoing = Vec::new(alloc);
         for _ in 0..usize::from(events) + 1 {
-            outgoing.push(Vec::new(alloc))?;
+            outgoing.push(Vec::with_capacity(alloc, each)?)?;
         }
         Ok(Rows { outgoing, added: 0 })
     }
@@ -54,12 +55,18 @@ impl<A: Allocator + Copy> Rows<A> {
         ensures rows { AreFirstRows (base.now ++ extra.now) (length self.old.outgoing.items) self.new }
         ensures all { OnOk result (AreRows (base.now ++ extra.now) (length self.old.outgoing.items) self.new.outgoing.items) }
     {
-        for index in self.added..2 * (base.len() + extra.len()) {
-            let link = link_at(index);
-            let bound = bound_in(base, extra, link.place);
-            let (from, look) = look_at(&bound, link);
+        for place in self.added / 2..base.len() + extra.len() {
+            let bound = bound_in(base, extra, place);
+            if self.added == 2 * place {
+                let side = Side::Upper;
+                let (from, look) = look_at(&bound, Link { place, side });
+                self.outgoing[usize::from(from.number())].push(look)?;
+                self.added = 2 * place + 1;
+            }
+            let side = Side::Lower;
+            let (from, look) = look_at(&bound, Link { place, side });
             self.outgoing[usize::from(from.number())].push(look)?;
-            self.added = index + 1;
+            self.added = 2 * place + 2;
         }
         Ok(())
     }
@@ -130,21 +137,6 @@ fn look_at(bound: &Bound, link: Link) -> (Event, Look)
             };
             (bound.to(), look)
         }
-    }
-}
-
-// The link at an index of the order of all links.
-fn link_at(index: usize) -> Link
-    ensures { rank result ≡ index }
-{
-    let side = if index % 2 == 0 {
-        Side::Upper
-    } else {
-        Side::Lower
-    };
-    Link {
-        place: index / 2,
-        side,
     }
 }
 

@@ -1,13 +1,15 @@
 // Distances of all events from one of them. Links are relaxed until each is met (Bellman, 1958): first those from each
-// event, then those from events whose estimates fell, back and forth through the events (Yen, 1970). Where the links that
-// lowered the estimates last lead round with a negative sum, there are no distances (Cherkassky and Goldberg, 1999).
+// event, then those from events whose estimates fell, back and forth through the events (Yen, 1970). Each sweep through
+// them that lowers anything makes one estimate more exact, so where more sweeps would be needed than there are events,
+// there are no distances. Mostly this shows sooner: the links that lowered the estimates last lead round with a negative
+// sum (Cherkassky and Goldberg, 1999).
 //
 // What a search over other bounds left in `by` does no harm: a link counts only if it is one of these bounds, and ends at
 // the event.
 
-ghost use Rattle.std.specs.Prelude.{◌≡◌, ◌+◌, ◌<◌, ◌≤◌, ◌↔◌, ℕ, false, length, All, IsTrue, IsErr, IsOk, IfOk, IfSome, IfNone, OnOk, MatchOption, List};
-ghost use Rattle.stn_net.specs.{Event.most_events, Difference.Difference, Schedule.HasSchedule};
-ghost use Rattle.stn_conflict.specs.{Arcs.arc_of, Relaxation.{NamesAmong, AreEstimates, AreDistances, AreRelaxed, IsRelaxedBut, IsRelaxedOf, IsNetwork, IsSearch, KeepsRelaxed, HasTables, IsArcTo, IsLookOf, room}};
+ghost use Rattle.std.specs.Prelude.{◌≡◌, ◌+◌, ◌<◌, ◌≤◌, ◌↔◌, ℕ, ℤ, false, length, All, IsTrue, IsErr, IfOk, IfSome, IfNone, OnOk, MatchOption, List};
+ghost use Rattle.stn_net.specs.{Event.most_events, Difference.Difference, Schedule.{HasSchedule, times_of}};
+ghost use Rattle.stn_conflict.specs.{Arcs.arc_of, Relaxation.{NamesAmong, AreEstimates, AreDistances, AreRelaxed, Freshens, HasFallen, HasTables, IsArcTo, IsBegun, IsFloor, IsLookOf, IsNetwork, IsRelaxedBut, IsRelaxedOf, IsSearch, Lowers, is_fresh}};
 ghost use Rattle.stn_time.specs.Time.{horizon};
 
 use crate::graph::{Arc, Graph};
@@ -38,6 +40,8 @@ pub(crate) struct Search<A: Allocator> {
     by: Vec<Option<Link>, A>,
     // The events whose estimates were lowered since their links were relaxed.
     pub fresh: Vec<bool, A>,
+    // The sweeps through the events since the estimates began to be lowered.
+    sweeps: usize,
 }
 
 impl<A: Allocator + Copy> Search<A> {
@@ -51,6 +55,7 @@ impl<A: Allocator + Copy> Search<A> {
             far: vec![in alloc; horizon(); count]?,
             by: vec![in alloc; None; count]?,
             fresh: vec![in alloc; false; count]?,
+            sweeps: 0,
         })
     }
 
@@ -114,7 +119,7 @@ impl<A: Allocator + Copy> Search<A> {
 
     // Lowers the estimates until they are the distances, and answers true; false exactly where the bounds, of which the
     // rows have all links, have no schedule.
-    #[tactic(auto, using(crate::proofs::Relaxing::all_fresh, crate::proofs::Searches::from_ok))]
+    #[tactic(auto, using(crate::proofs::Relaxing::all_fresh))]
     pub fn settle(&mut self, graph: &Graph<'_, A>) -> bool
         requires search { IsSearch graph.now.bounds self.old.start (graph.now.events + 1) self.old }
         ensures search { IsSearch graph.now.bounds self.old.start (graph.now.events + 1) self.new }
@@ -122,11 +127,10 @@ impl<A: Allocator + Copy> Search<A> {
         ensures distances { IsTrue result → AreDistances graph.now.bounds self.old.start self.new.far.items }
     {
         self.fresh.fill(true);
-        self.relax_until_met(graph).is_ok()
+        self.go_on(graph)
     }
 
     // The same, where each link from an event whose estimate is not fresh is met already.
-    #[tactic(auto, using(crate::proofs::Searches::from_ok))]
     pub fn go_on(&mut self, graph: &Graph<'_, A>) -> bool
         requires search { IsSearch graph.now.bounds self.old.start (graph.now.events + 1) self.old }
         requires relaxed { IsRelaxedBut graph.now.bounds self.old.far.items self.old.fresh.items }
@@ -137,19 +141,20 @@ impl<A: Allocator + Copy> Search<A> {
         self.relax_until_met(graph).is_ok()
     }
 
-    // Relaxes the links from events with fresh estimates, back and forth through the events, until there is none; where
-    // links that lowered estimates lead round, this would never end.
-    #[tactic(auto, using(crate::proofs::Searches::own, crate::proofs::Searches::goes_on, crate::proofs::Searches::tables_of))]
+    // Relaxes the links from events with fresh estimates, back and forth through the events, until there is none.
     fn relax_until_met(&mut self, graph: &Graph<'_, A>) -> Result<(), NoSchedule>
-        requires search { IsSearch graph.now.bounds self.old.start (graph.now.events + 1) self.old }
+        requires begun { IsBegun graph.now.bounds (graph.now.events + 1) self.old }
         requires relaxed { IsRelaxedBut graph.now.bounds self.old.far.items self.old.fresh.items }
-        ensures search { IsSearch graph.now.bounds self.old.start (graph.now.events + 1) self.new }
-        ensures possible { IsOk result ↔ HasSchedule graph.now.bounds }
-        ensures distances { OnOk result (AreDistances graph.now.bounds self.old.start self.new.far.items) }
+        ensures begun { IsBegun graph.now.bounds (graph.now.events + 1) self.new }
+        ensures start { self.new.start ≡ self.old.start }
+        ensures lowers { Lowers graph.now.bounds self.old.start self.old.far.items self.new.far.items }
+        ensures refused { IsErr result → (low : ℕ → ℤ) → ¬ IsFloor graph.now.bounds self.old.start self.old.far.items low }
+        ensures met { OnOk result (AreRelaxed graph.now.bounds (times_of self.new.far.items)) }
     {
+        self.sweeps = 0;
         let mut onward = graph.first_onward();
         while let Some(event) = self.sweep(graph, onward)? {
-            if self.goes_round(graph, event) {
+            if self.sweeps == graph.count() || self.goes_round(graph, event) {
                 return Err(NoSchedule);
             }
             onward = !onward;
@@ -158,18 +163,25 @@ impl<A: Allocator + Copy> Search<A> {
     }
 
     // Relaxes the links from each event with a fresh estimate, in the events' order or against it; the last event whose
-    // estimate was lowered. Where there is none, each link is met.
-    #[tactic(auto, using(crate::proofs::Searches::goes_on))]
+    // estimate was lowered.
     fn sweep(&mut self, graph: &Graph<'_, A>, onward: bool) -> Result<Option<Event>, NoSchedule>
-        requires search { IsSearch graph.now.bounds self.old.start (graph.now.events + 1) self.old }
+        requires begun { IsBegun graph.now.bounds (graph.now.events + 1) self.old }
+        requires few { self.old.sweeps ≤ graph.now.events }
         requires relaxed { IsRelaxedBut graph.now.bounds self.old.far.items self.old.fresh.items }
-        ensures search { IsSearch graph.now.bounds self.old.start (graph.now.events + 1) self.new }
-        ensures refused { IsErr result → ¬ HasSchedule graph.now.bounds }
-        ensures there { IfOk result (λ last. IfSome last (λ event. event < graph.now.events + 1)) }
-        ensures less { IfOk result (λ last. IfSome last (λ event. room self.new.far.items < room self.old.far.items)) }
+        ensures begun { IsBegun graph.now.bounds (graph.now.events + 1) self.new }
+        ensures start { self.new.start ≡ self.old.start }
+        ensures sweeps { self.new.sweeps ≡ self.old.sweeps + 1 }
+        ensures lowers { Lowers graph.now.bounds self.old.start self.old.far.items self.new.far.items }
+        ensures refused { IsErr result → (low : ℕ → ℤ) → ¬ IsFloor graph.now.bounds self.old.start self.old.far.items low }
+        ensures fell { IfOk result (λ last. IfSome last (HasFallen self.old.far.items self.new.far.items)) }
+        ensures same { IfOk result (λ last. IfNone last (self.new.far.items ≡ self.old.far.items)) }
         ensures relaxed { OnOk result (IsRelaxedBut graph.now.bounds self.new.far.items self.new.fresh.items) }
-        ensures met { IfOk result (λ last. IfNone last (AreRelaxed graph.now.bounds self.new.far.items)) }
+
+        // Only an event whose estimate fell is still fresh.
+        ensures stale { OnOk result ((x : ℕ) → x < graph.now.events + 1 → times_of self.new.far.items x ≡ times_of self.old.far.items x
+            → is_fresh self.new.fresh.items x ≡ false) }
     {
+        self.sweeps += 1;
         let mut last = None;
         let count = graph.count();
         for index in 0..count {
@@ -184,21 +196,21 @@ impl<A: Allocator + Copy> Search<A> {
     }
 
     // Relaxes the links from an event; the last event whose estimate was lowered.
-    #[tactic(auto, using(crate::proofs::Searches::goes_on))]
     fn relax_from(
         &mut self,
         graph: &Graph<'_, A>,
         event: usize,
     ) -> Result<Option<Event>, NoSchedule>
-        requires search { IsSearch graph.now.bounds self.old.start (graph.now.events + 1) self.old }
+        requires begun { IsBegun graph.now.bounds (graph.now.events + 1) self.old }
         requires event { event < graph.now.events + 1 }
-        ensures search { IsSearch graph.now.bounds self.old.start (graph.now.events + 1) self.new }
-        ensures refused { IsErr result → ¬ HasSchedule graph.now.bounds }
-        ensures there { IfOk result (λ last. IfSome last (λ lowered. lowered < graph.now.events + 1)) }
-        ensures most { room self.new.far.items ≤ room self.old.far.items }
-        ensures less { IfOk result (λ last. IfSome last (λ lowered. room self.new.far.items < room self.old.far.items)) }
-        ensures same { IfOk result (λ last. IfNone last (self.new.fresh.items ≡ self.old.fresh.items)) }
-        ensures kept { OnOk result (KeepsRelaxed graph.now.bounds self.old self.new) }
+        ensures begun { IsBegun graph.now.bounds (graph.now.events + 1) self.new }
+        ensures start { self.new.start ≡ self.old.start }
+        ensures sweeps { self.new.sweeps ≡ self.old.sweeps }
+        ensures lowers { Lowers graph.now.bounds self.old.start self.old.far.items self.new.far.items }
+        ensures freshens { Freshens self.old.far.items self.old.fresh.items self.new.far.items self.new.fresh.items }
+        ensures refused { IsErr result → (low : ℕ → ℤ) → ¬ IsFloor graph.now.bounds self.old.start self.old.far.items low }
+        ensures fell { IfOk result (λ last. IfSome last (HasFallen self.old.far.items self.new.far.items)) }
+        ensures same { IfOk result (λ last. IfNone last (self.new.far.items ≡ self.old.far.items)) }
         ensures relaxed { OnOk result ((link : Link) → link.place < length graph.now.bounds → (arc_of graph.now.bounds link).from ≡ event
             → IsRelaxedOf graph.now.bounds self.new link) }
     {
@@ -212,17 +224,19 @@ impl<A: Allocator + Copy> Search<A> {
     }
 
     // Lowers the estimate at the link's end to what the link allows, where that is less; whether it was.
-    #[tactic(auto, using(crate::proofs::Tightness::link_among, std::proofs::lemmas::List::get_or_read, crate::proofs::Relaxing::relaxed_estimates))]
+    #[tactic(auto, using(crate::proofs::Tightness::link_among, std::proofs::lemmas::List::get_or_read))]
     fn relax(&mut self, graph: &Graph<'_, A>, event: usize, look: &Look) -> Result<bool, NoSchedule>
-        requires search { IsSearch graph.now.bounds self.old.start (graph.now.events + 1) self.old }
+        requires begun { IsBegun graph.now.bounds (graph.now.events + 1) self.old }
         requires look { IsLookOf graph.now event look.now }
-        ensures search { IsSearch graph.now.bounds self.old.start (graph.now.events + 1) self.new }
-        ensures refused { IsErr result → ¬ HasSchedule graph.now.bounds }
-        ensures less { IfOk result (λ lower. IsTrue lower → room self.new.far.items < room self.old.far.items) }
-        ensures same { IfOk result (λ lower. lower ≡ false → self.new ≡ self.old) }
-        ensures kept { OnOk result (KeepsRelaxed graph.now.bounds self.old self.new) }
+        ensures begun { IsBegun graph.now.bounds (graph.now.events + 1) self.new }
+        ensures start { self.new.start ≡ self.old.start }
+        ensures sweeps { self.new.sweeps ≡ self.old.sweeps }
+        ensures lowers { Lowers graph.now.bounds self.old.start self.old.far.items self.new.far.items }
+        ensures freshens { Freshens self.old.far.items self.old.fresh.items self.new.far.items self.new.fresh.items }
+        ensures refused { IsErr result → (low : ℕ → ℤ) → ¬ IsFloor graph.now.bounds self.old.start self.old.far.items low }
+        ensures fell { IfOk result (λ lower. IsTrue lower → HasFallen self.old.far.items self.new.far.items look.now.to) }
+        ensures same { IfOk result (λ lower. lower ≡ false → self.new.far.items ≡ self.old.far.items) }
         ensures relaxed { OnOk result (IsRelaxedOf graph.now.bounds self.new look.now.link) }
-        ensures err { IsErr result → self.new.far.items ≡ self.old.far.items }
     {
         let end = usize::from(look.to.number());
         let way = self.far[event].get() + graph.weight(look).get();
@@ -241,13 +255,13 @@ impl<A: Allocator + Copy> Search<A> {
         Ok(true)
     }
 
-    // Whether the links that lowered the estimates last lead back from an event to a cycle with a negative sum: no
-    // schedule meets its bounds.
+    // Whether the links that lowered the estimates last lead back from an event to a cycle with a negative sum: no times
+    // relax all its links.
     fn goes_round(&self, graph: &Graph<'_, A>, from: Event) -> bool
         requires tables { HasTables (length self.now.far.items) self.now }
         requires named { All (NamesAmong (length self.now.far.items)) graph.now.bounds }
         requires from { from < length self.now.far.items }
-        ensures { IsTrue result → ¬ HasSchedule graph.now.bounds }
+        ensures { IsTrue result → (low : ℕ → ℤ) → ¬ AreRelaxed graph.now.bounds low }
     {
         match self.far_back(graph, from) {
             Some(event) => self.comes_back(graph, event),
@@ -260,7 +274,7 @@ impl<A: Allocator + Copy> Search<A> {
         requires tables { HasTables (length self.now.far.items) self.now }
         requires named { All (NamesAmong (length self.now.far.items)) graph.now.bounds }
         requires start { start < length self.now.far.items }
-        ensures { IsTrue result → ¬ HasSchedule graph.now.bounds }
+        ensures { IsTrue result → (low : ℕ → ℤ) → ¬ AreRelaxed graph.now.bounds low }
     {
         let mut here = start;
         let mut sum = 0;

@@ -1,6 +1,6 @@
 ghost use Rattle.std.specs.Prelude.{◌≡◌, ◌+◌, ◌≤◌, ◌++◌, neg_ℤ, ℤ, List, length, map, take, All, IfOk, OnOk, MatchOption};
 ghost use Rattle.stn_net.specs.{Difference.{Difference, NamesEvents}, Event.most_events, Horizon.horizon_bounds, Schedule.{HasSchedule, times_of}, Windows.{Dispatch.CanWaitUntil, Leading.AreFloorsBelow, Soonest.{AreEarliest, AreLatest, AreSoonest}}};
-ghost use Rattle.stn_conflict.specs.{Directions.facing, Distances.AreDistancesFrom, Relaxation.IsNetwork};
+ghost use Rattle.stn_conflict.specs.{Directions.facing, Distances.AreDistancesFrom, Relaxation.{AreDistances, AreRows, HasTables, IsNetwork}};
 
 use crate::graph::{Direction, Graph};
 use crate::outgoing::Rows;
@@ -49,6 +49,34 @@ pub fn latest<A: Allocator + Copy>(
     from_origin(alloc, Direction::Forward, events, base, extra)
 }
 
+/// The earliest and the latest times, in the same way.
+pub fn earliest_and_latest<A: Allocator + Copy>(
+    alloc: A,
+    events: u16,
+    base: &[Bound],
+    extra: &[Bound],
+) -> Result<Option<(Vec<Ms, A>, Vec<Ms, A>)>, Memory>
+    requires few { events ≤ most_events }
+    requires begins { take events base.now ≡ horizon_bounds events }
+    requires base_named { All (NamesEvents events) base.now }
+    requires extra_named { All (NamesEvents events) extra.now }
+    ensures earliest { IfOk result (λ found. MatchOption found (¬ HasSchedule (base.now ++ extra.now))
+        (λ times. (length times.0.items ≡ events + 1) × AreEarliest (base.now ++ extra.now) events (times_of times.0.items))) }
+    ensures latest { IfOk result (λ found. MatchOption found (¬ HasSchedule (base.now ++ extra.now))
+        (λ times. (length times.1.items ≡ events + 1) × AreLatest (base.now ++ extra.now) events (times_of times.1.items))) }
+{
+    let rows = Rows::of(alloc, events, base, extra)?;
+    let back = Direction::Backward;
+    let Some(early) = search_from_origin(alloc, back, events, base, extra, &rows)? else {
+        return Ok(None);
+    };
+    let onward = Direction::Forward;
+    let Some(late) = search_from_origin(alloc, onward, events, base, extra, &rows)? else {
+        return Ok(None);
+    };
+    Ok(Some((opposite(alloc, &early.far)?, late.far)))
+}
+
 /// The soonest times of all events from now on, where each event that is not done counts as left; none
 /// exactly where no schedule has every event that is left from now on.
 pub fn soonest<A: Allocator + Copy>(
@@ -88,11 +116,30 @@ fn from_origin<A: Allocator + Copy>(
         (λ far. AreDistancesFrom (facing direction (base.now ++ extra.now)) events 0 far.items)) }
 {
     let rows = Rows::of(alloc, events, base, extra)?;
-    let graph = Graph::new(direction, events, base, extra, &rows.outgoing);
-    match Search::found(alloc, &graph, Event::origin())? {
+    match search_from_origin(alloc, direction, events, base, extra, &rows)? {
         Some(search) => Ok(Some(search.far)),
         None => Ok(None),
     }
+}
+
+// The search that finds it, over the rows of the bounds.
+fn search_from_origin<A: Allocator + Copy>(
+    alloc: A,
+    direction: Direction,
+    events: u16,
+    base: &[Bound],
+    extra: &[Bound],
+    rows: &Rows<A>,
+) -> Result<Option<Search<A>>, Memory>
+    requires few { events ≤ most_events }
+    requires network { IsNetwork events (facing direction (base.now ++ extra.now)) }
+    requires named { All (NamesEvents events) (base.now ++ extra.now) }
+    requires rows { AreRows (base.now ++ extra.now) (events + 1) rows.now.outgoing.items }
+    ensures { IfOk result (λ found. MatchOption found (¬ HasSchedule (facing direction (base.now ++ extra.now)))
+        (λ search. HasTables (events + 1) search × AreDistances (facing direction (base.now ++ extra.now)) 0 search.far.items)) }
+{
+    let graph = Graph::new(direction, events, base, extra, &rows.outgoing);
+    Search::found(alloc, &graph, Event::origin())
 }
 
 // The times with their signs changed.

@@ -1,9 +1,10 @@
-use Rattle.std.proofs.Common.{◌≡◌, ◌++◌, length}
+use Rattle.std.proofs.Common.{◌+◌, ◌*◌, ◌≤◌, ◌++◌, length}
 use Rattle.stn_conflict.specs.Relaxation.{AreFirstRows}
 use Rattle.stn_conflict.proofs.outgoing.Rows.add.Given as goal
 
-abbrev pub invariant-loop-index : goal.invariant-loop-index
-invariant-loop-index g l = record {
-  at : l.self.added ≡ l.index;
+abbrev pub invariant-loop-place : goal.invariant-loop-place
+invariant-loop-place g l = record {
+  past : 2 * l.place ≤ l.self.added;
+  next : l.self.added ≤ 2 * l.place + 1;
   rows : AreFirstRows (l.base ++ l.extra) (length l.initial.self.outgoing.items) l.self;
 }

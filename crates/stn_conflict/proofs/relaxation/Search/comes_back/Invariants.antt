@@ -1,6 +1,6 @@
 use Rattle.std.{proofs.Common.{◌<◌, ℕ, length}, specs.Prelude.{ℤ, pos, neg_ℤ, ◌-ℤ◌, ◌*ℤ◌, ◌≤ℤ◌}}
 use Rattle.stn_time.specs.Time.{horizon}
-use Rattle.stn_net.specs.Schedule.{IsSchedule}
+use Rattle.stn_conflict.specs.Relaxation.{AreRelaxed}
 use Rattle.stn_conflict.proofs.relaxation.Search.comes_back.Given as goal
 
 abbrev pub invariant-loop : goal.invariant-loop
@@ -8,5 +8,5 @@ invariant-loop g l = record {
   here : l.here < length l.self.far.items;
   least : neg_ℤ (horizon *ℤ pos l.counter) ≤ℤ l.sum;
   most : l.sum ≤ℤ (horizon *ℤ pos l.counter);
-  kept : (time : ℕ → ℤ) → IsSchedule l.graph.bounds time → (time l.start -ℤ time l.here) ≤ℤ l.sum;
+  kept : (low : ℕ → ℤ) → AreRelaxed l.graph.bounds low → (low l.start -ℤ low l.here) ≤ℤ l.sum;
 }

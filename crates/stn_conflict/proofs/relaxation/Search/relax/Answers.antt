@@ -1,7 +1,7 @@
-use Rattle.std.{proofs.{Common.{◌≡◌, ℕ, List, ◌<◌, ◌∙◌, set, sym, ap, length, eqb-true, refl, arith}, lemmas.{Int.ints, Bool.{eqb-false, false≢true}, List.{get_or_read, length-set}}}, specs.Prelude.{ℤ, is_some, pos, neg_ℤ, ◌+ℤ◌, ◌≤ℤ◌, ◌<ℤ◌}}
+use Rattle.std.{proofs.{Common.{◌≡◌, ◌≢◌, ℕ, List, ◌<◌, ◌∙◌, set, sym, subst, ap, length, eqb-true, refl, true, arith}, lemmas.{Int.ints, Bool.{eqb-false, false≢true}, List.{get_or_read, length-set}}}, specs.Prelude.{ℤ, All, is_some, pos, ◌+ℤ◌, ◌≤ℤ◌, ◌<ℤ◌}}
 use Rattle.stn_time.specs.Time.{horizon, IsWithinHorizon}
 use Rattle.stn_net.specs.{Schedule.times_of, Difference.Difference}
-use Rattle.stn_conflict.{specs.{declared.links.Link.Link, Arcs.arc_of, Relaxation.{AreEstimates, room}}, proofs.{Tightness.link_among, relaxation.Search.relax.{Given.Over, Goals.{After-from-end, After-get-3}}, Relaxing.{refused_at_start, refused_beyond, relaxed_estimates, relaxed_now, relaxed_still, stale_before}}}
+use Rattle.stn_conflict.{specs.{declared.links.Link.Link, Arcs.arc_of, Relaxation.{HasFallen, NamesAmong}}, proofs.{Tightness.link_among, relaxation.Search.relax.{Given.Over, Goals.{After-from-end, After-get-3}}, Lowering.{lowers_none, freshens_none, lowered_at, freshened_at, fallen_here, fallen_other, relaxed_now}, Relaxing.{below_way, refused_at_start, refused_beyond}}}
 use Rattle.stn_conflict.proofs.relaxation.Search.relax.Goals as goal
 
 -- both ends of the link have estimates, at these places
@@ -14,7 +14,7 @@ record Ends (bounds : List Difference) (count : ℕ) (link : Link) (begin end : 
 ends : (g : Over) (c : After-from-end g) → Ends c.args.graph.now.bounds (length c.args.self.now.far.items) c.args.look.now.link c.args.event c.from-end.result
 ends g c =
     let is = c.requires.look in
-    let (from, to) = link_among c.args.graph.now.bounds (length c.args.self.now.far.items) c.args.look.now.link c.requires.search.estimates.named is.there in
+    let (from, to) = link_among c.args.graph.now.bounds (length c.args.self.now.far.items) c.args.look.now.link (rw c.requires.begun.tables.far c.requires.begun.named) is.there in
     let end_is = c.from-end.ensures ∙ c.number.ensures.value ∙ sym is.to in
     record { begin_is = sym is.from; begin_there = rw (← is.from) from; end_is = end_is; end_there = rw end_is to }
 
@@ -22,10 +22,10 @@ pub index_mut-requires : goal.index_mut-requires
 index_mut-requires g c = rw c.args.self.now.far.ok.0 (ends g (goal.at.index_mut-requires g c).After-from-end).end_there
 
 pub index_mut-requires-2 : goal.index_mut-requires-2
-index_mut-requires-2 g c = rw (c.args.self.now.by.ok.0, c.requires.search.tables.by, ← c.requires.search.tables.far) (ends g (goal.at.index_mut-requires-2 g c).After-from-end).end_there
+index_mut-requires-2 g c = rw (c.args.self.now.by.ok.0, c.requires.begun.tables.by, ← c.requires.begun.tables.far) (ends g (goal.at.index_mut-requires-2 g c).After-from-end).end_there
 
 pub index_mut-requires-3 : goal.index_mut-requires-3
-index_mut-requires-3 g c = rw (c.args.self.now.fresh.ok.0, c.requires.search.tables.fresh, ← c.requires.search.tables.far) (ends g (goal.at.index_mut-requires-3 g c).After-from-end).end_there
+index_mut-requires-3 g c = rw (c.args.self.now.fresh.ok.0, c.requires.begun.tables.fresh, ← c.requires.begun.tables.far) (ends g (goal.at.index_mut-requires-3 g c).After-from-end).end_there
 
 -- what is compared: the estimates of both ends, and the link's weight
 record Compared (bounds : List Difference) (far : List ℤ) (link : Link) (begin weight end : ℤ) : Type 0 where
@@ -49,88 +49,106 @@ compared g c =
       end_within = c.get-3.ensures.within;
     }
 
-pub returns-then-get-way-clause-relaxed : goal.returns-then-get-way-clause-relaxed
-returns-then-get-way-clause-relaxed g c = λ e.
-    let k = compared g (goal.at.returns-then-get-way-clause-relaxed g c).After-get-3 in
-    let test = c.if-get-way.true in
-    omega (arith, ints)
+pub returns-then-get-way : goal.returns-then-get-way
+returns-then-get-way g c = record {
+  begun = c.requires.begun;
+  start = refl;
+  sweeps = refl;
+  lowers = lowers_none _ _ _;
+  freshens = freshens_none _ _;
+  refused = λ e. absurd (false≢true e);
+  fell = λ e. absurd (false≢true e);
+  same = λ e. refl;
+  relaxed = λ there stale.
+      let k = compared g (goal.at.returns-then-get-way g c).After-get-3 in
+      let test = c.if-get-way.true in
+      omega (arith, ints);
+}
 
-pub returns-then-eq-clause-refused : goal.returns-then-eq-clause-refused
-returns-then-eq-clause-refused g c = λ e.
-    let far = c.args.self.now.far.items in
-    let a = arc_of c.args.graph.now.bounds c.args.look.now.link in
-    let k = compared g (goal.at.returns-then-eq-clause-refused g c).After-get-3 in
-    let test = c.if-get-way.false in
-    let less : (times_of far a.from +ℤ a.weight) <ℤ times_of far a.to = omega (arith, ints) in
-    let same = eqb-true c.args.look.now.to c.args.self.now.start (sym c.if-eq.ensures) in
-    refused_at_start c.args.graph.now.bounds c.args.self.now.start far c.args.look.now.link (times_of far a.from +ℤ a.weight) c.requires.search.estimates c.requires.look.there refl
-    (c.requires.look.to ∙ same) less
+pub returns-then-eq : goal.returns-then-eq
+returns-then-eq g c = record {
+  begun = c.requires.begun;
+  start = refl;
+  sweeps = refl;
+  lowers = lowers_none _ _ _;
+  freshens = freshens_none _ _;
+  refused = λ e low.
+      let far = c.args.self.now.far.items in
+      let a = arc_of c.args.graph.now.bounds c.args.look.now.link in
+      let k = compared g (goal.at.returns-then-eq g c).After-get-3 in
+      let test = c.if-get-way.false in
+      let less : (times_of far a.from +ℤ a.weight) <ℤ times_of far a.to = omega (arith, ints) in
+      let same = eqb-true c.args.look.now.to c.args.self.now.start (sym c.if-eq.ensures) in
+      refused_at_start c.args.graph.now.bounds c.args.self.now.start far c.args.look.now.link low (rw c.requires.begun.tables.far c.requires.begun.named) c.requires.begun.own c.requires.look.there
+      (c.requires.look.to ∙ same) less;
+  fell = tt;
+  same = tt;
+  relaxed = tt;
+}
 
-pub returns-in_default-clause-refused : goal.returns-in_default-clause-refused
-returns-in_default-clause-refused g c = λ e.
-    let far = c.args.self.now.far.items in
-    let a = arc_of c.args.graph.now.bounds c.args.look.now.link in
-    let k = compared g (goal.at.returns-in_default-clause-refused g c).After-get-3 in
-    let test = c.if-get-way.false in
-    let most : (times_of far a.from +ℤ a.weight) ≤ℤ horizon = omega (arith, ints) in
-    let beyond : ¬ IsWithinHorizon (times_of far a.from +ℤ a.weight) = λ (low, high).
-    false≢true (sym (ap is_some c.in_default.is) ∙ c.new.ensures.within.1 (omega (arith, ints), omega (arith, ints))) in
-    refused_beyond c.args.graph.now.bounds c.args.self.now.start far c.args.look.now.link (times_of far a.from +ℤ a.weight) c.requires.search.estimates c.requires.look.there refl most beyond
-
--- the estimates after a fall
-record Fallen (bounds : List Difference) (start : ℕ) (far : List ℤ) (link : Link) (x : ℕ) (way : ℤ) : Type 0 where
-  estimates : AreEstimates bounds start (set far x way)
-  room : room (set far x way) < room far
-  there : x < length far
-  to : x ≡ (arc_of bounds link).to
-  is : way ≡ times_of far (arc_of bounds link).from +ℤ (arc_of bounds link).weight
-  less : way <ℤ times_of far x
-
-lowered : (g : Over) (c : goal.After-self-3-1 g)
-    → Fallen c.args.graph.now.bounds c.args.self.now.start c.args.self.now.far.items c.args.look.now.link c.from-end.result c.in-Some.lower
-lowered g c =
-    let far = c.args.self.now.far.items in
-    let bounds = c.args.graph.now.bounds in
-    let a = arc_of bounds c.args.look.now.link in
-    let there = ends g (goal.at.returns g c).After-from-end in
-    let k = compared g (goal.at.returns g c).After-get-3 in
-    let test = c.if-get-way.false in
-    let (low, high) = c.new.ensures.within.0 (ap is_some c.in-Some.is) in
-    let value = c.in-Some.ensures.value in
-    let is : c.in-Some.lower ≡ times_of far a.from +ℤ a.weight = omega (arith, ints) in
-    let less : c.in-Some.lower <ℤ times_of far a.to = omega (arith, ints) in
-    let least : neg_ℤ horizon ≤ℤ c.in-Some.lower = omega (arith, ints) in
-    let (estimates, room) = relaxed_estimates bounds c.args.self.now.start far c.args.look.now.link c.from-end.result c.in-Some.lower c.requires.search.estimates c.requires.look.there there.end_is is
-    (λ same. eqb-false c.args.look.now.to c.args.self.now.start (sym c.if-eq.ensures) (sym c.requires.look.to ∙ sym there.end_is ∙ same)) least (rw there.end_is less) in
-    record { estimates = estimates; room = room; there = there.end_there; to = there.end_is; is = is; less = rw there.end_is less }
+pub returns-in_default : goal.returns-in_default
+returns-in_default g c = record {
+  begun = c.requires.begun;
+  start = refl;
+  sweeps = refl;
+  lowers = lowers_none _ _ _;
+  freshens = freshens_none _ _;
+  refused = λ e low.
+      let far = c.args.self.now.far.items in
+      let a = arc_of c.args.graph.now.bounds c.args.look.now.link in
+      let k = compared g (goal.at.returns-in_default g c).After-get-3 in
+      let test = c.if-get-way.false in
+      let most : (times_of far a.from +ℤ a.weight) ≤ℤ horizon = omega (arith, ints) in
+      let beyond : ¬ IsWithinHorizon (times_of far a.from +ℤ a.weight) = λ (low, high).
+      false≢true (sym (ap is_some c.in_default.is) ∙ c.new.ensures.within.1 (omega (arith, ints), omega (arith, ints))) in
+      refused_beyond c.args.graph.now.bounds c.args.self.now.start far c.args.look.now.link low (rw c.requires.begun.tables.far c.requires.begun.named) c.requires.look.there most beyond;
+  fell = tt;
+  same = tt;
+  relaxed = tt;
+}
 
 pub returns : goal.returns
 returns g c =
-    let tables = c.requires.search.tables in
+    let begun = c.requires.begun in
+    let tables = begun.tables in
     let bounds = c.args.graph.now.bounds in
+    let start = c.args.self.now.start in
+    let link = c.args.look.now.link in
     let far = c.args.self.now.far.items in
     let fresh = c.args.self.now.fresh.items in
+    let a = arc_of bounds link in
     let end = c.from-end.result in
-    let fallen = lowered g c in
-    let there' : end < length fresh = omega (arith, fallen.there, tables.fresh) in
+    let e = ends g (goal.at.returns g c).After-from-end in
+    let k = compared g (goal.at.returns g c).After-get-3 in
+    let test = c.if-get-way.false in
+    let value = c.in-Some.ensures.value in
+    let way = c.in-Some.lower in
+    let is : c.in-Some.lower ≡ times_of far a.from +ℤ a.weight = omega (arith, ints) in
+    let lower : c.in-Some.lower <ℤ times_of far a.to = omega (arith, ints) in
+    let less : c.in-Some.lower <ℤ times_of far end = rw e.end_is lower in
+    let there : end < length far = e.end_there in
+    let there' : end < length fresh = omega (arith, e.end_there, tables.far, tables.fresh) in
+    let named : All (NamesAmong (length c.args.self.now.far.items)) c.args.graph.now.bounds = rw tables.far begun.named in
+    let apart : start ≢ end = λ same. eqb-false c.args.look.now.to c.args.self.now.start (sym c.if-eq.ensures) (sym c.requires.look.to ∙ sym e.end_is ∙ sym same) in
     record {
-      search = record {
+      begun = record {
         tables = record {
           few = tables.few;
-          far = length-set c.args.self.now.far.items _ _ ∙ tables.far;
+          far = length-set far end way ∙ tables.far;
           by = length-set c.args.self.now.by.items _ _ ∙ tables.by;
-          fresh = length-set c.args.self.now.fresh.items _ _ ∙ tables.fresh;
+          fresh = length-set fresh end true ∙ tables.fresh;
         };
-        from = refl;
-        estimates = fallen.estimates;
+        named = begun.named;
+        start_named = begun.start_named;
+        own = fallen_other far end way there less start apart ∙ begun.own;
       };
+      start = refl;
+      sweeps = refl;
+      lowers = lowered_at far end way there less bounds start (λ low h. (let most = below_way bounds start far link low named c.requires.look.there h in let at = ap low e.end_is in omega (arith, ints)));
+      freshens = freshened_at far end way there less fresh there';
       refused = λ e. absurd (false≢true e);
-      less = λ e. fallen.room;
+      fell = λ yes. (let to : c.args.look.now.to ≡ end = sym c.requires.look.to ∙ sym e.end_is in subst (HasFallen far (set far end way)) (sym to)
+          (record { there = omega (arith, there, length-set far end way); less = (let now = fallen_here far end way there less in omega (arith, ints)) }));
       same = λ e. absurd (false≢true (sym e));
-      kept = record {
-        stale = λ x stale. stale_before fresh end x there' stale;
-        relaxed = λ link relaxed there stale. relaxed_still bounds far fresh link end c.in-Some.lower fallen.there there' fallen.less relaxed stale;
-      };
-      relaxed = λ there stale. relaxed_now bounds far fresh c.args.look.now.link end c.in-Some.lower fallen.there there' fallen.to fallen.is stale;
-      err = λ e. absurd (false≢true e);
+      relaxed = λ there stale. relaxed_now far end way e.end_there less bounds fresh link there' e.end_is is stale;
     }

@@ -1,12 +1,17 @@
-use Rattle.std.proofs.Common.{◌+◌}
-use Rattle.stn_conflict.specs.Relaxation.{IsRelaxedBut, IsSearch, room}
+use Rattle.std.{proofs.Common.{◌≡◌, ◌+◌, ◌-◌, ◌≤◌, ℕ}, specs.Prelude.ℤ}
+use Rattle.stn_conflict.{specs.Relaxation.{IsBegun, IsRelaxedBut, Lowers}, proofs.Sweeps.{IsHighest, above}}
 use Rattle.stn_conflict.proofs.relaxation.Search.relax_until_met.Given as goal
 
 abbrev pub invariant-loop-event : goal.invariant-loop-event
 invariant-loop-event g l = record {
-  search : IsSearch l.graph.bounds l.fn.self.start (l.graph.events + 1) l.self;
+  begun : IsBegun l.graph.bounds (l.graph.events + 1) l.self;
+  start : l.self.start ≡ l.fn.self.start;
+  lowers : Lowers l.graph.bounds l.fn.self.start l.fn.self.far.items l.self.far.items;
   relaxed : IsRelaxedBut l.graph.bounds l.self.far.items l.self.fresh.items;
+  few : l.self.sweeps ≤ l.graph.events;
+  counted : (top : ℕ → ℤ) → IsHighest l.graph.bounds l.fn.self.start l.fn.self.far.items top
+      → above (l.graph.events + 1) top l.self.far.items + l.self.sweeps ≤ l.graph.events;
 }
 
 abbrev pub decreases-loop-event : goal.decreases-loop-event
-decreases-loop-event g l = room l.self.far.items
+decreases-loop-event g l = l.graph.events + 1 - l.self.sweeps

@@ -1,11 +1,14 @@
-use Rattle.std.proofs.{Common.{◌≡◌, ℕ, ◌+◌, ◌<◌, true, All, length, refl, sym, subst, ◌∙◌, arith}, lemmas.{List.get_or_read, Bool.false≢true, Option.IfSome_then}}
-use Rattle.stn_conflict.{specs.Relaxation.{NamesAmong, room}, proofs.{Searches.{AreSwept, all_swept, goes_on, none_or, none_then, row_relaxed, some_or, swept_more, swept_over, turn_of}, relaxation.Search.sweep.Goals.{then-onward, else-onward, then-index+in_ok-found, else-index}}}
+use Rattle.std.proofs.{Common.{◌≡◌, ◌<◌, true, length, refl, sym, subst, ◌∙◌, arith}, lemmas.{List.get_or_read, Bool.false≢true, Option.IfSome_then}}
+use Rattle.stn_conflict.{specs.Relaxation.{HasFallen, IsFloor, Lowers}, proofs.{Lowering.{AreSwept, all_swept, fallen_on, fallen_since, lowers_on, row_relaxed, swept_more, swept_over, turn_of}, Searches.{none_or, some_or}, relaxation.Search.sweep.Goals.{then-onward, else-onward, then-index+in_ok-found, else-index}}}
 use Rattle.stn_conflict.proofs.relaxation.Search.sweep.Goals as goal
 
 pub loop-index-preserved : goal.loop-index-preserved
 loop-index-preserved g c =
     let h = c.loop-index.invariant in
+    let bounds = c.args.graph.now.bounds in
+    let start = c.args.self.now.start in
     let old = c.args.self.now.far.items in
+    let mid = c.loop-index.self.far.items in
     let fresh = c.loop-index.self.fresh.items in
     let count = c.count-count.result in
     let index = c.loop-index.index in
@@ -18,50 +21,71 @@ loop-index-preserved g c =
       | then-onward w ↦ omega (arith, w.event-is, c.loop-index-test.true)
       | else-onward w ↦ omega (arith, w.event-is, c.loop-index-test.true)
     ] in
-    let there : event < length fresh = omega (arith, within, c.count-count.ensures, h.search.tables.fresh) in
+    let there : event < length fresh = omega (arith, within, c.count-count.ensures, h.begun.tables.fresh) in
     elim c.if-index.branch [
       | then-index+in_ok-found w ↦
+          let new = w.relax_from.new.self in
           let far = w.relax_from.new.self.far.items in
           let found = w.in_ok-found.found in
-          let most = w.relax_from.ensures.most in
-          let e = w.in_ok-found.ensures in
+          let e = w.relax_from.ensures in
+          let ok = w.in_ok-found.ensures in
+          let step : Lowers bounds start mid far = subst (λ s. Lowers bounds s mid far) h.start e.lowers in
           rw (w.self-is, w.last-is, w.or-last.ensures) (record {
-            search = goes_on _ _ _ c.loop-index.self _ h.search w.relax_from.ensures.search;
-            most = omega (arith, h.most, most);
-            there = some_or (λ (event : ℕ). event < c.args.graph.now.events + 1) found c.loop-index.last e.there h.there;
-            less = some_or (λ (event : ℕ). room far < room old) found c.loop-index.last
-                (IfSome_then found e.less (λ event less. omega (arith, h.most, less)))
-                (IfSome_then c.loop-index.last h.less (λ event less. omega (arith, most, less)));
-            relaxed = row_relaxed c.args.graph.now.bounds event c.loop-index.self.far.items fresh _ w.relax_from.new.self h.relaxed refl refl e.kept e.relaxed;
-            swept = none_or _ _ _ found c.loop-index.last e.same h.swept (λ same before. rw same (swept_more c.args.onward count index event fresh turn there before));
+            begun = e.begun;
+            start = e.start ∙ h.start;
+            sweeps = e.sweeps ∙ h.sweeps;
+            lowers = lowers_on bounds start old mid far h.lowers step;
+            fell = some_or (HasFallen old far) found c.loop-index.last
+                (IfSome_then found ok.fell (λ event fell. fallen_since bounds start old mid far h.lowers step event fell))
+                (IfSome_then c.loop-index.last h.fell (λ event fell. fallen_on bounds start old mid far h.lowers step event fell));
+            same = none_or _ _ _ found c.loop-index.last ok.same h.same (λ now before. now ∙ before);
+            relaxed = row_relaxed bounds start event mid fresh far new.fresh.items h.relaxed step e.freshens ok.relaxed;
+            swept = swept_more bounds start c.args.onward count index event old mid fresh far new.fresh.items turn there h.lowers step e.freshens h.swept;
           })
       | else-index w ↦
           let stale = sym (get_or_read fresh event _ there c.index.ensures true) ∙ w.if-index.false in
           rw (w.self-is, w.last-is) (record {
-            search = h.search;
-            most = h.most;
-            there = h.there;
-            less = h.less;
+            begun = h.begun;
+            start = h.start;
+            sweeps = h.sweeps;
+            lowers = h.lowers;
+            fell = h.fell;
+            same = h.same;
             relaxed = h.relaxed;
-            swept = none_then _ _ c.loop-index.last h.swept (swept_over c.args.onward count index event fresh turn stale);
+            swept = swept_over c.args.onward count index event old mid fresh turn stale h.swept;
           })
     ]
 
 pub returns : goal.returns
 returns g c =
     let h = c.loop-index.invariant in
-    let bounds = c.args.graph.now.bounds in
     let far = c.loop-index.self.far.items in
     let fresh = c.loop-index.self.fresh.items in
     let count = c.count-count.result in
     let all : c.loop-index.index ≡ count = omega (arith, c.loop-index.auto.index-end, c.loop-index-test.false) in
-    let named : All (NamesAmong count) bounds = rw (c.count-count.ensures, ← h.search.tables.far) h.search.estimates.named in
     record {
-      search = h.search;
+      begun = h.begun;
+      start = h.start;
+      sweeps = h.sweeps;
+      lowers = h.lowers;
       refused = λ e. absurd (false≢true e);
-      there = h.there;
-      less = h.less;
+      fell = h.fell;
+      same = h.same;
       relaxed = h.relaxed;
-      met = none_then _ _ c.loop-index.last h.swept (λ swept.
-          all_swept c.args.onward count bounds far fresh named (subst (λ n. AreSwept c.args.onward count n fresh) all swept) h.relaxed);
+      stale = λ x below same. all_swept c.args.onward count c.args.self.now.far.items far fresh
+          (subst (λ n. AreSwept c.args.onward count n c.args.self.now.far.items far fresh) all h.swept) x (omega (arith, c.count-count.ensures)) same;
     }
+
+pub returns-in_err-found-clause-lowers : goal.returns-in_err-found-clause-lowers
+returns-in_err-found-clause-lowers g c =
+    let bounds = c.args.graph.now.bounds in
+    let mid = c.loop-index.self.far.items in
+    let far = c.relax_from.new.self.far.items in
+    lowers_on bounds c.args.self.now.start c.args.self.now.far.items mid far c.loop-index.invariant.lowers
+    (subst (λ s. Lowers bounds s mid far) c.loop-index.invariant.start c.relax_from.ensures.lowers)
+
+pub returns-in_err-found-clause-refused : goal.returns-in_err-found-clause-refused
+returns-in_err-found-clause-refused g c = λ e low floor.
+    let start = c.loop-index.invariant.start in
+    c.in_err-found.ensures.refused refl low
+    (subst (λ s. IsFloor c.args.graph.now.bounds s c.loop-index.self.far.items low) (sym start) (c.loop-index.invariant.lowers.floors low floor))

@@ -1,13 +1,15 @@
-use Rattle.std.{proofs.Common.{◌+◌, ◌<◌, ◌≤◌}, specs.Prelude.{IfSome, IfNone}}
-use Rattle.stn_conflict.{specs.Relaxation.{IsRelaxedBut, IsSearch, room}, proofs.Searches.AreSwept}
+use Rattle.std.{proofs.Common.{◌≡◌, ◌+◌}, specs.Prelude.{IfSome, IfNone}}
+use Rattle.stn_conflict.{specs.Relaxation.{HasFallen, IsBegun, IsRelaxedBut, Lowers}, proofs.Lowering.AreSwept}
 use Rattle.stn_conflict.proofs.relaxation.Search.sweep.Given as goal
 
 abbrev pub invariant-loop-index : goal.invariant-loop-index
 invariant-loop-index g l = record {
-  search : IsSearch l.graph.bounds l.fn.self.start (l.graph.events + 1) l.self;
-  most : room l.self.far.items ≤ room l.fn.self.far.items;
-  there : IfSome l.last (λ event. event < l.graph.events + 1);
-  less : IfSome l.last (λ event. room l.self.far.items < room l.fn.self.far.items);
+  begun : IsBegun l.graph.bounds (l.graph.events + 1) l.self;
+  start : l.self.start ≡ l.fn.self.start;
+  sweeps : l.self.sweeps ≡ l.fn.self.sweeps + 1;
+  lowers : Lowers l.graph.bounds l.fn.self.start l.fn.self.far.items l.self.far.items;
+  fell : IfSome l.last (HasFallen l.fn.self.far.items l.self.far.items);
+  same : IfNone l.last (l.self.far.items ≡ l.fn.self.far.items);
   relaxed : IsRelaxedBut l.graph.bounds l.self.far.items l.self.fresh.items;
-  swept : IfNone l.last (AreSwept l.onward l.count l.index l.self.fresh.items);
+  swept : AreSwept l.onward l.count l.index l.fn.self.far.items l.self.far.items l.self.fresh.items;
 }

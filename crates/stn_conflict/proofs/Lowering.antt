@@ -1,0 +1,188 @@
+-- How links lower estimates.
+use Rattle.std.{proofs.{Common.{◌≡◌, ◌≢◌, inl, inr, ℕ, ◌+◌, ◌-◌, ◌<◌, Bool, true, false, List, length, set, refl, sym, ap, ◌∙◌, arith}, lemmas.{Int.ints, Bool.{cases_eq, false≢true}, List.{get_or-set_same, get_or-set_other, length-set}}}, specs.Prelude.{ℤ, pos, ◌+ℤ◌, ◌≤ℤ◌, ◌<ℤ◌, All}}
+use Rattle.stn_net.specs.{Difference.Difference, Schedule.times_of}
+use Rattle.stn_conflict.{specs.{declared.links.Link.Link, Arcs.arc_of, Relaxation.{AreRelaxed, Freshens, HasFallen, IsFloor, IsRelaxed, IsRelaxedBut, Lowers, NamesAmong, is_fresh}}, proofs.Tightness.link_among}
+
+-- nothing is lowered
+pub lowers_none : (bounds : List Difference) (start : ℕ) (far : List ℤ) → Lowers bounds start far far
+lowers_none bounds start far = record { long = refl; fall = λ x. omega (arith, ints); floors = λ low h. h }
+
+pub freshens_none : (far : List ℤ) (fresh : List Bool) → Freshens far fresh far fresh
+freshens_none far fresh = record { kept = λ x stale. (stale, refl); others = λ x same stale. stale }
+
+module _ (bounds : List Difference) (start : ℕ) (old mid new : List ℤ) (first : Lowers bounds start old mid) (next : Lowers bounds start mid new) where
+  -- one lowering after the other
+  pub lowers_on : Lowers bounds start old new
+  lowers_on = record {
+    long = next.long ∙ first.long;
+    fall = λ x. (let a = first.fall x in let b = next.fall x in omega (arith, ints));
+    floors = λ low h. next.floors low (first.floors low h);
+  }
+
+  -- an estimate that is the same in the end was so in between
+  same_between : (x : ℕ) → times_of new x ≡ times_of old x → (times_of mid x ≡ times_of old x) × (times_of new x ≡ times_of mid x)
+  same_between x same =
+      let a = first.fall x in
+      let b = next.fall x in
+      (omega (arith, ints), omega (arith, ints))
+
+  pub freshens_on : (old_fresh mid_fresh new_fresh : List Bool) → Freshens old old_fresh mid mid_fresh → Freshens mid mid_fresh new new_fresh → Freshens old old_fresh new new_fresh
+  freshens_on old_fresh mid_fresh new_fresh one other = record {
+    kept = λ x stale.
+        let (was, same) = other.kept x stale in
+        let (before, as_before) = one.kept x was in
+        (before, same ∙ as_before);
+    others = λ x same stale.
+        let (one_same, other_same) = same_between x same in
+        other.others x other_same (one.others x one_same stale);
+  }
+
+  -- what fell before or after fell in all
+  pub fallen_on : (event : ℕ) → HasFallen old mid event → HasFallen old new event
+  fallen_on event fell = record { there = omega (arith, fell.there, next.long); less = (let a = fell.less in let b = next.fall event in omega (arith, ints)) }
+
+  pub fallen_since : (event : ℕ) → HasFallen mid new event → HasFallen old new event
+  fallen_since event fell = record { there = fell.there; less = (let a = fell.less in let b = first.fall event in omega (arith, ints)) }
+
+-- a link that was relaxed is so still, if the estimate of the event at which it begins did not fall
+pub still_relaxed : (bounds : List Difference) (start : ℕ) (link : Link) (old : List ℤ) (old_fresh : List Bool) (new : List ℤ) (new_fresh : List Bool)
+    → Lowers bounds start old new → Freshens old old_fresh new new_fresh → is_fresh new_fresh (arc_of bounds link).from ≡ false
+    → (is_fresh old_fresh (arc_of bounds link).from ≡ false → IsRelaxed bounds (times_of old) link) → IsRelaxed bounds (times_of new) link
+still_relaxed bounds start link old old_fresh new new_fresh lowers freshens stale relaxed =
+    let (was, same) = freshens.kept (arc_of bounds link).from stale in
+    let before = relaxed was in
+    let end = lowers.fall (arc_of bounds link).to in
+    omega (arith, ints)
+
+-- after all links of its row are relaxed, an event needs not be fresh
+pub row_relaxed : (bounds : List Difference) (start event : ℕ) (old : List ℤ) (fresh : List Bool) (new : List ℤ) (new_fresh : List Bool) → IsRelaxedBut bounds old fresh
+    → Lowers bounds start old new → Freshens old (set fresh event false) new new_fresh
+    → ((link : Link) → link.place < length bounds → (arc_of bounds link).from ≡ event → link.place < length bounds → is_fresh new_fresh (arc_of bounds link).from ≡ false → IsRelaxed bounds (times_of new) link)
+    → IsRelaxedBut bounds new new_fresh
+row_relaxed bounds start event old fresh new new_fresh before lowers freshens looked = λ link there stale.
+    let from : ℕ = (arc_of bounds link).from in
+    elim (cases_eq (arc_of bounds link).from event) [
+      | inl same ↦ looked link there same there stale
+      | inr differs ↦ still_relaxed bounds start link old (set fresh event false) new new_fresh lowers freshens stale
+          (λ was. before link there (sym (get_or-set_other fresh event (arc_of bounds link).from false true differs) ∙ was))
+    ]
+
+-- where the estimate of x falls, the events that are not fresh are others
+pub fell_elsewhere : (fresh : List Bool) (x y : ℕ) → x < length fresh → is_fresh (set fresh x true) y ≡ false → y ≢ x
+fell_elsewhere fresh x y there stale same = false≢true (sym stale ∙ ap (is_fresh (set fresh x true)) same ∙ get_or-set_same fresh x true true there)
+
+-- and were not fresh before
+pub stale_before : (fresh : List Bool) (x y : ℕ) → x < length fresh → is_fresh (set fresh x true) y ≡ false → is_fresh fresh y ≡ false
+stale_before fresh x y there stale = sym (get_or-set_other fresh x y true true (fell_elsewhere fresh x y there stale)) ∙ stale
+
+module _ (far : List ℤ) (x : ℕ) (way : ℤ) (there : x < length far) (less : way <ℤ times_of far x) where
+  -- one estimate falls, and the others stay
+  pub fallen_here : times_of (set far x way) x ≡ way
+  fallen_here = get_or-set_same far x way (pos 0) there
+
+  pub fallen_other : (y : ℕ) → y ≢ x → times_of (set far x way) y ≡ times_of far y
+  fallen_other y differs = get_or-set_other far x y way (pos 0) differs
+
+  falls : (y : ℕ) → times_of (set far x way) y ≤ℤ times_of far y
+  falls y = elim (cases_eq y x) [
+    | inl same ↦ (
+        let now : times_of (set far x way) y ≡ way = ap (times_of (set far x way)) same ∙ fallen_here in
+        let was = ap (times_of far) same in
+        omega (arith, ints))
+    | inr differs ↦ (let at = fallen_other y differs in omega (arith, ints))
+  ]
+
+  -- if none falls below a floor
+  pub lowered_at : (bounds : List Difference) (start : ℕ) → ((low : ℕ → ℤ) → IsFloor bounds start far low → low x ≤ℤ way) → Lowers bounds start far (set far x way)
+  lowered_at bounds start above =
+      let long = length-set far x way in
+      record {
+        long = long;
+        fall = falls;
+        floors = λ low h. record {
+          own = h.own;
+          within = λ y below. h.within y (omega arith);
+          below = λ y below. elim (cases_eq y x) [
+            | inl same ↦ (
+                let now : times_of (set far x way) y ≡ way = ap (times_of (set far x way)) same ∙ fallen_here in
+                let most = above low h in
+                let here = ap low same in
+                omega (arith, ints))
+            | inr differs ↦ (let at = fallen_other y differs in let was = h.below y (omega arith) in omega (arith, ints))
+          ];
+          met = h.met;
+        };
+      }
+
+  -- and the event is fresh then
+  pub freshened_at : (fresh : List Bool) → x < length fresh → Freshens far fresh (set far x way) (set fresh x true)
+  freshened_at fresh within = record {
+    kept = λ y stale. (stale_before fresh x y within stale, fallen_other y (fell_elsewhere fresh x y within stale));
+    others = λ y same stale. elim (cases_eq y x) [
+      | inl e ↦ (
+          let now : times_of (set far x way) y ≡ way = ap (times_of (set far x way)) e ∙ fallen_here in
+          let was = ap (times_of far) e in
+          absurd (omega (arith, ints)))
+      | inr differs ↦ get_or-set_other fresh x y true true differs ∙ stale
+    ];
+  }
+
+  -- so the link by which it fell is relaxed
+  pub relaxed_now : (bounds : List Difference) (fresh : List Bool) (link : Link) → x < length fresh → x ≡ (arc_of bounds link).to
+      → way ≡ times_of far (arc_of bounds link).from +ℤ (arc_of bounds link).weight → is_fresh (set fresh x true) (arc_of bounds link).from ≡ false
+      → IsRelaxed bounds (times_of (set far x way)) link
+  relaxed_now bounds fresh link within to is stale =
+      let from = fallen_other (arc_of bounds link).from (fell_elsewhere fresh x (arc_of bounds link).from within stale) in
+      let end : times_of (set far x way) (arc_of bounds link).to ≡ way = ap (times_of (set far x way)) (sym to) ∙ fallen_here in
+      omega (arith, ints)
+
+-- the event whose turn it is in a sweep, after so many others
+abbrev pub turn_of : Bool → ℕ → ℕ → ℕ
+turn_of true count k = k
+turn_of false count k = count - 1 - k
+
+-- of the first events of a sweep only those are fresh whose estimates fell
+abbrev pub AreSwept : Bool → ℕ → ℕ → List ℤ → List ℤ → List Bool → Type 0
+AreSwept onward count seen old new fresh = (k : ℕ) → k < seen → times_of new (turn_of onward count k) ≡ times_of old (turn_of onward count k)
+    → is_fresh fresh (turn_of onward count k) ≡ false
+
+-- one more that is not fresh
+pub swept_over : (onward : Bool) (count seen event : ℕ) (old new : List ℤ) (fresh : List Bool) → event ≡ turn_of onward count seen → is_fresh fresh event ≡ false
+    → AreSwept onward count seen old new fresh → AreSwept onward count (seen + 1) old new fresh
+swept_over onward count seen event old new fresh turn stale before = λ k below unchanged.
+    elim (cases_eq k seen) [
+      | inl same ↦ ap (λ n. is_fresh fresh (turn_of onward count n)) same ∙ ap (is_fresh fresh) (sym turn) ∙ stale
+      | inr differs ↦ before k (omega arith) unchanged
+    ]
+
+-- one more, whose links were relaxed
+pub swept_more : (bounds : List Difference) (start : ℕ) (onward : Bool) (count seen event : ℕ) (old mid : List ℤ) (fresh : List Bool) (new : List ℤ) (new_fresh : List Bool)
+    → event ≡ turn_of onward count seen → event < length fresh → Lowers bounds start old mid → Lowers bounds start mid new → Freshens mid (set fresh event false) new new_fresh
+    → AreSwept onward count seen old mid fresh → AreSwept onward count (seen + 1) old new new_fresh
+swept_more bounds start onward count seen event old mid fresh new new_fresh turn there first next freshens before = λ k below unchanged.
+    let x : ℕ = turn_of onward count k in
+    let (as_before, still) = same_between bounds start old mid new first next (turn_of onward count k) unchanged in
+    freshens.others (turn_of onward count k) still (elim (cases_eq (turn_of onward count k) event) [
+      | inl same ↦ ap (is_fresh (set fresh event false)) same ∙ get_or-set_same fresh event false true there
+      | inr differs ↦ get_or-set_other fresh event (turn_of onward count k) false true differs ∙ before k (earlier k below differs) as_before
+    ])
+  where
+    earlier : (k : ℕ) → k < seen + 1 → turn_of onward count k ≢ event → k < seen
+    earlier k below differs = elim (cases_eq k seen) [
+      | inl same ↦ absurd (differs (ap (turn_of onward count) same ∙ sym turn))
+      | inr apart ↦ omega arith
+    ]
+
+-- after a sweep only those events are fresh whose estimates fell
+pub all_swept : (onward : Bool) (count : ℕ) (old new : List ℤ) (fresh : List Bool) → AreSwept onward count count old new fresh
+    → (x : ℕ) → x < count → times_of new x ≡ times_of old x → is_fresh fresh x ≡ false
+all_swept true count old new fresh swept x below same = swept x below same
+all_swept false count old new fresh swept x below same =
+    let back : count - 1 - (count - 1 - x) ≡ x = omega arith in
+    ap (is_fresh fresh) (sym back) ∙ swept (count - 1 - x) (omega arith) (ap (times_of new) back ∙ same ∙ ap (times_of old) (sym back))
+
+-- where nothing fell, each link is relaxed
+pub all_met : (bounds : List Difference) (count : ℕ) (old new : List ℤ) (fresh : List Bool) → All (NamesAmong count) bounds → IsRelaxedBut bounds new fresh
+    → ((x : ℕ) → x < count → times_of new x ≡ times_of old x → is_fresh fresh x ≡ false) → new ≡ old → AreRelaxed bounds (times_of new)
+all_met bounds count old new fresh named relaxed stale same = λ link there.
+    relaxed link there (stale (arc_of bounds link).from (link_among bounds count link named there).0 (ap (λ l. times_of l (arc_of bounds link).from) same))
