@@ -1,12 +1,12 @@
 -- What calls of a world answer.
 use Rattle.std.{proofs.{Common.{◌≡◌, ◌⊎◌, ℕ, true, Bool, cond, List, ◌++◌, Option, Some, None, Result, Ok, Err, OnOk, IfErr, inl, inr, refl, sym, ap, subst, ◌∙◌}, lemmas.Bool.{false_from_ne_true, false≢true}}, specs.Prelude.{◌+◌, not, length, is_some, unwrap_or, OnErr, MatchOption}}
 use Rattle.stn_refusal.specs.{declared.{code.Code.TheVariants.NoSite, failure.Failure.Failure}, Refusals.{refused, out_of_memory}}
-use Rattle.stn_records.specs.Content.{Content}
-use Rattle.stn_site.specs.Held.{Held, holding_state}
-use Rattle.stn_world.{specs.{declared.faults.WorldFault.WorldFault, Failures.world_failure, World.{World, HasSite, has_site, content_at, next_id_at}, Steps.{Step, sent, step_refusal, send_refusal, after, IsStep, IsSending}}, proofs.Accepted.site_decides}
+use Rattle.stn_records.specs.{Id.SiteCounter, Content.Content}
+use Rattle.stn_site.specs.{Held.{Held, holding_state}, Change.change_id, declared.change.Change.{Change, TheVariants.{Add, Amend, Withdraw, Done}}}
+use Rattle.stn_world.{specs.{declared.faults.WorldFault.WorldFault, Failures.world_failure, World.{World, HasSite, has_site, content_at, next_id_at}, Steps.{Step, changed, sent, step_refusal, send_refusal, after, IsStep, IsSending}}, proofs.Accepted.site_decides}
 use Rattle.stn_world.specs.declared.faults.WorldFault.TheVariants as world_fault
-use Rattle.stn_command.{specs.{declared.changes.{Change.Change, Made.Made}, Change.made_by, Query.{Query, IsSaid, IsQueryRefusal}}, proofs.Alike.{said_alike, refused_alike}}
-use Rattle.stn_exec.specs.{declared.answer.Answer.Answer, Answer.answer_text, Command.{Action, sites_command}, Output.{IsAnswerText, Declines}, Saying.{IsEffect, IsDone, call_answer, sent_answer}, Effect.{CommandEffect, said, declined, refusing, answered, called, sending, change_step, changing, telling, action_effect, command_effect}}
+use Rattle.stn_command.{specs.{declared.changes.Made.{Made, TheVariants.{Added, Amended}}, Change.made_by, Query.{Query, IsSaid, IsQueryRefusal}}, proofs.Alike.{said_alike, refused_alike}}
+use Rattle.stn_exec.specs.{declared.answer.Answer.Answer, Answer.answer_text, Command.{Action, sites_command}, Output.{IsAnswerText, Declines}, Saying.{IsEffect, IsDone, call_answer, sent_answer}, Effect.{CommandEffect, said, declined, refusing, answered, called, sending, changing, telling, action_effect, command_effect}}
 use Rattle.stn_exec.specs.declared.answer.Answer.TheVariants as answer
 
 -- a call that was refused: its fault is what refuses the call, or lack of memory
@@ -50,18 +50,25 @@ unread world site read cause failure is same =
 
 -- a change that was refused, and one that was made
 pub refused_change : (T : Type 0) (old new : World) (site : ℕ) (read : Result Change Failure) (asked : Change) (fault : WorldFault) (failure : Failure)
-    → Ok asked ≡ read → IsStep {T = T} old (change_step site asked) (Err fault) new → failure ≡ world_failure fault
+    → Ok asked ≡ read → IsStep {T = T} old (changed site asked) (Err fault) new → failure ≡ world_failure fault
     → IsEffect (Err failure) new (changing old site read)
 refused_change T old new site read asked fault failure is step gives =
-    refused_call T old new (change_step site asked) (answer.Changed (made_by asked (next_id_at old site))) fault failure (changing old site read) step gives
+    refused_call T old new (changed site asked) (answer.Changed (made_by asked (next_id_at old site))) fault failure (changing old site read) step gives
     (ap (changing old site) is)
 
-pub made_change : (old new : World) (site : ℕ) (read : Result Change Failure) (asked : Change) (made : Made) → Ok asked ≡ read
-    → made ≡ made_by asked (next_id_at old site) → IsStep {T = Made} old (change_step site asked) (Ok made) new
+-- what it made is told by the id that it gave
+made_given : (asked : Change) (id next : SiteCounter) → id ≡ change_id asked next → made_by asked id ≡ made_by asked next
+made_given (Add bound) id next is = ap Added is
+made_given (Amend old bound) id next is = ap Amended is
+made_given (Withdraw gone) id next is = refl
+made_given (Done event time) id next is = ap Added is
+
+pub made_change : (old new : World) (site : ℕ) (read : Result Change Failure) (asked : Change) (id : SiteCounter) (made : Made) → Ok asked ≡ read
+    → id ≡ change_id asked (next_id_at old site) → made ≡ made_by asked id → IsStep {T = SiteCounter} old (changed site asked) (Ok id) new
     → record { world = new; reply = said (answer.Changed made) } ≡ changing old site read
-made_change old new site read asked made is by step =
-    accepted_call Made made old new (change_step site asked) (answer.Changed made) (changing old site read) step
-    (ap (λ (one : Made). called old (change_step site asked) (answer.Changed one)) by ∙ ap (changing old site) is)
+made_change old new site read asked id made is given by step =
+    accepted_call SiteCounter id old new (changed site asked) (answer.Changed made) (changing old site read) step
+    (ap (λ (one : Made). called old (changed site asked) (answer.Changed one)) (by ∙ made_given asked id (next_id_at old site) given) ∙ ap (changing old site) is)
 
 -- ---- sendings
 pub sending_effect : (old new : World) (site : ℕ) (part : Content) (held : Bool) (call : Result ℕ WorldFault) (outcome : Result Answer Failure)

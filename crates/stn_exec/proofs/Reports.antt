@@ -3,20 +3,20 @@ use Rattle.std.{proofs.{Common.{◌≡◌, ◌↔◌, ℕ, ℤ, ◌+◌, Bool, t
 use Rattle.stn_time.specs.declared.reading.TimeFault.{TimeFault}
 use Rattle.stn_lift.specs.PlanSource.{PlanSource, events_of}
 use Rattle.stn_text.specs.Lines.{lines_of, words_of}
-use Rattle.stn_site.specs.{Bounds.all_bounds, Report.{IsReport, done_events}, Held.holding_state, Refusals.withdraw_refusal}
-use Rattle.stn_world.{specs.{declared.faults.WorldFault.{WorldFault, TheVariants.NoSite}, Faults.of_replica_fault, World.{World, HasSite, has_site, opening_world, held_at, content_at}, Parts.holds_all, Whole.IsCoherent, Steps.{Step, merged, sent, delivered, step_refusal, send_refusal, after, IsAccepted, stepped, run, TookAt, TookSameAt, TookSameItemsAt}}, proofs.{Accepted.{site_decides, no_site}, Sendings.{part_free, all_free}, Whole.coherent_at_first, Runs.{run_stays, run_keeps, coherent_run}}}
+use Rattle.stn_site.specs.{Bounds.all_bounds, Report.{IsReport, done_events}, Held.holding_state, declared.change.Change.Change}
+use Rattle.stn_world.{specs.{declared.faults.WorldFault.{WorldFault, TheVariants.NoSite}, World.{World, HasSite, has_site, opening_world, content_at}, Parts.holds_all, Whole.IsCoherent, Steps.{Step, changed, merged, sent, delivered, step_refusal, send_refusal, after, IsAccepted, stepped, run, TookAt, TookSameAt, TookSameItemsAt}}, proofs.{Accepted.{site_decides, no_site}, Sendings.{part_free, all_free}, Whole.coherent_at_first, Runs.{run_stays, run_keeps, coherent_run}}}
 use Rattle.stn_records.specs.Content.{Content, CountsSame, Item, HasItem, part_of}
 use Rattle.stn_refusal.specs.declared.code.Code.TheVariants as code
 use Rattle.stn_refusal.specs.{declared.failure.Failure.Failure, Refusals.refused}
 use Rattle.stn_questions.specs.{declared.asked.Question.Question, Answer.IsAnswer, Ready.{IsReadyText, IsReadyWith}}
-use Rattle.stn_command.{specs.{declared.changes.Change.{Change, TheVariants.{Add, Amend, Withdraw, Done}}, Words.{and_then, spelled}, Query.{Query, IsSaid, IsQueryRefusal}, Dispatch.{every_event, done_or_not_chosen}}, proofs.OneSaid.one_refusal}
+use Rattle.stn_command.{specs.{Words.{and_then, spelled}, Query.{Query, IsSaid, IsQueryRefusal}, Dispatch.{every_event, done_or_not_chosen}}, proofs.OneSaid.one_refusal}
 use Rattle.stn_command.specs.Query as asked
 use Rattle.stn_command.specs.declared.queries.Outlook.TheVariants as outlook
-use Rattle.stn_exec.{specs.{Command.{QueryWords, report, ready, ask, Action, change, merge, send_all, send, deliver, query, Command, sites_command, command_of}, Effect.{CommandEffect, CommandReply, told, refusing, sending, sent_step, change_read, query_read, change_step, changing, telling, action_effect, command_effect, action_step, command_step}, Script.{Outcome, Start, is_skipped, form_effect, line_outcome, lines_outcome, heading_of, last_line, script_outcome}, Output.{IsReplyText, IsOutput}, Reports.{line_steps, steps_of_lines, LineOf, first_world, steps_before, world_at, ReportsSite, AsksSite, AsksReady, PrintsAt}}, proofs.{Effects.there_effect, Scripts.{line_outcome-skipped, line_outcome-run, line_effect-is, script_outcome-is}}}
+use Rattle.stn_exec.{specs.{Command.{QueryWords, report, ready, ask, Action, change, merge, send_all, send, deliver, query, Command, sites_command, command_of}, Effect.{CommandEffect, CommandReply, told, refusing, sending, sent_step, change_read, query_read, changing, telling, action_effect, command_effect, action_step, command_step}, Script.{Outcome, Start, is_skipped, form_effect, line_outcome, lines_outcome, heading_of, last_line, script_outcome}, Output.{IsReplyText, IsOutput}, Reports.{line_steps, steps_of_lines, LineOf, first_world, steps_before, world_at, ReportsSite, AsksSite, AsksReady, PrintsAt}}, proofs.{Effects.there_effect, Scripts.{line_outcome-skipped, line_outcome-run, line_effect-is, script_outcome-is}}}
 
 -- ---- what a command leaves is what its step leaves
 changing_run : (world : World) (site : ℕ) (read : Result Change Failure)
-    → (changing world site read).world ≡ run world (option_to_list (option_map (change_step site) (result_ok read)))
+    → (changing world site read).world ≡ run world (option_to_list (option_map (changed site) (result_ok read)))
 changing_run world site (Ok asked) = refl
 changing_run world site (Err cause) = refl
 
@@ -48,16 +48,9 @@ refused_run world step refused = ap (λ o. cond (is_some o) world (after world s
 unsent_run : (world : World) (site : ℕ) (part : Content) (held : Bool) → ¬ HasSite world site → run world (option_to_list (sent_step world site part held)) ≡ world
 unsent_run world site part held missing = ap (λ o. run world (option_to_list (cond (is_some o) None (Some (sent site part))))) (no_site world site _ missing)
 
--- so is that of a change
-no_change : (world : World) (site : ℕ) (asked : Change) → ¬ HasSite world site → step_refusal world (change_step site asked) ≡ Some NoSite
-no_change world site (Add bound) missing = no_site world site _ missing
-no_change world site (Amend old bound) missing = no_site world site _ missing
-no_change world site (Withdraw id) missing = no_site world site (option_map of_replica_fault (withdraw_refusal (held_at world site) id)) missing
-no_change world site (Done event time) missing = no_site world site _ missing
-
 unchanged_run : (world : World) (site : ℕ) (read : Result Change Failure) → ¬ HasSite world site
-    → run world (option_to_list (option_map (change_step site) (result_ok read))) ≡ world
-unchanged_run world site (Ok asked) missing = refused_run world (change_step site asked) (no_change world site asked missing)
+    → run world (option_to_list (option_map (changed site) (result_ok read))) ≡ world
+unchanged_run world site (Ok asked) missing = refused_run world (changed site asked) (no_site world site _ missing)
 unchanged_run world site (Err cause) missing = refl
 
 missing_run : (world : World) (site : ℕ) (action : Action) → ¬ HasSite world site → run world (option_to_list (action_step world site action)) ≡ world

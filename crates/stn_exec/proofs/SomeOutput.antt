@@ -5,10 +5,10 @@ use Rattle.stn_refusal.specs.{declared.{refusal.Refusal.Refusal, failure.Failure
 use Rattle.stn_text.specs.Lines.{lines_of, words_of}
 use Rattle.stn_lift.specs.PlanSource.{events_of, IsSoundSource}
 use Rattle.stn_records.specs.Content.{Content, part_of}
-use Rattle.stn_site.specs.{Held.{Held, holding_state}, SoundSite.IsSoundSite}
-use Rattle.stn_world.{specs.{declared.faults.WorldFault.WorldFault, Failures.world_failure, Parts.holds_all, World.{World, has_site, opening_world, content_at, next_id_at}, Whole.IsCoherent, Steps.{Step, merged, sent, delivered, step_refusal, send_refusal, after}}, proofs.{Runs.{run_keeps, coherent_run}, Whole.{coherent_at_first, site_bounds, site_proper}}}
-use Rattle.stn_command.specs.{declared.changes.Change.Change, Change.made_by, Query.{Query, IsSaid, IsQueryRefusal}}
-use Rattle.stn_exec.{specs.{declared.answer.Answer.Answer, Answer.answer_text, Command.{Action, Command, command_of, change, merge, send_all, send, deliver, query}, Effect.{CommandReply, CommandEffect, declined, refusing, answered, change_read, query_read, change_step, changing, telling, action_effect}, Output.{IsAnswerText, Declines, CountsRefusals, IsOutput}, Script.{Outcome, Start, is_skipped, form_effect, line_effect, line_outcome, lines_outcome, heading_of, started, last_line, script_outcome}, Reports.line_steps}, proofs.{Outputs.{not_both, counts_join, count_one}, Scripts.{outputs_join, output_one, line_outcome-skipped, line_outcome-run, line_effect-is}, Reports.line_run, Headings.{IsFitOrTold, IsSoundStart, heading_fit}, Told.{IsTold, IsToldCause, IsReadOrTold, step_told, send_told, change_told, query_told}}}
+use Rattle.stn_site.specs.{Held.{Held, holding_state}, SoundSite.IsSoundSite, declared.change.Change.Change}
+use Rattle.stn_world.{specs.{declared.faults.WorldFault.WorldFault, Failures.world_failure, Parts.holds_all, World.{World, has_site, opening_world, content_at, next_id_at}, Whole.IsCoherent, Steps.{Step, changed, merged, sent, delivered, step_refusal, send_refusal, after}}, proofs.{Runs.{run_keeps, coherent_run}, Whole.{coherent_at_first, site_bounds, site_proper}}}
+use Rattle.stn_command.specs.{Change.made_by, Query.{Query, IsSaid, IsQueryRefusal}}
+use Rattle.stn_exec.{specs.{declared.answer.Answer.Answer, Answer.answer_text, Command.{Action, Command, command_of, change, merge, send_all, send, deliver, query}, Effect.{CommandReply, CommandEffect, declined, refusing, answered, change_read, query_read, changing, telling, action_effect}, Output.{IsAnswerText, Declines, CountsRefusals, IsOutput}, Script.{Outcome, Start, is_skipped, form_effect, line_effect, line_outcome, lines_outcome, heading_of, started, last_line, script_outcome}, Reports.line_steps}, proofs.{Outputs.{not_both, counts_join, count_one}, Scripts.{outputs_join, output_one, line_outcome-skipped, line_outcome-run, line_effect-is}, Reports.line_run, Headings.{IsFitOrTold, IsSoundStart, heading_fit}, Told.{IsTold, IsToldCause, IsReadOrTold, step_told, send_told, change_told, query_told}}}
 use Rattle.stn_exec.specs.declared.answer.Answer.TheVariants as answer
 
 -- another law: a site has an answer to each query that nothing refuses, and what refuses one is printed
@@ -60,7 +60,7 @@ answered_or_refused world left made (Some fault) one = inr (one.refusal, sym one
 
 changed_or_refused : (world : World) (site : ℕ) (read : Result Change Failure) → IsReadOrTold read → IsAnsweredOrRefused (changing world site read).reply
 changed_or_refused world site (Ok made) one =
-    answered_or_refused world (after world (change_step site made)) (answer.Changed (made_by made (next_id_at world site))) (step_refusal world (change_step site made)) (step_told world (change_step site made))
+    answered_or_refused world (after world (changed site made)) (answer.Changed (made_by made (next_id_at world site))) (step_refusal world (changed site made)) (step_told world (changed site made))
 changed_or_refused world site (Err failure) one = inr (one.refusal, sym one.is)
 
 module _ (known : HasAnswers) (world : World) (coherent : IsCoherent world) (sound : IsSoundSource world.source) where

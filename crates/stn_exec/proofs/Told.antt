@@ -6,9 +6,9 @@ use Rattle.stn_time.specs.{Time.horizon, TimeOf.time_of, declared.reading.TimeFa
 use Rattle.stn_net.specs.{Difference.Difference, declared.bound.BoundFault.{BoundFault, TheVariants.{NoEvent, SameEvent, Crossed}}}
 use Rattle.stn_lift.specs.PlanSource.{events_of}
 use Rattle.stn_records.specs.{Id.{SiteCounter, most_counter}, Content.{most_known, Content, is_known, known_count, known_in_either, next_counter, dispute_contents}}
-use Rattle.stn_site.specs.{declared.faults.ReplicaFault.ReplicaFault, Failures.replica_failure, Held.Held, Refusals.{bound_refusal, next_refusal, add_refusal, amend_refusal, done_refusal, withdraw_refusal, records_name, take_refusal}}
+use Rattle.stn_site.specs.{declared.{faults.ReplicaFault.ReplicaFault, change.Change.{Change, TheVariants.{Add, Amend, Withdraw, Done}}}, Change.change_refusal, Failures.replica_failure, Held.Held, Refusals.{bound_refusal, next_refusal, add_refusal, amend_refusal, done_refusal, withdraw_refusal, records_name, take_refusal}}
 use Rattle.stn_site.specs.declared.faults.ReplicaFault.TheVariants as replica
-use Rattle.stn_world.specs.{declared.faults.WorldFault.WorldFault, Faults.of_replica_fault, Failures.world_failure, Parts.is_part, World.{World, most_packets, has_site, has_packet, held_at, content_at, packet_at}, Steps.{Step, added, finished, amended, withdrew, merged, sent, delivered, missing, step_refusal, send_refusal}}
+use Rattle.stn_world.specs.{declared.faults.WorldFault.WorldFault, Faults.of_replica_fault, Failures.world_failure, Parts.is_part, World.{World, most_packets, has_site, has_packet, held_at, content_at, packet_at}, Steps.{Step, changed, merged, sent, delivered, missing, step_refusal, send_refusal}}
 use Rattle.stn_world.specs.declared.faults.WorldFault.TheVariants as world_fault
 use Rattle.stn_command.specs.Words.{and_then, spelled, time_read, times_read}
 use Rattle.stn_exec.specs.{Command.{BoundWords, ChangeWords, add, amend, withdraw, done, QueryWords, report, check, next, rehearse, ready, ask, repairs}, Effect.{side_of, bound_read, change_read, query_read}}
@@ -71,6 +71,12 @@ done_told held event =
 withdraw_told : (held : Held) (id : SiteCounter) → IsToldCause replica_failure (withdraw_refusal held id)
 withdraw_told held id = test_told replica_failure (not (is_known held.state id)) replica.Unknown (told (refusal code.Unknown))
 
+asked_told : (held : Held) (asked : Change) → IsToldCause replica_failure (change_refusal held asked)
+asked_told held (Add bound) = add_told held bound
+asked_told held (Amend old bound) = amend_told held old bound
+asked_told held (Withdraw id) = withdraw_told held id
+asked_told held (Done event time) = done_told held event
+
 take_told : (held : Held) (other : Content) → IsToldCause replica_failure (take_refusal held other)
 take_told held other =
     let unnamed = not (records_name (events_of held.source) other) in
@@ -103,18 +109,9 @@ behind_missing : (world : World) (site : ℕ) (found : Option WorldFault) → Is
 behind_missing world site found one = or_told world_failure (missing world site) found (missing_told world site) one
 
 pub step_told : (world : World) (step : Step) → IsToldCause world_failure (step_refusal world step)
-step_told world (added site bound) =
-    let found = add_refusal (held_at world site) bound in
-    behind_missing world site (option_map of_replica_fault found) (replica_told found (add_told (held_at world site) bound))
-step_told world (finished site event time) =
-    let found = done_refusal (held_at world site) event in
-    behind_missing world site (option_map of_replica_fault found) (replica_told found (done_told (held_at world site) event))
-step_told world (amended site old bound) =
-    let found = amend_refusal (held_at world site) old bound in
-    behind_missing world site (option_map of_replica_fault found) (replica_told found (amend_told (held_at world site) old bound))
-step_told world (withdrew site id) =
-    let found = withdraw_refusal (held_at world site) id in
-    behind_missing world site (option_map of_replica_fault found) (replica_told found (withdraw_told (held_at world site) id))
+step_told world (changed site asked) =
+    let found = change_refusal (held_at world site) asked in
+    behind_missing world site (option_map of_replica_fault found) (replica_told found (asked_told (held_at world site) asked))
 step_told world (merged site other) =
     let taken = option_map of_replica_fault (take_refusal (held_at world site) (content_at world other)) in
     let found = cond (site == other) None taken in

@@ -2,10 +2,12 @@
 use Rattle.std.specs.{Prelude.{ℕ, ◌+◌, Bool, true, if◌then◌else◌, List, length, codes, ℤ, neg_ℤ, Option, Some, None, is_some, option_map, Result, Ok, Err}, Option.option_map_or, Result.result_ok, Str.bytes_eq}
 use Rattle.stn_refusal.specs.{declared.{code.Code.TheVariants.NoSite, failure.Failure.Failure}, Refusals.refused}
 use Rattle.stn_time.specs.Time.{horizon}
+use Rattle.stn_net.specs.Difference.{Difference}
 use Rattle.stn_lift.specs.PlanSource.{PlanSource}
 use Rattle.stn_records.specs.Content.{Content, part_of}
-use Rattle.stn_world.specs.{declared.faults.WorldFault.WorldFault, Failures.world_failure, Parts.holds_all, World.{World, has_site, content_at, next_id_at}, Steps.{Step, added, finished, amended, withdrew, merged, sent, delivered, step_refusal, send_refusal, after}}
-use Rattle.stn_command.specs.{declared.changes.{AskedBound.AskedBound, Change.{Change, TheVariants.{Add, Amend, Withdraw, Done}}}, Words.{and_then, time_read, times_read}, Change.{bound_of, made_by}, Query.Query, Dispatch.every_event}
+use Rattle.stn_site.specs.{Held.difference, declared.change.Change.{Change, TheVariants.{Add, Amend, Withdraw, Done}}}
+use Rattle.stn_world.specs.{declared.faults.WorldFault.WorldFault, Failures.world_failure, Parts.holds_all, World.{World, has_site, content_at, next_id_at}, Steps.{Step, changed, merged, sent, delivered, step_refusal, send_refusal, after}}
+use Rattle.stn_command.specs.{Words.{and_then, time_read, times_read}, Change.made_by, Query.Query, Dispatch.every_event}
 use Rattle.stn_command.specs.Query as asked
 use Rattle.stn_command.specs.declared.queries.Outlook.TheVariants as outlook
 use Rattle.stn_exec.specs.{declared.answer.Answer.Answer, Command.{BoundWords, ChangeWords, add, amend, withdraw, done, QueryWords, report, check, next, rehearse, ready, ask, repairs, Action, change, merge, send_all, send, deliver, query, Command}}
@@ -48,11 +50,11 @@ abbrev pub side_of : ℤ → List ℕ → Result ℤ Failure
 side_of open_side word = if bytes_eq word (codes "*") then Ok open_side else time_read word
 
 -- the bound that is asked for, where both sides can be read, the lower one first
-abbrev pub bound_read : BoundWords → Result AskedBound Failure
+abbrev pub bound_read : BoundWords → Result Difference Failure
 bound_read words =
     and_then (side_of (neg_ℤ horizon) words.lo) (λ low.
     and_then (side_of horizon words.hi) (λ high.
-    Ok (record { from = words.from; to = words.to; lo = low; hi = high })))
+    Ok (difference words.from words.to low high)))
 
 -- the change that is asked for, where its words can be read
 abbrev pub change_read : ChangeWords → Result Change Failure
@@ -71,16 +73,9 @@ query_read (rehearse now) = and_then (time_read now) (λ time. Ok (asked.foresee
 query_read (ready now) = and_then (time_read now) (λ time. Ok (asked.foresee outlook.Ready time every_event))
 query_read (ask question) = Ok (asked.ask question)
 
--- the step that a change is at a site
-abbrev pub change_step : ℕ → Change → Step
-change_step site (Add bound) = added site (bound_of bound)
-change_step site (Amend old bound) = amended site old (bound_of bound)
-change_step site (Withdraw id) = withdrew site id
-change_step site (Done event time) = finished site event time
-
 -- a change that was read
 abbrev pub changing : World → ℕ → Result Change Failure → CommandEffect
-changing world site (Ok made) = called world (change_step site made) (answer.Changed (made_by made (next_id_at world site)))
+changing world site (Ok made) = called world (changed site made) (answer.Changed (made_by made (next_id_at world site)))
 changing world site (Err cause) = refusing world cause
 
 -- a query that was read
@@ -109,7 +104,7 @@ sent_step world site part held = if is_some (send_refusal world site held) then 
 
 -- the step that an action of a site is, if it is one: a change whose words can be read, a merge, the sending of a packet, or its delivery
 abbrev pub action_step : World → ℕ → Action → Option Step
-action_step world site (change words) = option_map (change_step site) (result_ok (change_read words))
+action_step world site (change words) = option_map (changed site) (result_ok (change_read words))
 action_step world site (merge other) = Some (merged site other)
 action_step world site send_all = sent_step world site (content_at world site) true
 action_step world site (send records tombstones) =

@@ -1,15 +1,14 @@
-ghost use Rattle.std.specs.Prelude.{◌≡◌, Ok, IfOk};
+ghost use Rattle.std.specs.Prelude.{◌≡◌, Ok};
 ghost use Rattle.stn_text.specs.Lines.{words_of};
-ghost use Rattle.stn_world.specs.{World.{HasSite, content_at, next_id_at}, Steps.IsStep};
-ghost use Rattle.stn_command.specs.{Change.made_by, Dispatch.every_event, Query.{foresee, seen_query as asked_of}, Words.{and_then, time_read}};
-ghost use Rattle.stn_exec.specs.{Command.{change, send_items, query}, Effect.{change_step, telling, action_effect}, Running.{seen_change, seen_query_words}, Saying.{IsEffect, IsDone, call_answer, sent_answer}};
+ghost use Rattle.stn_world.specs.World.{HasSite, content_at};
+ghost use Rattle.stn_command.specs.{Dispatch.every_event, Query.{foresee, seen_query as asked_of}, Words.{and_then, time_read}};
+ghost use Rattle.stn_exec.specs.{Command.{change, send_items, query}, Effect.{telling, action_effect}, Running.{seen_change, seen_query_words}, Saying.{IsEffect, IsDone, call_answer, sent_answer}};
 
 use crate::answer::Answer;
 use crate::command::{ChangeWords, QueryWords, read_records, read_tombstones};
 use crate::reading::{read_change, read_times};
 use std::alloc::Allocator;
-use stn_command::{Change, Choice, Made, Outlook, Query, append_said, read_time};
-use stn_records::Id;
+use stn_command::{Choice, Made, Outlook, Query, append_said, read_time};
 use stn_refusal::Failure;
 use stn_site::SitePlan;
 use stn_world::{World, WorldFault};
@@ -23,36 +22,8 @@ pub fn change<A: Allocator + Copy>(
     ensures { IsEffect result world.new (action_effect world.old site (change (seen_change words.now))) }
 {
     let asked = read_change(words)?;
-    let made = change_at(world, site, &asked)?;
-    Ok(Answer::Changed(made))
-}
-
-fn change_at<A: Allocator + Copy>(
-    world: &mut World<A, SitePlan<A>>,
-    site: u32,
-    asked: &Change,
-) -> Result<Made, WorldFault>
-    ensures made { IfOk result (λ made. made ≡ made_by asked.now (next_id_at world.old site)) }
-    ensures step { IsStep world.old (change_step site asked.now) result world.new }
-{
-    match *asked {
-        Change::Add(bound) => {
-            let id = world.add(site, bound.from, bound.to, bound.lo, bound.hi)?;
-            Ok(Made::Added(id))
-        }
-        Change::Amend(old, bound) => {
-            let id = world.amend(site, old, bound.from, bound.to, bound.lo, bound.hi)?;
-            Ok(Made::Amended(id))
-        }
-        Change::Withdraw(id) => {
-            world.withdraw(site, id)?;
-            Ok(Made::Withdrawn(id))
-        }
-        Change::Done(event, time) => {
-            let id = world.done(site, event, time)?;
-            Ok(Made::Added(id))
-        }
-    }
+    let id = world.change(site, &asked)?;
+    Ok(Answer::Changed(Made::of(&asked, id)))
 }
 
 /// Sends the records of a site that the words of a line name, with the ids that they replace, and the

@@ -6,8 +6,9 @@ ghost use Rattle.stn_exec.specs.{Effect.{side_of, bound_read, change_read}, Runn
 
 use crate::command::{BoundWords, ChangeWords};
 use std::alloc::Allocator;
-use stn_command::{AskedBound, Change, read_time};
+use stn_command::read_time;
 use stn_refusal::Failure;
+use stn_site::{AskedBound, Change};
 use stn_text::first_word;
 use stn_time::{HORIZON, Ms};
 
@@ -38,12 +39,7 @@ fn read_bound(words: &BoundWords<'_>) -> Result<AskedBound, Failure>
 {
     let lo = read_side(words.lo, Ms::new(-HORIZON).unwrap())?;
     let hi = read_side(words.hi, Ms::new(HORIZON).unwrap())?;
-    Ok(AskedBound {
-        from: words.from,
-        to: words.to,
-        lo,
-        hi,
-    })
+    Ok(AskedBound::new(words.from, words.to, lo, hi))
 }
 
 // The side of a bound that a word is: the open one for `*`, else a time.

@@ -1,10 +1,10 @@
 -- What a change of a site's plan makes of its live records, and a matrix that has caught up with it.
-use Rattle.std.{proofs.{Common.{◌≡◌, ◌≤◌, Bool, true, false, List, [], ◌∷◌, ◌++◌, Some, inl, refl, sym, ap, subst, ◌∙◌}, lemmas.Option.same_Some}, specs.FinMap.get}
+use Rattle.std.{proofs.{Common.{◌≡◌, ◌≤◌, Bool, true, false, not, List, [], ◌∷◌, ◌++◌, Some, None, inl, refl, sym, ap, subst, ◌∙◌}, lemmas.{Option.same_Some, Bool.{false≢true, and_parts}}}, specs.FinMap.get}
 use Rattle.stn_net.specs.{Difference.Difference, Matrix.{Table.Table, Tightest.IsExact}}
-use Rattle.stn_lift.specs.PlanSource.{events_of}
+use Rattle.stn_lift.specs.PlanSource.{PlanSource, events_of}
 use Rattle.stn_records.{specs.{Id.SiteCounter, declared.record.Record.Record, ContentLaws.contents_join, Content.{Content, is_known, is_live, replacement, plain, one_amendment, next_counter}}, proofs.{Counters.next_is_new, OneItem.inserted_here}}
-use Rattle.stn_site.specs.{Bounds.{live_bounds, RecordsName}, Held.{Held, next_id}, Calls.{added, amended, Leaves}}
-use Rattle.stn_replica.{specs.{Invariant.{IsSettled, IsSoundReplica}, Work.KeepsLive}, proofs.{Changes.{IsGrown, grown_with_record, grown_with_amendment, falls_with_amendment}, Sound.{sound_added, sound_rebuilt}}}
+use Rattle.stn_site.{specs.{Bounds.{live_bounds, RecordsName}, Held.{Held, next_id, executed}, Calls.{added, amended, Leaves}, Change.{change_call, change_id, change_refusal, IsAgain}, declared.change.Change.{Change, TheVariants.{Add, Amend, Withdraw, Done}}}, proofs.Refused.amended_known}
+use Rattle.stn_replica.{specs.{Invariant.{IsSettled, IsSoundReplica, stops_live}, Work.KeepsLive}, proofs.{Changes.{IsGrown, grown_with_record, grown_with_amendment, falls_with_amendment, replaced_dead, withdrawn_replaced, withdrawn_dead}, Sound.{sound_added, sound_rebuilt, sound_dead, falls_withdrawn}}}
 
 -- the site's next id is not known
 next_unknown : (held : Held) (id : SiteCounter) → id ≡ next_id held → is_known held.state id ≡ false
@@ -27,6 +27,44 @@ module _ (old new : Held) (id replaced : SiteCounter) (bound : Difference) (leav
 
   pub falls_by_amendment : is_live old.state replaced ≡ true → ¬ KeepsLive old.state new.state
   falls_by_amendment live = falls_with_amendment old.state new.state id replaced bound leaves.state.1 agrees live
+
+-- the record that has been added is live
+never : {P : Type 0} {old new : Content} {id : SiteCounter} {one : Record} → IsGrown old new id one → is_live new id ≡ false → P
+never {old = old} {new = new} {id = id} more dead = absurd (false≢true (sym dead ∙ (and_parts (is_live new id) (not (is_live old id)) more.rose).0))
+
+-- where a change stops a live record, a live record has stopped being so
+pub falls_by_change : (old new : Held) (asked : Change) (id : SiteCounter) → Leaves old (change_call asked id) new → stops_live asked old.state ≡ true → ¬ KeepsLive old.state new.state
+falls_by_change old new (Add bound) id leaves stops = absurd (false≢true stops)
+falls_by_change old new (Amend replaced bound) id leaves stops = falls_by_amendment old new id replaced bound leaves stops
+falls_by_change old new (Withdraw gone) id leaves stops = subst (λ (state : Content). ¬ KeepsLive old.state state) (sym leaves.state) (falls_withdrawn old.state gone stops)
+falls_by_change old new (Done event time) id leaves stops = absurd (false≢true stops)
+
+-- where it stops none and its id is live, the record of this id has become so, and no other changes
+pub grown_by_change : (old new : Held) (asked : Change) (id : SiteCounter) → Leaves old (change_call asked id) new → id ≡ change_id asked (next_id old) → change_refusal old asked ≡ None
+    → stops_live asked old.state ≡ false → is_live new.state id ≡ true → (one : Record) × IsGrown old.state new.state id one
+grown_by_change old new (Add bound) id leaves is free kept live = (plain bound, grown_by_addition old new id (plain bound) leaves)
+grown_by_change old new (Amend replaced bound) id leaves is free kept live = (plain bound, grown_by_amendment old new id replaced bound leaves (amended_known old replaced bound free) kept)
+grown_by_change old new (Withdraw gone) id leaves is free kept live =
+    absurd (false≢true (sym (withdrawn_dead old.state gone) ∙ (λ i. is_live ((sym leaves.state) i) ((sym is) i)) ∙ live))
+grown_by_change old new (Done event time) id leaves is free kept live = (executed time event, grown_by_addition old new id (executed time event) leaves)
+
+-- where its id is not live, the replica stays sound without work
+pub unlive_by_change : (old new : Held) (asked : Change) (id : SiteCounter) (opening current : Table) (possible : Bool) → Leaves old (change_call asked id) new → change_refusal old asked ≡ None
+    → stops_live asked old.state ≡ false → is_live new.state id ≡ false → IsSoundReplica old.source old.state opening current possible → IsSoundReplica new.source new.state opening current possible
+unlive_by_change old new (Add bound) id opening current possible leaves free kept dead sound = never (grown_by_addition old new id (plain bound) leaves) dead
+unlive_by_change old new (Amend replaced bound) id opening current possible leaves free kept dead sound =
+    never (grown_by_amendment old new id replaced bound leaves (amended_known old replaced bound free) kept) dead
+unlive_by_change old new (Withdraw gone) id opening current possible leaves free kept dead sound =
+    subst (λ (source : PlanSource). IsSoundReplica source new.state opening current possible) (sym leaves.source)
+    (subst (λ (state : Content). IsSoundReplica old.source state opening current possible) (sym leaves.state) (sound_dead old.source old.state opening current possible gone sound kept))
+unlive_by_change old new (Done event time) id opening current possible leaves free kept dead sound = never (grown_by_addition old new id (executed time event) leaves) dead
+
+-- and a change that brings nothing new is about no live record
+pub never_live : (asked : Change) (state : Content) (next : SiteCounter) → IsAgain asked state → (stops_live asked state ≡ false) × (is_live state (change_id asked next) ≡ false)
+never_live (Add bound) state next again = absurd again
+never_live (Amend old bound) state next again = absurd again
+never_live (Withdraw gone) state next again = let dead = replaced_dead state gone (withdrawn_replaced state gone again) in (dead, dead)
+never_live (Done event time) state next again = absurd again
 
 -- ---- the records of the changed plan name the matrix's events
 pub named_after : (old new : Held) (current : Table) (state : Content) → new.source ≡ old.source → current.events ≡ events_of old.source → state ≡ new.state

@@ -2,8 +2,8 @@
 use Rattle.std.specs.Prelude.{◌≡◌, ◌≤◌, Bool, true, false, List}
 use Rattle.stn_net.specs.{Difference.Difference, Schedule.HasSchedule, Matrix.{Table.Table, Tightest.IsExact}}
 use Rattle.stn_lift.specs.PlanSource.{PlanSource, base_bounds, events_of}
-use Rattle.stn_records.specs.Content.{Content}
-use Rattle.stn_site.specs.Bounds.{all_bounds, RecordsName}
+use Rattle.stn_records.specs.Content.{Content, is_live}
+use Rattle.stn_site.specs.{Bounds.{all_bounds, RecordsName}, declared.change.Change.{Change, TheVariants.{Add, Amend, Withdraw, Done}}}
 
 -- the bounds have a schedule, and the table is exact for them; or they have none
 abbrev pub IsSettled : List Difference → Table → Bool → Type 0
@@ -19,3 +19,10 @@ pub record IsSoundReplica (source : PlanSource) (state : Content) (opening curre
   pub opening_exact : IsExact (base_bounds source) opening
   pub settled : IsSettled (all_bounds source state) current possible
   pub counted : current.steps ≤ 18446744073709551615
+
+-- the change takes the place of a live record, or withdraws one
+abbrev pub stops_live : Change → Content → Bool
+stops_live (Add bound) state = false
+stops_live (Amend old bound) state = is_live state old
+stops_live (Withdraw id) state = is_live state id
+stops_live (Done event time) state = false

@@ -2,8 +2,8 @@ ghost use Rattle.std.specs.{Prelude.{◌≡◌, ◌+◌, ◌≤◌, pos, true, l
 ghost use Rattle.stn_net.specs.{Schedule.{HasSchedule, IsSchedule, times_of}, Matrix.Tightest.IsExact, Windows.Window.IsWindow};
 ghost use Rattle.stn_lift.specs.PlanSource.{base_bounds, events_of};
 ghost use Rattle.stn_records.specs.Content.{no_content, IsPart};
-ghost use Rattle.stn_site.specs.{Bounds.{all_bounds, RecordsName}, Names.broken_bound, Held.{difference, plain, executed}, Calls.{added, amended, withdrew, took, Leaves}, Refusals.{add_refusal, amend_refusal, done_refusal, withdraw_refusal, take_refusal}};
-ghost use Rattle.stn_replica.specs.Work.{SparesWork};
+ghost use Rattle.stn_site.specs.{Bounds.{all_bounds, RecordsName}, Names.broken_bound, Held.{difference, plain, executed, next_id}, Calls.{added, amended, withdrew, took, Leaves}, Change.{change_call, change_id, change_refusal, IsAgain}, Refusals.{add_refusal, amend_refusal, done_refusal, withdraw_refusal, take_refusal}};
+ghost use Rattle.stn_replica.specs.{Work.SparesWork, Invariant.stops_live};
 
 use crate::matrices::{catch_up, rebuild, tighten_by};
 use crate::plan_matrix::PlanMatrix;
@@ -13,7 +13,7 @@ use std::rc::Rc;
 use stn_lift::Base;
 use stn_net::{Event, Matrix, window};
 use stn_records::{Id, Records, Site};
-use stn_site::{BoundName, ReplicaFault, SitePlan};
+use stn_site::{AskedBound, BoundName, Change, ReplicaFault, SitePlan};
 use stn_time::{Memory, Ms};
 
 /// One site's copy of a plan, with how far apart the events can be.
@@ -90,6 +90,29 @@ impl<A: Allocator + Copy> Replica<A> {
         })
     }
 
+    /// Makes a change, and returns the id of the record that it adds, or the id that it withdraws.
+    ///
+    /// Refused as `add`, `amend`, `withdraw` and `done` refuse it. After a fault all is as before.
+    pub fn change(&mut self, asked: &Change) -> Result<Id, ReplicaFault>
+        ensures leaves { IfOk result (λ id. Leaves self.old (change_call asked.now id) self.new) }
+        ensures work { OnOk result (SparesWork self.old self.new) }
+        ensures id { IfOk result (λ id. id ≡ change_id asked.now (next_id self.old)) }
+        ensures again { IsAgain asked.now self.old.state → IsOk result × (self.new ≡ self.old) }
+        ensures accepted { OnOk result (change_refusal self.old asked.now ≡ None) }
+        ensures fault { IfErr result (λ fault. fault ≡ unwrap_or (change_refusal self.old asked.now) ReplicaFault.Memory) }
+        ensures kept { OnErr result (self.new ≡ self.old) }
+    {
+        let stops = stops_live(self.plan.records(), asked);
+        let id = self.plan.change(asked)?;
+        let records = self.plan.records();
+        if stops {
+            self.possible = rebuild(&self.opening, &mut self.current, records);
+        } else if records.is_live(id) {
+            self.possible = tighten_by(&mut self.current, self.possible, records, id);
+        }
+        Ok(id)
+    }
+
     /// Adds a bound, under the site's next id, which is returned. A bound that contradicts others is
     /// added like any other.
     ///
@@ -102,9 +125,7 @@ impl<A: Allocator + Copy> Replica<A> {
         ensures fault { IfErr result (λ fault. fault ≡ unwrap_or (add_refusal self.old (difference from to lo hi)) ReplicaFault.Memory) }
         ensures kept { OnErr result (self.new ≡ self.old) }
     {
-        let id = self.plan.add(from, to, lo, hi)?;
-        self.possible = tighten_by(&mut self.current, self.possible, self.plan.records(), id);
-        Ok(id)
+        self.change(&Change::Add(AskedBound::new(from, to, lo, hi)))
     }
 
     /// Replaces a known id for good by a new record of a bound, under the site's next id, which is
@@ -127,15 +148,7 @@ impl<A: Allocator + Copy> Replica<A> {
         ensures fault { IfErr result (λ fault. fault ≡ unwrap_or (amend_refusal self.old old (difference from to lo hi)) ReplicaFault.Memory) }
         ensures kept { OnErr result (self.new ≡ self.old) }
     {
-        let was_live = self.plan.records().is_live(old);
-        let id = self.plan.amend(old, from, to, lo, hi)?;
-        let records = self.plan.records();
-        if was_live {
-            self.possible = rebuild(&self.opening, &mut self.current, records);
-        } else {
-            self.possible = tighten_by(&mut self.current, self.possible, records, id);
-        }
-        Ok(id)
+        self.change(&Change::Amend(old, AskedBound::new(from, to, lo, hi)))
     }
 
     /// Records at which time an event was executed, under the site's next id, which is returned. A
@@ -151,9 +164,7 @@ impl<A: Allocator + Copy> Replica<A> {
         ensures fault { IfErr result (λ fault. fault ≡ unwrap_or (done_refusal self.old event) ReplicaFault.Memory) }
         ensures kept { OnErr result (self.new ≡ self.old) }
     {
-        let id = self.plan.done(event, time)?;
-        self.possible = tighten_by(&mut self.current, self.possible, self.plan.records(), id);
-        Ok(id)
+        self.change(&Change::Done(event, time))
     }
 
     /// Withdraws a known id for good; one that is withdrawn already changes nothing.
@@ -168,11 +179,7 @@ impl<A: Allocator + Copy> Replica<A> {
         ensures fault { IfErr result (λ fault. fault ≡ unwrap_or (withdraw_refusal self.old id) ReplicaFault.Memory) }
         ensures kept { OnErr result (self.new ≡ self.old) }
     {
-        let was_live = self.plan.records().is_live(id);
-        self.plan.withdraw(id)?;
-        if was_live {
-            self.possible = rebuild(&self.opening, &mut self.current, self.plan.records());
-        }
+        self.change(&Change::Withdraw(id))?;
         Ok(())
     }
 
@@ -277,5 +284,16 @@ impl<A: Allocator + Copy> Replica<A> {
     /// The allocator that the replica was made with.
     pub fn alloc(&self) -> A {
         self.plan.alloc()
+    }
+}
+
+// Whether a change takes the place of a live record, or withdraws one.
+fn stops_live<A: Allocator + Copy>(records: &Records<A>, asked: &Change) -> bool
+    ensures { result ≡ stops_live asked.now records.now }
+{
+    match *asked {
+        Change::Add(_) | Change::Done(..) => false,
+        Change::Amend(old, _) => records.is_live(old),
+        Change::Withdraw(id) => records.is_live(id),
     }
 }

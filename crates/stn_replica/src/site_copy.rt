@@ -5,10 +5,9 @@ ghost use Rattle.stn_records.specs.Content.{no_content};
 
 use crate::replica::Replica;
 use std::alloc::Allocator;
-use stn_net::Event;
 use stn_records::{Id, Records, Site};
-use stn_site::{ReplicaFault, SiteCopy, SitePlan};
-use stn_time::{Memory, Ms};
+use stn_site::{Change, ReplicaFault, SiteCopy, SitePlan};
+use stn_time::Memory;
 
 impl<A: Allocator + Copy> SiteCopy<A> for Replica<A> {
     ghost held = { λ replica. replica };
@@ -25,27 +24,8 @@ impl<A: Allocator + Copy> SiteCopy<A> for Replica<A> {
         self.plan()
     }
 
-    fn add(&mut self, from: Event, to: Event, lo: Ms, hi: Ms) -> Result<Id, ReplicaFault> {
-        self.add(from, to, lo, hi)
-    }
-
-    fn amend(
-        &mut self,
-        old: Id,
-        from: Event,
-        to: Event,
-        lo: Ms,
-        hi: Ms,
-    ) -> Result<Id, ReplicaFault> {
-        self.amend(old, from, to, lo, hi)
-    }
-
-    fn done(&mut self, event: Event, time: Ms) -> Result<Id, ReplicaFault> {
-        self.done(event, time)
-    }
-
-    fn withdraw(&mut self, id: Id) -> Result<(), ReplicaFault> {
-        self.withdraw(id)
+    fn change(&mut self, asked: &Change) -> Result<Id, ReplicaFault> {
+        self.change(asked)
     }
 
     fn take(&mut self, other: &Records<A>) -> Result<(), ReplicaFault> {

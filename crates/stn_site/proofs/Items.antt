@@ -87,7 +87,7 @@ withdrawal_brought s new id is item =
     (λ h. ⊎_elim inl (λ x. inr ((one_withdrawal id item).0 x)) (union.0 h), λ h. union.1 (⊎_elim inl (λ x. inr ((one_withdrawal id item).1 x)) h))
 
 -- a call leaves the items that were there and those that it brought
-one_brought : (old : Held) (call : Accepted) (new : Content) → LeavesState old call new → (item : Item) → HasItem new item ↔ (HasItem old.state item ⊎ Brought call item)
+pub one_brought : (old : Held) (call : Accepted) (new : Content) → LeavesState old call new → (item : Item) → HasItem new item ↔ (HasItem old.state item ⊎ Brought call item)
 one_brought old (added id one) new left item = record_brought old.state new old.site id one left.0 left.1 item
 one_brought old (amended id replaced bound) new left item = amendment_brought old.state new id replaced bound left.2 item
 one_brought old (withdrew id) new left item = withdrawal_brought old.state new id left item

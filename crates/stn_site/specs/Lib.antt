@@ -10,3 +10,4 @@ pub mod Lines
 pub mod Report
 pub mod Windows
 pub mod Calls
+pub mod Change

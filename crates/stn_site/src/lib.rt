@@ -1,6 +1,7 @@
 //! One site's copy of a plan: what the site holds, its changes, and its report.
 #![tactic(auto)]
 
+pub use change::{AskedBound, Change};
 pub use done::EVENT_FLAGS;
 pub use faults::ReplicaFault;
 pub use laws::{
@@ -12,6 +13,7 @@ pub use report::append_link_lines;
 pub use site_copy::SiteCopy;
 pub use site_plan::SitePlan;
 
+mod change;
 mod done;
 mod faults;
 mod laws;

@@ -1,15 +1,15 @@
 //! What all copies of a plan have in common, whether they keep more of it or not.
 
-ghost use Rattle.std.specs.{Prelude.{◌≡◌, true, None, unwrap_or, IsOk, IfOk, IfErr, OnOk, OnErr}, FinMap.contains_key};
+ghost use Rattle.std.specs.Prelude.{◌≡◌, None, unwrap_or, IsOk, IfOk, IfErr, OnOk, OnErr};
 ghost use Rattle.stn_records.specs.Content.{no_content, IsPart};
-ghost use Rattle.stn_site.specs.{Held.{Held, difference, plain, executed}, Calls.{added, amended, withdrew, took, Leaves}, Refusals.{add_refusal, amend_refusal, done_refusal, withdraw_refusal, take_refusal}};
+ghost use Rattle.stn_site.specs.{Held.{Held, next_id}, Calls.{took, Leaves}, Change.{change_call, change_id, change_refusal, IsAgain}, Refusals.take_refusal};
 
+use crate::change::Change;
 use crate::faults::ReplicaFault;
 use crate::site_plan::SitePlan;
 use std::alloc::Allocator;
-use stn_net::Event;
 use stn_records::{Id, Records, Site};
-use stn_time::{Memory, Ms};
+use stn_time::Memory;
 
 /// One site's copy of a plan: a `SitePlan`, or what keeps one and knows more of it, as a replica. Whichever it is, the site's changes
 /// are refused for the same causes and leave the same.
@@ -29,33 +29,13 @@ pub trait SiteCopy<A: Allocator + Copy>: Drop {
         ensures source { result.now.source ≡ (held self.now).source }
         ensures state { result.now.state ≡ (held self.now).state };
 
-    /// Adds a bound, as `SitePlan::add`.
-    fn add(&mut self, from: Event, to: Event, lo: Ms, hi: Ms) -> Result<Id, ReplicaFault>
-        ensures leaves { IfOk result (λ id. Leaves (held self.old) (added id (plain (difference from to lo hi))) (held self.new)) }
-        ensures accepted { OnOk result (add_refusal (held self.old) (difference from to lo hi) ≡ None) }
-        ensures fault { IfErr result (λ fault. fault ≡ unwrap_or (add_refusal (held self.old) (difference from to lo hi)) ReplicaFault.Memory) }
-        ensures kept { OnErr result (self.new ≡ self.old) };
-
-    /// Replaces a known id by a new record, as `SitePlan::amend`.
-    fn amend(&mut self, old: Id, from: Event, to: Event, lo: Ms, hi: Ms) -> Result<Id, ReplicaFault>
-        ensures leaves { IfOk result (λ id. Leaves (held self.old) (amended id old (difference from to lo hi)) (held self.new)) }
-        ensures accepted { OnOk result (amend_refusal (held self.old) old (difference from to lo hi) ≡ None) }
-        ensures fault { IfErr result (λ fault. fault ≡ unwrap_or (amend_refusal (held self.old) old (difference from to lo hi)) ReplicaFault.Memory) }
-        ensures kept { OnErr result (self.new ≡ self.old) };
-
-    /// Records at which time an event was executed, as `SitePlan::done`.
-    fn done(&mut self, event: Event, time: Ms) -> Result<Id, ReplicaFault>
-        ensures leaves { IfOk result (λ id. Leaves (held self.old) (added id (executed time event)) (held self.new)) }
-        ensures accepted { OnOk result (done_refusal (held self.old) event ≡ None) }
-        ensures fault { IfErr result (λ fault. fault ≡ unwrap_or (done_refusal (held self.old) event) ReplicaFault.Memory) }
-        ensures kept { OnErr result (self.new ≡ self.old) };
-
-    /// Withdraws a known id for good, as `SitePlan::withdraw`.
-    fn withdraw(&mut self, id: Id) -> Result<(), ReplicaFault>
-        ensures leaves { OnOk result (Leaves (held self.old) (withdrew id) (held self.new)) }
-        ensures again { contains_key (held self.old).state.tombstones id ≡ true → IsOk result × (self.new ≡ self.old) }
-        ensures accepted { OnOk result (withdraw_refusal (held self.old) id ≡ None) }
-        ensures fault { IfErr result (λ fault. fault ≡ unwrap_or (withdraw_refusal (held self.old) id) ReplicaFault.Memory) }
+    /// Makes a change, as `SitePlan::change`.
+    fn change(&mut self, asked: &Change) -> Result<Id, ReplicaFault>
+        ensures leaves { IfOk result (λ id. Leaves (held self.old) (change_call asked.now id) (held self.new)) }
+        ensures id { IfOk result (λ id. id ≡ change_id asked.now (next_id (held self.old))) }
+        ensures again { IsAgain asked.now (held self.old).state → IsOk result × (self.new ≡ self.old) }
+        ensures accepted { OnOk result (change_refusal (held self.old) asked.now ≡ None) }
+        ensures fault { IfErr result (λ fault. fault ≡ unwrap_or (change_refusal (held self.old) asked.now) ReplicaFault.Memory) }
         ensures kept { OnErr result (self.new ≡ self.old) };
 
     /// Takes in all that another site holds, as `SitePlan::take`.
@@ -82,27 +62,8 @@ impl<A: Allocator + Copy> SiteCopy<A> for SitePlan<A> {
         self
     }
 
-    fn add(&mut self, from: Event, to: Event, lo: Ms, hi: Ms) -> Result<Id, ReplicaFault> {
-        self.add(from, to, lo, hi)
-    }
-
-    fn amend(
-        &mut self,
-        old: Id,
-        from: Event,
-        to: Event,
-        lo: Ms,
-        hi: Ms,
-    ) -> Result<Id, ReplicaFault> {
-        self.amend(old, from, to, lo, hi)
-    }
-
-    fn done(&mut self, event: Event, time: Ms) -> Result<Id, ReplicaFault> {
-        self.done(event, time)
-    }
-
-    fn withdraw(&mut self, id: Id) -> Result<(), ReplicaFault> {
-        self.withdraw(id)
+    fn change(&mut self, asked: &Change) -> Result<Id, ReplicaFault> {
+        self.change(asked)
     }
 
     fn take(&mut self, other: &Records<A>) -> Result<(), ReplicaFault> {

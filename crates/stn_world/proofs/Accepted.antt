@@ -1,10 +1,9 @@
 -- What refuses a step, and what an accepted step tells.
-use Rattle.std.{proofs.{Common.{◌≡◌, ◌≢◌, ℕ, ℤ, ◌<◌, ◌≤◌, Bool, true, not, ◌&&◌, cond, leb, Option, Some, None, length, ap, sym, ◌∙◌, arith}, lemmas.Bool.{false_from_ne_true, eq-eqb, ne_eqb, lt-leb, Decides.nat_tests}}, specs.{Prelude.{◌==◌, unwrap_or, option_map}, Bool.{Decides, then_some}, Option.option_or}}
-use Rattle.stn_net.specs.Difference.{Difference}
-use Rattle.stn_records.specs.{Id.SiteCounter, Content.Content}
-use Rattle.stn_site.{specs.{declared.faults.ReplicaFault.ReplicaFault, Refusals.{add_refusal, done_refusal, amend_refusal, withdraw_refusal, take_refusal}}, proofs.Refused.{or_none, mapped_none, untested}}
+use Rattle.std.{proofs.{Common.{◌≡◌, ◌≢◌, ℕ, ◌<◌, ◌≤◌, Bool, true, not, ◌&&◌, cond, leb, Option, Some, None, length, ap, sym, ◌∙◌, arith}, lemmas.Bool.{false_from_ne_true, eq-eqb, ne_eqb, lt-leb, Decides.nat_tests}}, specs.{Prelude.{◌==◌, unwrap_or, option_map}, Bool.{Decides, then_some}, Option.option_or}}
+use Rattle.stn_records.specs.Content.{Content}
+use Rattle.stn_site.{specs.{declared.{faults.ReplicaFault.ReplicaFault, change.Change.Change}, Change.change_refusal, Refusals.take_refusal}, proofs.Refused.{or_none, mapped_none, untested}}
 use Rattle.stn_site.specs.declared.faults.ReplicaFault.TheVariants as replica_fault
-use Rattle.stn_world.{specs.{declared.faults.WorldFault.{WorldFault, TheVariants.{NoSite, TooManyPackets, NoPacket, Replica, Memory}}, Faults.of_replica_fault, Parts.is_part, World.{World, most_packets, HasSite, has_site, HasPacket, has_packet, held_at, content_at, packet_at}, Steps.{added, finished, amended, withdrew, merged, sent, delivered, missing, step_refusal, IsAccepted, send_refusal}}, proofs.Parts.{IsSentOf, part_decides}}
+use Rattle.stn_world.{specs.{declared.faults.WorldFault.{WorldFault, TheVariants.{NoSite, TooManyPackets, NoPacket, Replica, Memory}}, Faults.of_replica_fault, Parts.is_part, World.{World, most_packets, HasSite, has_site, HasPacket, has_packet, held_at, content_at, packet_at}, Steps.{changed, merged, sent, delivered, missing, step_refusal, IsAccepted, send_refusal}}, proofs.Parts.{IsSentOf, part_decides}}
 
 both : (a b n : ℕ) → (leb a b && leb b n) ≡ true → (a ≤ b) × (b ≤ n)
 both a b n e = (grind (arith, nat_tests), grind (arith, nat_tests))
@@ -49,22 +48,11 @@ accepted_site world site refusal e =
     let both = or_none (missing world site) refusal e in
     ((site_decides world site).0 (untested (has_site world site) NoSite both.0), both.1)
 
--- a call at a site is accepted where the site is there and its replica accepts it
-accepted_call : (world : World) (site : ℕ) (refusal : Option ReplicaFault) → option_or (missing world site) (option_map of_replica_fault refusal) ≡ None → HasSite world site × (refusal ≡ None)
-accepted_call world site refusal e = let both = accepted_site world site (option_map of_replica_fault refusal) e in (both.0, mapped_none of_replica_fault refusal both.1)
-
-pub accepted_addition : (world : World) (site : ℕ) (bound : Difference) → IsAccepted world (added site bound) → HasSite world site × (add_refusal (held_at world site) bound ≡ None)
-accepted_addition world site bound e = accepted_call world site (add_refusal (held_at world site) bound) e
-
-pub accepted_execution : (world : World) (site event : ℕ) (time : ℤ) → IsAccepted world (finished site event time) → HasSite world site × (done_refusal (held_at world site) event ≡ None)
-accepted_execution world site event time e = accepted_call world site (done_refusal (held_at world site) event) e
-
-pub accepted_amendment : (world : World) (site : ℕ) (old : SiteCounter) (bound : Difference) → IsAccepted world (amended site old bound)
-    → HasSite world site × (amend_refusal (held_at world site) old bound ≡ None)
-accepted_amendment world site old bound e = accepted_call world site (amend_refusal (held_at world site) old bound) e
-
-pub accepted_withdrawal : (world : World) (site : ℕ) (id : SiteCounter) → IsAccepted world (withdrew site id) → HasSite world site × (withdraw_refusal (held_at world site) id ≡ None)
-accepted_withdrawal world site id e = accepted_call world site (withdraw_refusal (held_at world site) id) e
+-- a change is accepted where the site is there and its replica accepts it
+pub accepted_change : (world : World) (site : ℕ) (asked : Change) → IsAccepted world (changed site asked) → HasSite world site × (change_refusal (held_at world site) asked ≡ None)
+accepted_change world site asked e =
+    let both = accepted_site world site (option_map of_replica_fault (change_refusal (held_at world site) asked)) e in
+    (both.0, mapped_none of_replica_fault (change_refusal (held_at world site) asked) both.1)
 
 pub accepted_merge : (world : World) (site other : ℕ) → IsAccepted world (merged site other) → HasSite world site × HasSite world other
 accepted_merge world site other e =

@@ -1,17 +1,16 @@
 -- A call of a site's replica, as a step of the world.
-use Rattle.std.{proofs.{Common.{◌≡◌, ℕ, ℤ, ◌+◌, ◌-◌, ◌<◌, Bool, true, List, [], ◌∷◌, ◌++◌, length, Option, None, Result, Ok, Err, get_or, set, ap, sym, subst, ◌∙◌, arith, length-append}, lemmas.{List.set-get_or, Result.err_from_is_err_and}}, specs.{Prelude.{option_map, unwrap_or, ⊤, MatchResult, IfOk, IfErr, OnOk, OnErr}, Option.option_or, Result.IsErrAnd}}
-use Rattle.stn_net.specs.Difference.{Difference}
+use Rattle.std.{proofs.{Common.{◌≡◌, ℕ, ◌+◌, ◌-◌, ◌<◌, Bool, true, List, [], ◌∷◌, ◌++◌, length, Option, None, Result, Ok, Err, get_or, set, refl, ap, sym, subst, ◌∙◌, arith, length-append}, lemmas.{List.set-get_or, Result.err_from_is_err_and}}, specs.{Prelude.{option_map, unwrap_or, ⊤, MatchResult, IfOk, IfErr, OnOk, OnErr}, Option.option_or, Result.IsErrAnd}}
 use Rattle.stn_lift.specs.PlanSource.{PlanSource}
-use Rattle.stn_records.specs.{Id.SiteCounter, declared.record.Record.Record, Content.{Content, plain, with_record, with_amendment, with_tombstone, joined_contents}}
-use Rattle.stn_site.specs.{Held.{Held, executed}, declared.faults.ReplicaFault.ReplicaFault, Refusals.{add_refusal, done_refusal, amend_refusal, withdraw_refusal, take_refusal}, Calls.{Accepted, Leaves}}
+use Rattle.stn_records.specs.{Id.SiteCounter, Content.{Content, plain}}
+use Rattle.stn_site.specs.{Held.{Held, executed}, declared.{faults.ReplicaFault.ReplicaFault, change.Change.{Change, TheVariants.{Add, Amend, Withdraw, Done}}}, Change.{change_call, change_id, change_refusal}, Refusals.take_refusal, Calls.{Accepted, added, amended, withdrew, took, Leaves, LeavesState}}
 use Rattle.stn_site.specs.declared.faults.ReplicaFault.TheVariants as replica_fault
-use Rattle.stn_site.specs.Calls as call
-use Rattle.stn_world.{specs.{declared.faults.WorldFault.{WorldFault, TheVariants.Memory}, Faults.of_replica_fault, Sites.world_of, Whole.{IsCoherent, IsSoundWorld}, World.{World, most_packets, HasSite, HasPacket, content_at, packet_at, held_at, next_id_at, make, send}, Steps.{Step, added, finished, amended, withdrew, sent, delivered, missing, step_refusal, IsAccepted, after, IsStep, send_refusal, IsSending, IsDeliveryFault}}, proofs.{Accepted.{at_site, refused_by, delivery_refusal}, Merges.delivery_agrees, Sendings.send_free, Whole.coherent_after, Sites.{IsHeldAt, held_is, held_there, next_id_at-held, take_refusal_at, join_is_joined, world_set, sites_set}}}
+use Rattle.stn_world.{specs.{declared.faults.WorldFault.{WorldFault, TheVariants.Memory}, Faults.of_replica_fault, Sites.world_of, Whole.{IsCoherent, IsSoundWorld}, World.{World, most_packets, HasSite, HasPacket, content_at, packet_at, held_at, next_id_at, content_after, with_call, send}, Steps.{Step, changed, sent, delivered, missing, step_refusal, IsAccepted, after, IsStep, send_refusal, IsSending, IsDeliveryFault}}, proofs.{Accepted.{at_site, refused_by, delivery_refusal}, Merges.delivery_agrees, Sendings.send_free, Whole.coherent_after, Sites.{IsHeldAt, held_is, held_there, take_refusal_at, join_is_joined, world_set, sites_set}}}
 
 -- what a replica answers to a call that one thing refuses, what it becomes, and the same as the world's answer
-pub record IsAnswer {T : Type 0} (one : Held) (refusal : Option ReplicaFault) (accepted : T → Accepted) (answer : Result T ReplicaFault) (new : Held) (result : Result T WorldFault) : Type 0 where
+pub record IsAnswer {T : Type 0} (one : Held) (refusal : Option ReplicaFault) (accepted : T → Accepted) (Given : T → Type 0) (answer : Result T ReplicaFault) (new : Held) (result : Result T WorldFault) : Type 0 where
   pub free : OnOk answer (refusal ≡ None)
   pub leaves : IfOk answer (λ x. Leaves one (accepted x) new)
+  pub given : IfOk answer Given
   pub fault : IfErr answer (λ fault. fault ≡ unwrap_or refusal replica_fault.Memory)
   pub kept : OnErr answer (new ≡ one)
   pub same : MatchResult answer (λ x. result ≡ Ok x) (λ fault. IsErrAnd result (λ made. made ≡ of_replica_fault fault))
@@ -21,6 +20,27 @@ pub record IsTaken {T : Type 0} (world : World) (source : PlanSource) (replicas 
   pub sound : IsSoundWorld source replicas packets
   pub step : IsStep world call result (world_of source replicas packets)
   pub given : IfOk result Given
+
+-- the state that a call leaves
+content_left : (old : Held) (call : Accepted) (new : Content) → LeavesState old call new → new ≡ content_after old.state call
+content_left old (added id one) new left = left.1
+content_left old (amended id replaced bound) new left = left.1
+content_left old (withdrew id) new left = left
+content_left old (took other) new left = join_is_joined old.state other new left
+
+-- a change is refused alike, whatever work was done
+refused_idle : (one : Held) (steps : ℕ) (asked : Change) → change_refusal (record one { steps = steps }) asked ≡ change_refusal one asked
+refused_idle one steps (Add bound) = refl
+refused_idle one steps (Amend old bound) = refl
+refused_idle one steps (Withdraw id) = refl
+refused_idle one steps (Done event time) = refl
+
+-- the call that a change is under the id that it gives
+call_given : (asked : Change) (id next : SiteCounter) → id ≡ change_id asked next → change_call asked id ≡ change_call asked next
+call_given (Add bound) id next is = ap (λ (i : SiteCounter). added i (plain bound)) is
+call_given (Amend old bound) id next is = ap (λ (i : SiteCounter). amended i old bound) is
+call_given (Withdraw old) id next is = refl
+call_given (Done event time) id next is = ap (λ (i : SiteCounter). added i (executed time event)) is
 
 -- a replica stands at the place of a site of a sound world
 pub record IsPlaced (world : World) (source : PlanSource) (replicas : List Held) (packets : List Content) (place site : ℕ) (one : Held) : Type 0 where
@@ -44,22 +64,28 @@ module _ {world : World} {source : PlanSource} {replicas : List Held} {packets :
   pub world_stayed : (new : Held) → new ≡ one → world_of source (set replicas place new) packets ≡ world
   world_stayed new same = ap (λ (l : List Held). world_of source l packets) (set_stayed new same) ∙ placed.is
 
+  -- ---- what an accepted call leaves
+  call_there : (new : Held) (call : Accepted) → Leaves one call new → world_of source (set replicas place new) packets ≡ with_call world site call
+  call_there new call left =
+      world_set world source replicas place site new (content_after (content_at world site) call) (sym placed.is) placed.at
+      (content_left one call new.state left.state ∙ ap (λ (c : Content). content_after c call) held.state)
+
   -- ---- a call that is refused as the step is, and leaves what the step leaves
   step_taken : {T : Type 0} (step : Step) (Given : T → Type 0) (refusal : Option ReplicaFault) (accepted : T → Accepted) → step_refusal world step ≡ option_map of_replica_fault refusal
-      → ((x : T) (new : Held) → Leaves one (accepted x) new → Given x × (world_of source (set replicas place new) packets ≡ after world step))
-      → (answer : Result T ReplicaFault) (new : Held) (result : Result T WorldFault) → IsAnswer one refusal accepted answer new result
+      → ((x : T) → Given x → with_call world site (accepted x) ≡ after world step)
+      → (answer : Result T ReplicaFault) (new : Held) (result : Result T WorldFault) → IsAnswer one refusal accepted Given answer new result
       → IsTaken world source (set replicas place new) packets step Given result
   step_taken step Given refusal accepted refused made (Ok x) new result is =
       let free = refused ∙ ap (option_map of_replica_fault) is.free in
-      let left = made x new is.leaves in
+      let left : world_of source (set replicas place new) packets ≡ after world step = call_there new (accepted x) is.leaves ∙ made x is.given in
       rw is.same (record {
         sound = record {
           sites = sites_set source replicas place new one placed.sound.sites (is.leaves.site ∙ ap (λ (r : Held). r.site) placed.same) (is.leaves.source ∙ ap (λ (r : Held). r.source) placed.same);
           few = placed.sound.few;
-          coherent = subst IsCoherent (sym left.1) (coherent_after world step free (subst IsCoherent placed.is placed.sound.coherent));
+          coherent = subst IsCoherent (sym left) (coherent_after world step free (subst IsCoherent placed.is placed.sound.coherent));
         };
-        step = (free, left.1);
-        given = left.0;
+        step = (free, left);
+        given = is.given;
       })
   step_taken step Given refusal accepted refused made (Err fault) new result is =
       let p = err_from_is_err_and result is.same in
@@ -70,59 +96,25 @@ module _ {world : World} {source : PlanSource} {replicas : List Held} {packets :
       })
 
   -- ---- each call
-  made_there : (new : Held) (id : SiteCounter) (r : Record) → Leaves one (call.added id r) new → (id ≡ next_id_at world site) × (world_of source (set replicas place new) packets ≡ make world site r)
-  made_there new id r left =
-      let next = left.state.0 ∙ next_id_at-held world site one held in (
-        next,
-        world_set world source replicas place site new (with_record (content_at world site) (next_id_at world site) r) (sym placed.is) placed.at
-            (left.state.1 ∙ ap (λ (c : Content). with_record c id r) held.state ∙ ap (λ (i : SiteCounter). with_record (content_at world site) i r) next),
-      )
-
-  pub add_taken : (bound : Difference) (answer : Result SiteCounter ReplicaFault) (new : Held) (result : Result SiteCounter WorldFault)
-      → IsAnswer one (add_refusal one bound) (λ id. call.added id (plain bound)) answer new result
-      → IsTaken world source (set replicas place new) packets (added site bound) (λ id. id ≡ next_id_at world site) result
-  add_taken bound =
-      step_taken (added site bound) (λ id. id ≡ next_id_at world site) (add_refusal one bound) (λ id. call.added id (plain bound)) (refused_as (add_refusal one bound) _ (ap (λ (h : Held). add_refusal h bound) (held_is world site one held))) (λ id new left. made_there new id (plain bound) left)
-
-  pub done_taken : (event : ℕ) (time : ℤ) (answer : Result SiteCounter ReplicaFault) (new : Held) (result : Result SiteCounter WorldFault)
-      → IsAnswer one (done_refusal one event) (λ id. call.added id (executed time event)) answer new result
-      → IsTaken world source (set replicas place new) packets (finished site event time) (λ id. id ≡ next_id_at world site) result
-  done_taken event time =
-      step_taken (finished site event time) (λ id. id ≡ next_id_at world site) (done_refusal one event) (λ id. call.added id (executed time event)) (refused_as (done_refusal one event) _ (ap (λ (h : Held). done_refusal h event) (held_is world site one held)))
-      (λ id new left. made_there new id (executed time event) left)
-
-  pub amend_taken : (old : SiteCounter) (bound : Difference) (answer : Result SiteCounter ReplicaFault) (new : Held) (result : Result SiteCounter WorldFault)
-      → IsAnswer one (amend_refusal one old bound) (λ id. call.amended id old bound) answer new result
-      → IsTaken world source (set replicas place new) packets (amended site old bound) (λ id. id ≡ next_id_at world site) result
-  amend_taken old bound =
-      step_taken (amended site old bound) (λ id. id ≡ next_id_at world site) (amend_refusal one old bound) (λ id. call.amended id old bound) (refused_as (amend_refusal one old bound) _ (ap (λ (h : Held). amend_refusal h old bound) (held_is world site one held)))
-      (λ id new left. let next = left.state.0 ∙ next_id_at-held world site one held in (
-        next,
-        world_set world source replicas place site new (with_amendment (content_at world site) (next_id_at world site) old bound) (sym placed.is) placed.at
-            (left.state.1 ∙ ap (λ (c : Content). with_amendment c id old bound) held.state ∙ ap (λ (i : SiteCounter). with_amendment (content_at world site) i old bound) next),
-      ))
-
-  pub withdraw_taken : {T : Type 0} (id : SiteCounter) (answer : Result T ReplicaFault) (new : Held) (result : Result T WorldFault) → IsAnswer one (withdraw_refusal one id) (λ _. call.withdrew id) answer new result
-      → IsTaken world source (set replicas place new) packets (withdrew site id) (λ _. ⊤) result
-  withdraw_taken id =
-      step_taken (withdrew site id) (λ _. ⊤) (withdraw_refusal one id) (λ _. call.withdrew id) (refused_as (withdraw_refusal one id) _ (ap (λ (h : Held). withdraw_refusal h id) (held_is world site one held)))
-      (λ _ new left. (tt, world_set world source replicas place site new (with_tombstone (content_at world site) id) (sym placed.is) placed.at (left.state ∙ ap (λ (c : Content). with_tombstone c id) held.state)))
+  pub change_taken : (asked : Change) (answer : Result SiteCounter ReplicaFault) (new : Held) (result : Result SiteCounter WorldFault)
+      → IsAnswer one (change_refusal one asked) (change_call asked) (λ id. id ≡ change_id asked (next_id_at world site)) answer new result
+      → IsTaken world source (set replicas place new) packets (changed site asked) (λ id. id ≡ change_id asked (next_id_at world site)) result
+  change_taken asked =
+      step_taken (changed site asked) (λ id. id ≡ change_id asked (next_id_at world site)) (change_refusal one asked) (change_call asked)
+      (refused_as (change_refusal one asked) _ (ap (λ (h : Held). change_refusal h asked) (held_is world site one held) ∙ refused_idle (held_at world site) one.steps asked))
+      (λ id given. ap (with_call world site) (call_given asked id (next_id_at world site) given))
 
   module _ (number : ℕ) (theirs : Content) (there : HasPacket world number) (holds : theirs ≡ packet_at world number) where
     refusal_there : take_refusal one theirs ≡ take_refusal (held_at world site) (packet_at world number)
     refusal_there = take_refusal_at world site one theirs (packet_at world number) held holds
 
-    pub deliver_taken : {T : Type 0} (answer : Result T ReplicaFault) (new : Held) (result : Result T WorldFault) → IsAnswer one (take_refusal one theirs) (λ _. call.took theirs) answer new result
+    pub deliver_taken : {T : Type 0} (answer : Result T ReplicaFault) (new : Held) (result : Result T WorldFault) → IsAnswer one (take_refusal one theirs) (λ _. took theirs) (λ _. ⊤) answer new result
         → IsTaken world source (set replicas place new) packets (delivered site number) (λ _. ⊤) result
     deliver_taken =
-        step_taken (delivered site number) (λ _. ⊤) (take_refusal one theirs) (λ _. call.took theirs) (delivery_refusal world site number placed.there there ∙ ap (option_map of_replica_fault) (sym refusal_there))
-        (λ _ new left. (
-          tt,
-          world_set world source replicas place site new (joined_contents (content_at world site) (packet_at world number)) (sym placed.is) placed.at
-              (join_is_joined one.state theirs new.state left.state ∙ ap (λ (c : Content). joined_contents c theirs) held.state ∙ ap (joined_contents (content_at world site)) holds),
-        ))
+        step_taken (delivered site number) (λ _. ⊤) (take_refusal one theirs) (λ _. took theirs) (delivery_refusal world site number placed.there there ∙ ap (option_map of_replica_fault) (sym refusal_there))
+        (λ _ _. ap (λ (c : Content). with_call world site (took c)) holds)
 
-    pub deliver_agreed : {T : Type 0} (answer : Result T ReplicaFault) (new : Held) (result : Result T WorldFault) → IsAnswer one (take_refusal one theirs) (λ _. call.took theirs) answer new result
+    pub deliver_agreed : {T : Type 0} (answer : Result T ReplicaFault) (new : Held) (result : Result T WorldFault) → IsAnswer one (take_refusal one theirs) (λ _. took theirs) (λ _. ⊤) answer new result
         → IfErr result IsDeliveryFault
     deliver_agreed (Ok x) new result is = rw is.same tt
     deliver_agreed (Err fault) new result is =

@@ -1,9 +1,9 @@
 -- The law over all runs of a world.
-use Rattle.std.{proofs.{Common.{◌≡◌, inr, ⊎_elim, ℕ, ◌≤◌, Bool, true, false, not, ◌&&◌, ltb, None, List, refl, ap, subst, ◌∙◌, arith}, lemmas.Bool.{cases_eq, Decides.nat_tests}}, specs.{Prelude.option_map, Bool.then_some, List.Contains}}
+use Rattle.std.{proofs.{Common.{◌≡◌, inr, ⊎_elim, ℕ, ◌≤◌, Bool, true, false, not, ◌&&◌, ltb, None, List, refl, ap, ◌∙◌, arith}, lemmas.Bool.{cases_eq, Decides.nat_tests}}, specs.{Prelude.option_map, Bool.then_some, List.Contains}}
 use Rattle.std.specs.FinMap as fin
 use Rattle.stn_records.specs.{Id.SiteCounter, Content.{most_known, Content, Item, HasItem, is_known, is_replaced, is_live, known_in_either, dispute_contents, IsPart}}
-use Rattle.stn_site.{specs.{declared.faults.ReplicaFault.TheVariants.Full, Calls.Replaces, Refusals.take_refusal}, proofs.Refused.agreed_take}
-use Rattle.stn_world.{specs.{Faults.of_replica_fault, World.{World, HasSite, HasPacket, content_at, packet_at, held_at}, Whole.IsCoherent, Runs.{Making, records_made, states_of}, Steps.{Step, added, finished, amended, withdrew, merged, sent, delivered, IsAccepted, stepped, run, Brings}}, proofs.{Accepted.{accepted_addition, accepted_execution, accepted_amendment, accepted_withdrawal, accepted_merge, accepted_delivery, merge_itself, merge_free, delivery_refusal}, Whole.{parts_agree, part_named, held_record, items_known}, Alike.{replaces_more, replaced_by}, Runs.{this_step, coherent_stepped, grows_run}, Entries.each_state, Lawful.{IsLawful, known_made}}}
+use Rattle.stn_site.specs.{declared.faults.ReplicaFault.TheVariants.Full, Calls.Replaces, Refusals.take_refusal}
+use Rattle.stn_world.{specs.{Faults.of_replica_fault, World.{World, HasSite, HasPacket, content_at, packet_at, held_at}, Whole.IsCoherent, Runs.{Making, records_made, states_of}, Steps.{Step, merged, delivered, IsAccepted, stepped, run, Brings}}, proofs.{Accepted.{accepted_merge, accepted_delivery, merge_itself, merge_free, delivery_refusal}, Merges.take_agrees, Whole.{parts_agree, held_record, items_known}, Alike.{replaces_more, replaced_by}, Runs.{brings_there, this_step, coherent_stepped, grows_run}, Entries.each_state, Lawful.{IsLawful, known_made}}}
 
 module _ (world : World) (items : List Making) (now : IsLawful world items) where
   coherent : IsCoherent world
@@ -17,7 +17,7 @@ module _ (world : World) (items : List Making) (now : IsLawful world items) wher
   has_room : (site : ℕ) (other : Content) → records_made items ≤ most_known → IsPart other now.all → take_refusal (held_at world site) other ≡ None
   has_room site other few inside =
       let known = known_made world items now (content_at world site) other (now.whole.sites site) inside in
-      agreed_take (held_at world site) other (part_named world now.all other now.whole inside) (parts_agree (content_at world site) other now.all (now.whole.sites site) inside)
+      take_agrees world now.all now.whole site other inside
       ∙ ap (λ b. then_some b Full) (not_full most_known (known_in_either (content_at world site) other) (omega (arith, known, few)))
 
   pub delivery_accepted : records_made items ≤ most_known → (site number : ℕ) → HasSite world site → HasPacket world number → IsAccepted world (delivered site number)
@@ -43,16 +43,6 @@ module _ (world : World) (items : List Making) (now : IsLawful world items) wher
   merge_stays site other accepted rest item h = taken_stays (merged site other) site item accepted (accepted_merge world site other accepted).0 (refl, h) rest
 
   -- ---- withdrawals
-  -- a step brings items to sites that are there
-  brings_there : (step : Step) (site : ℕ) (item : Item) → IsAccepted world step → Brings world step site item → HasSite world site
-  brings_there (added at bound) site item accepted brings = subst (HasSite world) brings.0 (accepted_addition world at bound accepted).0
-  brings_there (finished at event time) site item accepted brings = subst (HasSite world) brings.0 (accepted_execution world at event time accepted).0
-  brings_there (amended at old bound) site item accepted brings = subst (HasSite world) brings.0 (accepted_amendment world at old bound accepted).0
-  brings_there (withdrew at id) site item accepted brings = subst (HasSite world) brings.0 (accepted_withdrawal world at id accepted).0
-  brings_there (merged at other) site item accepted brings = subst (HasSite world) brings.0 (accepted_merge world at other accepted).0
-  brings_there (sent at part) site item accepted brings = absurd brings
-  brings_there (delivered at number) site item accepted brings = subst (HasSite world) brings.0 (accepted_delivery world at number accepted).0
-
   and_false : (a : Bool) → (a && false) ≡ false
   and_false true = refl
   and_false false = refl
@@ -65,7 +55,7 @@ module _ (world : World) (items : List Making) (now : IsLawful world items) wher
   withdrawn_stays step site id accepted replaces rest =
       let after = content_at (run (stepped world step) rest) site in
       never_live after id (replaced_by after id (replaces_more (Brings world step site) (HasItem after) id
-      (λ item brings. taken_stays step site item accepted (brings_there step site item accepted brings) brings rest) replaces))
+      (λ item brings. taken_stays step site item accepted (brings_there world step site item accepted brings) brings rest) replaces))
 
   -- ---- the states agree
   state_part : (one : Content) → Contains (states_of world) one → IsPart one now.all

@@ -6,31 +6,31 @@ use Rattle.stn_records.specs.{Id.SiteCounter, Content.{with_record, plain}}
 use Rattle.stn_site.specs.{Bounds.{live_bounds, all_bounds}, Held.{Held, next_id}, Calls.{AllLeave, added as added_call}}
 use Rattle.stn_replica.proofs.Opening.{horizon_within}
 use Rattle.stn_guard.{specs.{declared.owners.OwnedSteps.OwnedSteps, Guard.Guards, Adding.{owner_by, AddsGuard}}, proofs.{Made.made_guard, Put.added_guards}}
-use Rattle.stn_world.{specs.{World.{World, HasSite, content_at, held_at, next_id_at, make}, Steps.{Step, added, stepped, run}, Whole.IsCoherent, Guarded.{AllAccepted, HoldsAlone, HoldsGuarded}}, proofs.Whole.{content_here, site_bounds}}
+use Rattle.stn_world.{specs.{World.{World, HasSite, content_at, held_at, next_id_at, with_call}, Steps.{Step, stepped, run}, Whole.IsCoherent, Guarded.{adds_bound, AllAccepted, HoldsAlone, HoldsGuarded}}, proofs.Whole.{content_here, site_bounds}}
 
 -- records that a site adds, one after the other
 each_added : (records : List (SiteCounter × Difference)) (world : World) (site : ℕ) (old new : Held) → HasSite world site → old.site ≡ site → old.state ≡ content_at world site
     → AllLeave old (map (λ (one : SiteCounter × Difference). added_call one.0 (plain one.1)) records) new
-    → AllAccepted world (map (added site) (map (λ (one : SiteCounter × Difference). one.1) records))
-    → content_at (run world (map (added site) (map (λ (one : SiteCounter × Difference). one.1) records))) site ≡ new.state
+    → AllAccepted world (map (adds_bound site) (map (λ (one : SiteCounter × Difference). one.1) records))
+    → content_at (run world (map (adds_bound site) (map (λ (one : SiteCounter × Difference). one.1) records))) site ≡ new.state
 each_added [] world site old new there own same leave accepted = sym same ∙ ap (λ (held : Held). held.state) (sym leave)
 each_added (one ∷ records) world site old new there own same (next, leaves, later) accepted =
-    let made : World = make world site (plain one.1) in
-    let step : Step = added site one.1 in
+    let made : World = with_call world site (added_call (next_id_at world site) (plain one.1)) in
+    let step : Step = adds_bound site one.1 in
     let taken : stepped world step ≡ made = rw accepted.0 refl in
     let stays : HasSite made site = record { least = there.least; most = subst (λ (n : ℕ). site ≤ n) (sym (length-set world.sites (site - 1) (with_record (content_at world site) (next_id_at world site) (plain one.1)))) there.most } in
     let id : next_id old ≡ next_id_at world site = (λ i. next_id (record old { site = own i; state = same i })) in
     let state : next.state ≡ content_at made site =
     leaves.state.1 ∙ (λ i. with_record (same i) ((leaves.state.0 ∙ id) i) (plain one.1)) ∙ sym (content_here world site (with_record (content_at world site) (next_id_at world site) (plain one.1)) there) in
-    ap (λ (now : World). content_at (run now (map (added site) (map (λ (one : SiteCounter × Difference). one.1) records))) site) taken
+    ap (λ (now : World). content_at (run now (map (adds_bound site) (map (λ (one : SiteCounter × Difference). one.1) records))) site) taken
     ∙ each_added records made site next new stays (leaves.site ∙ own) state later accepted.1
 
 pub guard_steps : (world : World) (site : ℕ) → HasSite world site → (owned : List OwnedSteps) (ids : List SiteCounter) (new : Held) → (adds : AddsGuard owned (held_at world site) ids new)
-    → AllAccepted world (map (added site) adds.guard) → content_at (run world (map (added site) adds.guard)) site ≡ new.state
+    → AllAccepted world (map (adds_bound site) adds.guard) → content_at (run world (map (adds_bound site) adds.guard)) site ≡ new.state
 guard_steps world site there owned ids new adds accepted =
     let are = adds.adds.bounds_are in
-    ap (λ (guard : List Difference). content_at (run world (map (added site) guard)) site) are
-    ∙ each_added adds.adds.records world site (held_at world site) new there refl refl adds.adds.leave (subst (λ (guard : List Difference). AllAccepted world (map (added site) guard)) are accepted)
+    ap (λ (guard : List Difference). content_at (run world (map (adds_bound site) guard)) site) are
+    ∙ each_added adds.adds.records world site (held_at world site) new there refl refl adds.adds.leave (subst (λ (guard : List Difference). AllAccepted world (map (adds_bound site) guard)) are accepted)
 
 -- all bounds of a site begin with the horizon bounds
 begins : (source : PlanSource) (live : List Difference) → IsSoundSource source → take (events_of source) (base_bounds source ++ live) ≡ horizon_bounds (events_of source)

@@ -3,11 +3,11 @@ use Rattle.std.{proofs.{Common.{◌≡◌, inl, inr, ⊎_elim, ℕ, ℤ, ◌+◌
 use Rattle.stn_time.proofs.Each.{All-left, All-right}
 use Rattle.stn_net.specs.{Difference.Difference, Schedule.{HasSchedule, Meets}, Windows.Rehearsal.fixed_at}
 use Rattle.stn_lift.specs.PlanSource.{base_bounds}
-use Rattle.stn_records.{specs.{Id.SiteCounter, declared.record.Record.Record, ContentLaws.contents_join, Content.{Content, Item, addition, withdrawal, replacement, HasItem, IsPart, is_replaced, is_live, plain, with_record, joined_contents}}, proofs.{Counters.next_is_new, Replaced.{replaced_cases, replaced_by_withdrawal, replaced_by_entry, replaced_fewer}}}
-use Rattle.stn_site.{specs.{Bounds.{live_bounds, all_bounds}, Held.executed}, proofs.Items.addition_items}
+use Rattle.stn_records.{specs.{Id.SiteCounter, declared.record.Record.Record, Content.{Content, Item, addition, withdrawal, replacement, HasItem, IsPart, is_replaced, is_live, plain, with_record, joined_contents}}, proofs.{Counters.next_is_new, Replaced.{replaced_cases, replaced_by_withdrawal, replaced_by_entry, replaced_fewer}}}
+use Rattle.stn_site.{specs.{Bounds.{live_bounds, all_bounds}, Held.executed, Calls.added, declared.change.Change.TheVariants.{Add, Amend, Withdraw, Done}}, proofs.Items.addition_items}
 use Rattle.stn_replica.proofs.Live.{live_from_bounds, bounds_from_live, All-passing, All-filter_passing}
 use Rattle.stn_guard.{specs.Owners.{is_owned, own_bounds}, proofs.{Owned.all_of_pieces, Gluing.glue}}
-use Rattle.stn_world.{specs.{World.{World, HasSite, has_site, content_at, packet_at, next_id_at, with_content, make, send}, Steps.{Step, added, finished, amended, withdrew, merged, sent, delivered, IsAccepted, after, stepped, run}, Whole.IsCoherent, Guarded.{IsOwnItem, IsBesideOwn, HoldsGuarded, KeepsToOwn}}, proofs.{Accepted.{site_decides, accepted_addition, accepted_execution, accepted_sending}, Parts.sent_inside, Runs.{for_step, coherent_stepped}, Whole.{each_site, each_packet, kept, sites_join, packet_joins}}}
+use Rattle.stn_world.{specs.{World.{World, HasSite, has_site, content_at, packet_at, next_id_at, with_content, with_call, send}, Steps.{Step, changed, merged, sent, delivered, IsAccepted, after, stepped, run}, Whole.IsCoherent, Guarded.{IsOwnItem, IsBesideOwn, HoldsGuarded, KeepsToOwn}}, proofs.{Accepted.{site_decides, accepted_change, accepted_sending}, Parts.sent_inside, Runs.{for_step, coherent_stepped}, Whole.{each_site, each_packet, kept, taken_items}}}
 
 own_execution : (owner : ℕ → ℕ) (site event : ℕ) (time : ℤ) → owner event ≡ site → is_owned owner site (fixed_at time event) ≡ true
 own_execution owner site event time own =
@@ -44,7 +44,7 @@ module _ (owner : ℕ → ℕ) (state : Content) where
         before : (site : ℕ) → HasSite next site → HasSite world site
         before site there = record { least = there.least; most = subst (λ (n : ℕ). site ≤ n) (length-set world.sites (at - 1) content) there.most }
 
-    made_guarded : (at : ℕ) (one : Record) → HasSite world at → is_owned owner at one.bound ≡ true → HoldsGuarded owner state (make world at one)
+    made_guarded : (at : ℕ) (one : Record) → HasSite world at → is_owned owner at one.bound ≡ true → HoldsGuarded owner state (with_call world at (added (next_id_at world at) one))
     made_guarded at one there own =
         let content = content_at world at in
         let id = next_id_at world at in
@@ -53,13 +53,13 @@ module _ (owner : ℕ → ℕ) (state : Content) where
         (λ item h. ⊎_elim (holds.sites at item) (λ is. inr (subst (IsOwnItem owner world) (sym is) (there, own))) ((items item).0 h))
 
     after_guarded : IsCoherent world → (step : Step) → IsAccepted world step → KeepsToOwn owner step → HoldsGuarded owner state (after world step)
-    after_guarded coherent (added site bound) accepted own = made_guarded site (plain bound) (accepted_addition world site bound accepted).0 own
-    after_guarded coherent (finished site event time) accepted own =
-        made_guarded site (executed time event) (accepted_execution world site event time accepted).0 (own_execution owner site event time own)
-    after_guarded coherent (amended site old bound) accepted own = absurd own
-    after_guarded coherent (withdrew site id) accepted own = absurd own
+    after_guarded coherent (changed site (Add bound)) accepted own = made_guarded site (plain bound) (accepted_change world site (Add bound) accepted).0 own
+    after_guarded coherent (changed site (Amend old bound)) accepted own = absurd own
+    after_guarded coherent (changed site (Withdraw id)) accepted own = absurd own
+    after_guarded coherent (changed site (Done event time)) accepted own =
+        made_guarded site (executed time event) (accepted_change world site (Done event time) accepted).0 (own_execution owner site event time own)
     after_guarded coherent (merged site other) accepted own =
-        let union = contents_join.union (content_at world site) (content_at world other) (joined_contents (content_at world site) (content_at world other)) (sites_join world coherent site other) in
+        let union = taken_items world coherent.0 coherent.1 site (content_at world other) (coherent.1.sites other) in
         set_guarded site (joined_contents (content_at world site) (content_at world other)) (λ item h. (union item).1 (inl h))
         (λ item h. ⊎_elim (holds.sites site item) (holds.sites other item) ((union item).0 h))
     after_guarded coherent (sent site part) accepted own =
@@ -73,7 +73,7 @@ module _ (owner : ℕ → ℕ) (state : Content) where
               (beside_after world next stays part (λ item h. holds.sites site item (inside item h))) (beside_after world next stays (packet_at world number) (holds.packets number));
         }
     after_guarded coherent (delivered site number) accepted own =
-        let union = contents_join.union (content_at world site) (packet_at world number) (joined_contents (content_at world site) (packet_at world number)) (packet_joins world coherent site number) in
+        let union = taken_items world coherent.0 coherent.1 site (packet_at world number) (coherent.1.packets number) in
         set_guarded site (joined_contents (content_at world site) (packet_at world number)) (λ item h. (union item).1 (inl h))
         (λ item h. ⊎_elim (holds.sites site item) (holds.packets number item) ((union item).0 h))
 

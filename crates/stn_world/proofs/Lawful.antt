@@ -1,10 +1,9 @@
 -- What is true of a world in its run: its sites and packets are parts of the whole of what was made.
-use Rattle.std.{proofs.{Common.{◌≡◌, ◌⊎◌, inl, inr, ⊎_elim, ℕ, zero, suc, ◌≤◌, ◌||◌, true, cond, is_some, Option, Some, None, List, [], ◌∷◌, ◌++◌, length, filter, is_eq, refl, ap, sym, subst, ◌∙◌, arith}, lemmas.{List.{append-nil, append_assoc, Folds.list_any-append, Elements.{Contains-append_left, Contains-append_right, Contains-append_cases}}, Map.Made.distinct_count-le, Bool.{or_right, or_cases}}}, specs.{List.Contains, Set.is_member, Cmp.tied_itself}}
-use Rattle.stn_net.specs.Difference.{Difference, IsBoundWithin}
-use Rattle.stn_lift.specs.PlanSource.{PlanSource, events_of}
-use Rattle.stn_records.{specs.{Id.{SiteCounter, same_ids}, declared.record.Record.Record, ContentLaws.{ids_total, contents_join, contents_undisputed}, Content.{Content, Item, addition, withdrawal, replacement, HasItem, AllAmend, is_known, known_ids, known_in_either, no_content, plain, with_record, with_amendment, with_tombstone, joined_contents, IsPart}}, proofs.{KnownIds.{fewer, known_member}, Counters.next_is_new}}
-use Rattle.stn_site.{specs.Held.executed, proofs.{Items.{addition_items, amendment_items, withdrawal_brought, nothing_there}, Refused.{accepted_known, amended_known}}}
-use Rattle.stn_world.{specs.{declared.faults.WorldFault.WorldFault, Whole.IsWhole, Runs.{Making, WasMade, makings, made_in, made_in_run, is_addition, records_made, IsRecordOf}, World.{World, HasSite, opening_world, content_at, packet_at, held_at, next_id_at, with_content, make, amend, withdraw, send}, Steps.{Step, added, finished, amended, withdrew, merged, sent, delivered, step_refusal, IsAccepted, after, stepped, run}}, proofs.{Parts.{sent_inside, sent_amends}, Accepted.{accepted_addition, accepted_execution, accepted_amendment, accepted_withdrawal, accepted_sending}, Bounds.{accepted_bound, executed_bound, amended_bound}, Whole.{kept, held_record, next_unknown, content_here, amended_items, added_whole, amended_whole, withdrawn_whole, parts_agree, joined_whole, sent_whole, whole_at_first}}}
+use Rattle.std.{proofs.{Common.{◌≡◌, ◌↔◌, ◌⊎◌, inl, inr, ⊎_elim, ℕ, zero, suc, ◌≤◌, ◌||◌, true, cond, is_some, Option, Some, None, List, [], ◌∷◌, ◌++◌, length, map, filter, is_eq, refl, ap, sym, subst, ◌∙◌, arith}, lemmas.{List.{append-nil, append_assoc, Folds.list_any-append, Elements.{Contains-append_left, Contains-append_right, Contains-append_cases, Contains-push_cases}}, Map.Made.distinct_count-le, Bool.{or_right, or_cases}}}, specs.{List.Contains, Set.is_member, Cmp.tied_itself}}
+use Rattle.stn_lift.specs.PlanSource.{PlanSource}
+use Rattle.stn_records.{specs.{Id.{SiteCounter, same_ids}, declared.record.Record.Record, ContentLaws.ids_total, Content.{Content, Item, addition, withdrawal, replacement, HasItem, known_ids, known_in_either, no_content, plain, IsPart}}, proofs.KnownIds.{fewer, known_member}}
+use Rattle.stn_site.{specs.{Held.executed, Calls.Brought, Change.change_call, declared.change.Change.{Change, TheVariants.{Add, Amend, Withdraw, Done}}}, proofs.Items.nothing_there}
+use Rattle.stn_world.{specs.{declared.faults.WorldFault.WorldFault, Whole.{IsWhole, IsCoherent}, Runs.{Making, WasMade, change_items, makings, made_in, made_in_run, is_addition, records_made}, World.{World, opening_world, content_at, next_id_at}, Steps.{Step, changed, merged, sent, delivered, step_refusal, IsAccepted, after, stepped, run, Brings}}, proofs.{Runs.{one_step, brings_there}, Whole.{held_record, next_unknown, change_items_of, whole_after, step_whole, grows_after, whole_at_first}}}
 
 -- each item of the whole was made, and each item that was made is held by its site
 pub record IsLawful (world : World) (items : List Making) : Type 0 where
@@ -15,8 +14,7 @@ pub record IsLawful (world : World) (items : List Making) : Type 0 where
 
 -- ---- makings of one site
 abbrev made_at : ℕ → List Item → List Making
-made_at site [] = []
-made_at site (item ∷ rest) = record { site = site; item = item } ∷ made_at site rest
+made_at site items = map (λ item. record { site = site; item = item }) items
 
 made_there : (site : ℕ) (new : List Item) (item : Item) → Contains new item → Contains (made_at site new) (record { site = site; item = item })
 made_there site [] item (k, lt, e) = absurd (omega (arith, lt))
@@ -28,105 +26,61 @@ made_of site [] one (k, lt, e) = absurd (omega (arith, lt))
 made_of site (x ∷ rest) one (zero, lt, e) = (sym (ap (λ (m : Making). m.site) e), (zero, omega arith, ap (λ (m : Making). m.item) e))
 made_of site (x ∷ rest) one (suc k, lt, e) = let later = made_of site rest one (k, omega arith, e) in (later.0, (suc later.1.0, let at = later.1.1 in omega arith, later.1.2))
 
-one_contained : (x item : Item) → Contains (x ∷ []) item → x ≡ item
-one_contained x item (zero, lt, e) = e
-one_contained x item (suc k, lt, e) = absurd (omega (arith, lt))
+nothing : {X : Type 0} (x : X) → ¬ Contains [] x
+nothing x h = let lt = h.1 in omega (arith, lt)
 
-one_more : {P : Type 0} (x item : Item) → P ⊎ (item ≡ x) → P ⊎ Contains (x ∷ []) item
-one_more x item h = ⊎_elim inl (λ e. inr (zero, omega arith, sym e)) h
+one_item : (x item : Item) → Contains (x ∷ []) item ↔ (item ≡ x)
+one_item x item = (λ h. ⊎_elim (λ none. absurd (nothing item none)) (λ e. sym e) (Contains-push_cases [] x item h), λ e. (zero, omega arith, sym e))
 
-both_contained : (x y item : Item) → Contains (x ∷ (y ∷ [])) item → (item ≡ x) ⊎ (item ≡ y)
-both_contained x y item (zero, lt, e) = inl (sym e)
-both_contained x y item (suc zero, lt, e) = inr (sym e)
-both_contained x y item (suc (suc k), lt, e) = absurd (omega (arith, lt))
+both_items : (x y item : Item) → Contains (x ∷ (y ∷ [])) item ↔ ((item ≡ x) ⊎ (item ≡ y))
+both_items x y item = (
+  λ h. ⊎_elim (λ first. inl ((one_item x item).0 first)) (λ e. inr (sym e)) (Contains-push_cases (x ∷ []) y item h),
+  λ h. ⊎_elim (λ e. (zero, omega arith, sym e)) (λ e. (suc zero, omega arith, sym e)) h,
+)
 
-both_contain : (x y item : Item) → (item ≡ x) ⊎ (item ≡ y) → Contains (x ∷ (y ∷ [])) item
-both_contain x y item h = ⊎_elim (λ e. (zero, omega arith, sym e)) (λ e. (suc zero, omega arith, sym e)) h
+-- the items that a change makes are those that it brings
+items_brought : (asked : Change) (id : SiteCounter) (item : Item) → Contains (change_items asked id) item ↔ Brought (change_call asked id) item
+items_brought (Add bound) id = one_item (addition id (plain bound))
+items_brought (Amend old bound) id = both_items (addition id (plain bound)) (replacement id old)
+items_brought (Withdraw old) id = one_item (withdrawal old)
+items_brought (Done event time) id = one_item (addition id (executed time event))
 
 -- ---- what each step keeps
 module _ (world : World) (items : List Making) (now : IsLawful world items) where
-  -- a site's content grows by items that it makes
-  grown_lawful : (site : ℕ) (content all : Content) (new : List Item) → HasSite world site → IsWhole (with_content world site content) all
-      → ((item : Item) → HasItem all item → HasItem now.all item ⊎ Contains new item) → IsPart (content_at world site) content → ((item : Item) → Contains new item → HasItem content item)
-      → IsLawful (with_content world site content) (items ++ made_at site new)
-  grown_lawful site content all new there whole news grows here = record {
-    all = all;
-    whole = whole;
-    made = λ item h. ⊎_elim
-        (λ old. let m = now.made item old in (m.0, Contains-append_left items (made_at site new) (record { site = m.0; item = item }) m.1))
-        (λ n. (site, Contains-append_right items (made_at site new) (record { site = site; item = item }) (made_there site new item n)))
-        (news item h);
-    held = λ one h. ⊎_elim
-        (λ old. kept world site content one.site one.item grows (now.held one old))
-        (λ n. let is = made_of site new one n in
-        subst (λ (k : ℕ). HasItem (content_at (with_content world site content) k) one.item) (sym is.0) (subst (λ (c : Content). HasItem c one.item) (sym (content_here world site content there)) (here one.item is.1)))
-        (Contains-append_cases items (made_at site new) one h);
-  }
+  -- what the whole has after a step was there, or was made in it
+  news : (step : Step) (item : Item) → HasItem (whole_after world step now.all) item → HasItem now.all item ⊎ WasMade (makings world step) item
+  news (changed site asked) item h = let id = next_id_at world site in ⊎_elim inl
+      (λ new. inr (site, made_there site (change_items asked id) item ((items_brought asked id item).1 new)))
+      ((change_items_of now.all asked id now.whole.amends (next_unknown world now.all site now.whole) item).0 h)
+  news (merged site other) item h = inl h
+  news (sent site part) item h = inl h
+  news (delivered site number) item h = inl h
 
-  make_lawful : (site : ℕ) (one : Record) → HasSite world site → IsRecordOf (events_of world.source) one
-      → IsLawful (make world site one) (items ++ record { site = site; item = addition (next_id_at world site) one } ∷ [])
-  make_lawful site one there fits =
-      let id = next_id_at world site in
-      let here = addition_items (content_at world site) id one (next_is_new (content_at world site) site id.counter refl) in
-      grown_lawful site (with_record (content_at world site) id one) (with_record now.all id one) (addition id one ∷ []) there
-      (added_whole world now.all site one now.whole there fits)
-      (λ other h. one_more (addition id one) other ((addition_items now.all id one (next_unknown world now.all site now.whole) other).0 h))
-      (λ other h. (here other).1 (inl h))
-      (λ other h. (here other).1 (inr (sym (one_contained (addition id one) other h))))
-
-  amend_lawful : (site : ℕ) (old : SiteCounter) (bound : Difference) → HasSite world site → is_known (content_at world site) old ≡ true → IsBoundWithin (events_of world.source) bound
-      → IsLawful (amend world site old bound)
-      (items ++ record { site = site; item = addition (next_id_at world site) (plain bound) } ∷ (record { site = site; item = replacement (next_id_at world site) old } ∷ []))
-  amend_lawful site old bound there known within =
-      let id = next_id_at world site in
-      let here = amended_items world (now.all, now.whole) site old bound in
-      grown_lawful site (with_amendment (content_at world site) id old bound) (with_amendment now.all id old bound) (addition id (plain bound) ∷ (replacement id old ∷ [])) there
-      (amended_whole world now.all site old bound now.whole there known within)
-      (λ other h. ⊎_elim inl (λ n. inr (both_contain (addition id (plain bound)) (replacement id old) other n)) ((amendment_items now.all id old bound now.whole.amends (next_unknown world now.all site now.whole) other).0 h))
-      (λ other h. (here other).1 (inl h))
-      (λ other h. (here other).1 (inr (both_contained (addition id (plain bound)) (replacement id old) other h)))
-
-  withdraw_lawful : (site : ℕ) (id : SiteCounter) → HasSite world site → is_known (content_at world site) id ≡ true
-      → IsLawful (withdraw world site id) (items ++ record { site = site; item = withdrawal id } ∷ [])
-  withdraw_lawful site id there known =
-      let here = withdrawal_brought (content_at world site) (with_tombstone (content_at world site) id) id refl in
-      grown_lawful site (with_tombstone (content_at world site) id) (with_tombstone now.all id) (withdrawal id ∷ []) there
-      (withdrawn_whole world now.all site id now.whole there known)
-      (λ other h. one_more (withdrawal id) other ((withdrawal_brought now.all (with_tombstone now.all id) id refl other).0 h))
-      (λ other h. (here other).1 (inl h))
-      (λ other h. (here other).1 (inr (sym (one_contained (withdrawal id) other h))))
-
-  join_lawful : (site : ℕ) (other : Content) → IsPart other now.all → AllAmend other → IsLawful (with_content world site (joined_contents (content_at world site) other)) items
-  join_lawful site other inside amends =
-      let union = contents_join.union (content_at world site) other (joined_contents (content_at world site) other)
-      (contents_undisputed (content_at world site) other (parts_agree (content_at world site) other now.all (now.whole.sites site) inside)) in record {
-        all = now.all;
-        whole = joined_whole world now.all site other now.whole inside amends;
-        made = now.made;
-        held = λ one h. kept world site (joined_contents (content_at world site) other) one.site one.item (λ item there. (union item).1 (inl there)) (now.held one h);
-      }
-
-  send_lawful : (part : Content) → IsPart part now.all → AllAmend part → IsLawful (send world part) items
-  send_lawful part inside amends = record { all = now.all; whole = sent_whole world now.all part now.whole inside amends; made = now.made; held = now.held }
+  -- and the step brings what was made to the site that made it
+  makings_brought : (step : Step) (one : Making) → Contains (makings world step) one → Brings world step one.site one.item
+  makings_brought (changed site asked) one h = let id = next_id_at world site in
+      let is = made_of site (change_items asked id) one h in (sym is.0, (items_brought asked id one.item).0 is.1)
+  makings_brought (merged site other) one h = absurd (nothing one h)
+  makings_brought (sent site part) one h = absurd (nothing one h)
+  makings_brought (delivered site number) one h = absurd (nothing one h)
 
   nothing_made : (next : World) → IsLawful next items → IsLawful next (items ++ [])
   nothing_made next lawful = subst (IsLawful next) (sym (append-nil items)) lawful
 
   lawful_after : (step : Step) → IsAccepted world step → IsLawful (after world step) (items ++ makings world step)
-  lawful_after (added site bound) accepted =
-      let is = accepted_addition world site bound accepted in make_lawful site (plain bound) is.0 (record { bound = accepted_bound (held_at world site) bound is.1; proper = tt })
-  lawful_after (finished site event time) accepted =
-      let is = accepted_execution world site event time accepted in make_lawful site (executed time event) is.0 (record { bound = executed_bound (held_at world site) time event is.1; proper = (refl, refl) })
-  lawful_after (amended site old bound) accepted =
-      let is = accepted_amendment world site old bound accepted in
-      amend_lawful site old bound is.0 (amended_known (held_at world site) old bound is.1) (amended_bound (held_at world site) old bound is.1)
-  lawful_after (withdrew site id) accepted =
-      let is = accepted_withdrawal world site id accepted in withdraw_lawful site id is.0 (accepted_known (held_at world site) id is.1)
-  lawful_after (merged site other) accepted = nothing_made _ (join_lawful site (content_at world other) (now.whole.sites other) (now.whole.sites_amend other))
-  lawful_after (sent site part) accepted =
-      let is = (accepted_sending world site part accepted).1 in
-      nothing_made _ (send_lawful part (λ item h. now.whole.sites site item (sent_inside part (content_at world site) is item h)) (sent_amends part (content_at world site) is (now.whole.sites_amend site)))
-  lawful_after (delivered site number) accepted = nothing_made _ (join_lawful site (packet_at world number) (now.whole.packets number) (now.whole.packets_amend number))
+  lawful_after step accepted = let coherent : IsCoherent world = (now.all, now.whole) in record {
+    all = whole_after world step now.all;
+    whole = step_whole world now.all step accepted now.whole;
+    made = λ item h. ⊎_elim
+        (λ old. let m = now.made item old in (m.0, Contains-append_left items (makings world step) (record { site = m.0; item = item }) m.1))
+        (λ new. (new.0, Contains-append_right items (makings world step) (record { site = new.0; item = item }) new.1))
+        (news step item h);
+    held = λ one h. ⊎_elim
+        (λ old. grows_after world step coherent one.site one.item (now.held one old))
+        (λ new. let brings = makings_brought step one new in
+        (one_step world step accepted coherent one.site (brings_there world step one.site one.item accepted brings) one.item).1 (inr brings))
+        (Contains-append_cases items (makings world step) one h);
+  }
 
   by_refusal : (step : Step) (o : Option WorldFault) → step_refusal world step ≡ o → IsLawful (cond (is_some o) world (after world step)) (items ++ cond (is_some o) [] (makings world step))
   by_refusal step None e = lawful_after step e
@@ -147,11 +101,8 @@ lawful_run source sites steps = lawful_more (opening_world source sites) [] step
   all = no_content;
   whole = whole_at_first source sites;
   made = λ item h. absurd (nothing_there item h);
-  held = λ one h. none one h;
+  held = λ one h. absurd (nothing one h);
 })
-  where
-    none : (one : Making) → Contains [] one → HasItem (content_at (opening_world source sites) one.site) one.item
-    none one h = let lt = h.1 in absurd (omega (arith, lt))
 
 -- ---- how many ids are known
 id_of : Item → List SiteCounter → List SiteCounter

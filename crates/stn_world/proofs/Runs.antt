@@ -1,9 +1,9 @@
 -- What the sites of a world hold after a run.
 use Rattle.std.proofs.{Common.{◌≡◌, ◌≢◌, ◌↔◌, ◌⊎◌, inl, inr, ⊎_elim, ℕ, ◌-◌, ◌≤◌, cond, is_some, Option, Some, None, List, [], ◌∷◌, refl, ap, sym, subst, ◌∙◌, arith}, lemmas.{Bool.{false≢true, cases_eq}, List.{length-set, get_or-set_other}}}
 use Rattle.stn_lift.specs.PlanSource.{PlanSource}
-use Rattle.stn_records.specs.{Content.{Content, Item, HasItem, no_content, plain, with_record, with_amendment, with_tombstone, joined_contents, addition, withdrawal, replacement, IsPart}, ContentLaws.contents_join}
-use Rattle.stn_site.{specs.Held.executed, proofs.Items.{nothing_there, record_brought, withdrawal_brought, regroup}}
-use Rattle.stn_world.{specs.{declared.faults.WorldFault.WorldFault, Whole.IsCoherent, World.{World, HasSite, opening_world, content_at, packet_at, next_id_at, with_content}, Steps.{Step, added, finished, amended, withdrew, merged, sent, delivered, after, stepped, run, step_refusal, IsAccepted, Brings, TookAt}}, proofs.{Accepted.{accepted_addition, accepted_execution, accepted_amendment, accepted_withdrawal, accepted_merge, accepted_delivery}, Whole.{content_here, amended_items, sites_join, packet_joins, coherent_after, grows_after, coherent_at_first, nothing_at_first}}}
+use Rattle.stn_records.specs.{Content.{Content, Item, HasItem, no_content, joined_contents, IsPart}, ContentLaws.contents_join}
+use Rattle.stn_site.{specs.{Calls.Brought, Change.change_call}, proofs.Items.{nothing_there, regroup}}
+use Rattle.stn_world.{specs.{declared.faults.WorldFault.WorldFault, Whole.IsCoherent, World.{World, HasSite, opening_world, content_at, packet_at, next_id_at, with_content, content_after}, Steps.{Step, changed, merged, sent, delivered, after, stepped, run, step_refusal, IsAccepted, Brings, TookAt}}, proofs.{Accepted.{accepted_change, accepted_merge, accepted_delivery}, Whole.{content_here, changed_items, taken_items, coherent_after, grows_after, coherent_at_first, nothing_at_first}}}
 
 there_after : (world : World) (at : ℕ) (content : Content) (site : ℕ) → HasSite world site → HasSite (with_content world at content) site
 there_after world at content site there = record { least = there.least; most = subst (λ (n : ℕ). site ≤ n) (sym (length-set world.sites (at - 1) content)) there.most }
@@ -27,44 +27,34 @@ changed_at world at content New item there change site other = ⊎_elim
     ))
     (cases_eq at site)
 
-one_step : (world : World) (step : Step) → IsAccepted world step → IsCoherent world → (site : ℕ) → HasSite world site → (item : Item)
+pub one_step : (world : World) (step : Step) → IsAccepted world step → IsCoherent world → (site : ℕ) → HasSite world site → (item : Item)
     → HasItem (content_at (after world step) site) item ↔ (HasItem (content_at world site) item ⊎ Brings world step site item)
-one_step world (added at bound) accepted coherent site other item =
-    changed_at world at (with_record (content_at world at) (next_id_at world at) (plain bound)) (λ i. i ≡ addition (next_id_at world at) (plain bound)) item
-    (accepted_addition world at bound accepted).0
-    (record_brought (content_at world at) (with_record (content_at world at) (next_id_at world at) (plain bound)) at (next_id_at world at) (plain bound) refl refl item) site other
-one_step world (finished at event time) accepted coherent site other item =
-    changed_at world at (with_record (content_at world at) (next_id_at world at) (executed time event)) (λ i. i ≡ addition (next_id_at world at) (executed time event)) item
-    (accepted_execution world at event time accepted).0
-    (record_brought (content_at world at) (with_record (content_at world at) (next_id_at world at) (executed time event)) at (next_id_at world at) (executed time event) refl refl item) site other
-one_step world (amended at old bound) accepted coherent site other item =
-    changed_at world at (with_amendment (content_at world at) (next_id_at world at) old bound) (λ i. (i ≡ addition (next_id_at world at) (plain bound)) ⊎ (i ≡ replacement (next_id_at world at) old)) item
-    (accepted_amendment world at old bound accepted).0 (amended_items world coherent at old bound item) site other
-one_step world (withdrew at id) accepted coherent site other item =
-    changed_at world at (with_tombstone (content_at world at) id) (λ i. i ≡ withdrawal id) item (accepted_withdrawal world at id accepted).0
-    (withdrawal_brought (content_at world at) (with_tombstone (content_at world at) id) id refl item) site other
+one_step world (changed at asked) accepted coherent site other item =
+    changed_at world at (content_after (content_at world at) (change_call asked (next_id_at world at))) (Brought (change_call asked (next_id_at world at))) item
+    (accepted_change world at asked accepted).0 (changed_items world coherent at asked item) site other
 one_step world (merged at from) accepted coherent site other item =
     changed_at world at (joined_contents (content_at world at) (content_at world from)) (HasItem (content_at world from)) item (accepted_merge world at from accepted).0
-    (contents_join.union (content_at world at) (content_at world from) (joined_contents (content_at world at) (content_at world from)) (sites_join world coherent at from) item) site other
+    (taken_items world coherent.0 coherent.1 at (content_at world from) (coherent.1.sites from) item) site other
 one_step world (sent at part) accepted coherent site other item = (inl, λ h. ⊎_elim (λ x. x) (λ none. absurd none) h)
 one_step world (delivered at number) accepted coherent site other item =
     changed_at world at (joined_contents (content_at world at) (packet_at world number)) (HasItem (packet_at world number)) item (accepted_delivery world at number accepted).0
-    (contents_join.union (content_at world at) (packet_at world number) (joined_contents (content_at world at) (packet_at world number)) (packet_joins world coherent at number) item) site other
+    (taken_items world coherent.0 coherent.1 at (packet_at world number) (coherent.1.packets number) item) site other
+
+-- a step brings items to sites that are there
+pub brings_there : (world : World) (step : Step) (site : ℕ) (item : Item) → IsAccepted world step → Brings world step site item → HasSite world site
+brings_there world (changed at asked) site item accepted brings = subst (HasSite world) brings.0 (accepted_change world at asked accepted).0
+brings_there world (merged at other) site item accepted brings = subst (HasSite world) brings.0 (accepted_merge world at other accepted).0
+brings_there world (sent at part) site item accepted brings = absurd brings
+brings_there world (delivered at number) site item accepted brings = subst (HasSite world) brings.0 (accepted_delivery world at number accepted).0
 
 site_stays : (world : World) (step : Step) (site : ℕ) → HasSite world site → HasSite (after world step) site
-site_stays world (added at bound) site there = there_after world at _ site there
-site_stays world (finished at event time) site there = there_after world at _ site there
-site_stays world (amended at old bound) site there = there_after world at _ site there
-site_stays world (withdrew at id) site there = there_after world at _ site there
+site_stays world (changed at asked) site there = there_after world at _ site there
 site_stays world (merged at other) site there = there_after world at _ site there
 site_stays world (sent at part) site there = record { least = there.least; most = there.most }
 site_stays world (delivered at number) site there = there_after world at _ site there
 
 after_keeps : (world : World) (step : Step) → (after world step).source ≡ world.source
-after_keeps world (added at bound) = refl
-after_keeps world (finished at event time) = refl
-after_keeps world (amended at old bound) = refl
-after_keeps world (withdrew at id) = refl
+after_keeps world (changed at asked) = refl
 after_keeps world (merged at other) = refl
 after_keeps world (sent at part) = refl
 after_keeps world (delivered at number) = refl

@@ -1,12 +1,13 @@
 -- The sites of a world stay parts of a whole.
 use Rattle.std.proofs.{Common.{◌≡◌, ◌≢◌, ◌↔◌, ◌⊎◌, inl, inr, ⊎_elim, ℕ, zero, suc, ◌-◌, Bool, true, false, not, ◌||◌, is_some, Option, Some, None, List, [], ◌∷◌, ◌++◌, set, get_or, All, refl, ap, sym, subst, ◌∙◌, arith}, lemmas.{Bool.{false≢true, or_cases}, List.get_or-set_same}}
+use Rattle.std.specs.Prelude.{⊤}
 use Rattle.std.specs.FinMap as fin
-use Rattle.stn_site.{proofs.{Flags.get_or-replicate_same, Items.{nothing_there, addition_items, amendment_items, withdrawal_brought}, Refused.{accepted_known, amended_known}}, specs.{Bounds.{RecordsName, live_bounds}, Held.executed}}
+use Rattle.stn_site.{proofs.{Flags.get_or-replicate_same, Items.{nothing_there, addition_items, amendment_items, withdrawal_brought}, Refused.{accepted_known, amended_known}}, specs.{Bounds.{RecordsName, live_bounds}, Held.executed, Calls.{Accepted, added, amended, withdrew, took, Brought}, Change.{change_call, change_refusal}, declared.change.Change.{Change, TheVariants.{Add, Amend, Withdraw, Done}}}}
 use Rattle.stn_net.specs.Difference.{Difference, NamesEvents, IsBoundWithin}
 use Rattle.stn_lift.specs.PlanSource.{PlanSource, events_of}
-use Rattle.stn_records.{specs.{Id.SiteCounter, declared.record.Record.Record, Content.{Content, Item, addition, withdrawal, replacement, HasItem, is_known, is_replaced, no_content, plain, with_record, with_amendment, with_tombstone, dispute_contents, join_contents, joined_contents, IsPart, IsAmendment, AllAmend, AllProper}, ContentLaws.{ids_total, ids_exact, contents_join, contents_dispute, contents_undisputed}}, proofs.{Replaced.replaced_cases, Counters.next_is_new, Gets.entries_from_get}}
+use Rattle.stn_records.{specs.{Id.SiteCounter, declared.record.Record.Record, Content.{Content, Item, addition, withdrawal, replacement, HasItem, is_known, is_replaced, no_content, plain, with_tombstone, dispute_contents, joined_contents, IsPart, IsAmendment, AllAmend, AllProper}, ContentLaws.{ids_total, ids_exact, contents_join, contents_dispute, contents_undisputed}}, proofs.{Replaced.replaced_cases, Counters.next_is_new, Gets.entries_from_get}}
 use Rattle.stn_replica.proofs.Live.{bounds_from_live}
-use Rattle.stn_world.{specs.{World.{World, HasSite, opening_world, content_at, packet_at, held_at, next_id_at, with_content, make, amend, withdraw, send}, Steps.{Step, added, finished, amended, withdrew, merged, sent, delivered, after, IsAccepted}, Whole.{IsWhole, IsCoherent}, Runs.IsRecordOf}, proofs.{Parts.{sent_inside, sent_amends}, Accepted.{accepted_addition, accepted_execution, accepted_amendment, accepted_withdrawal, accepted_sending}, Bounds.{accepted_bound, executed_bound, amended_bound}}}
+use Rattle.stn_world.{specs.{World.{World, HasSite, opening_world, content_at, packet_at, held_at, next_id_at, with_content, content_after, with_call, send}, Steps.{Step, changed, merged, sent, delivered, after, IsAccepted}, Whole.{IsWhole, IsCoherent}, Runs.IsRecordOf}, proofs.{Parts.{sent_inside, sent_amends}, Accepted.{accepted_change, accepted_merge, accepted_delivery, accepted_sending}, Bounds.{accepted_bound, executed_bound, amended_bound}}}
 
 -- a place of a list that was set has the new element, or what it had
 set_cases : {X : Type 0} (xs : List X) (i j : ℕ) (x d : X) → ((get_or (set xs i x) j d ≡ x) × (get_or xs i d ≡ get_or xs j d)) ⊎ (get_or (set xs i x) j d ≡ get_or xs j d)
@@ -40,10 +41,6 @@ amends_made old new New grown amends news id entry there = ⊎_elim
     (λ h. let one = news id entry h in record { added = (one.0.0, (grown (addition id (plain one.0.0))).1 (inr one.0.1)); other = one.1 })
     ((grown (replacement id entry)).0 there)
 
--- and in a union
-amends_join : (a b c : Content) → ((item : Item) → HasItem c item ↔ (HasItem a item ⊎ HasItem b item)) → AllAmend a → AllAmend b → AllAmend c
-amends_join a b c union ours theirs = amends_made a c (HasItem b) union ours (λ id entry h. let is = theirs id entry h in (is.added, is.other))
-
 -- ---- known ids
 -- an id that is known was added, withdrawn or replaced
 pub known_items : (s : Content) (id : SiteCounter) → is_known s id ≡ true
@@ -57,11 +54,7 @@ known_items s id known = ⊎_elim (λ e. inl (held (fin.get s.additions id) e)) 
 pub items_known : (s : Content) (id : SiteCounter) (one : Record) → HasItem s (addition id one) → is_known s id ≡ true
 items_known s id one there = ap (λ (o : Option Record). is_some o || is_replaced s id) there
 
--- in the whole each id that is known has a record
-pub has_record : (world : World) (all : Content) (id : SiteCounter) → IsWhole world all → is_known all id ≡ true → (one : Record) × HasItem all (addition id one)
-has_record world all id whole known = ⊎_elim (λ h. h) (λ gone. ⊎_elim (whole.made id) (λ h. whole.replaced h.0 id h.1) gone) (known_items all id known)
-
--- so it is for one that a site or a packet knows
+-- in the whole each id has a record that a site or a packet knows
 pub held_record : (world : World) (all part : Content) (id : SiteCounter) → IsWhole world all → IsPart part all → is_known part id ≡ true → (one : Record) × HasItem all (addition id one)
 held_record world all part id whole inside known =
     ⊎_elim (λ h. (h.0, inside (addition id h.0) h.1)) (λ gone. ⊎_elim (λ h. whole.made id (inside (withdrawal id) h)) (λ h. whole.replaced h.0 id (inside (replacement h.0 id) h.1)) gone) (known_items part id known)
@@ -75,111 +68,11 @@ next_unknown world all site whole = none (is_known all (next_id_at world site)) 
 
     none : (known : Bool) → is_known all (next_id_at world site) ≡ known → known ≡ false
     none false e = refl
-    none true e = let added = has_record world all (next_id_at world site) whole e in absurd (here added.0 added.1)
+    none true e = let added = held_record world all all (next_id_at world site) whole (λ item h. h) e in absurd (here added.0 added.1)
 
 pub content_here : (world : World) (site : ℕ) (content : Content) → HasSite world site → content_at (with_content world site content) site ≡ content
 content_here world site content there = let least = there.least in let most = there.most in get_or-set_same world.sites (site - 1) content no_content (omega arith)
 
--- an amendment of a site is a record and its entry
-pub amended_items : (world : World) → IsCoherent world → (site : ℕ) (old : SiteCounter) (bound : Difference) (item : Item)
-    → HasItem (with_amendment (content_at world site) (next_id_at world site) old bound) item
-    ↔ (HasItem (content_at world site) item ⊎ ((item ≡ addition (next_id_at world site) (plain bound)) ⊎ (item ≡ replacement (next_id_at world site) old)))
-amended_items world coherent site old bound =
-    amendment_items (content_at world site) (next_id_at world site) old bound (coherent.1.sites_amend site) (next_is_new (content_at world site) site (next_id_at world site).counter refl)
-
--- ---- equal items
-pub same_id : (id other : SiteCounter) (one two : Record) → addition id one ≡ addition other two → id ≡ other
-same_id id other one two e = cc
-
-same_one : (id other : SiteCounter) (one two : Record) → addition id one ≡ addition other two → one ≡ two
-same_one id other one two e = cc
-
-site_of : (other : SiteCounter) (two : Record) (id : SiteCounter) (one : Record) → addition other two ≡ addition id one → other.site ≡ id.site
-site_of other two id one e = ap (λ (i : SiteCounter). i.site) (same_id other id two one e)
-
-same_gone : (id other : SiteCounter) → withdrawal id ≡ withdrawal other → id ≡ other
-same_gone id other e = cc
-
-pub same_new : (other second id old : SiteCounter) → replacement other second ≡ replacement id old → other ≡ id
-same_new other second id old e = cc
-
-pub same_old : (other second id old : SiteCounter) → replacement other second ≡ replacement id old → second ≡ old
-same_old other second id old e = cc
-
--- ---- items that a site makes
--- what a site holds grows by new items, and with it the whole: records of the site about the plan's events, withdrawals of ids that have a
--- record, and entries of such records that replace ids that have one
-made_whole : (world : World) (all more : Content) (site : ℕ) (content : Content) (New : Item → Type 0) → IsWhole world all → HasSite world site
-    → ((item : Item) → HasItem more item ↔ (HasItem all item ⊎ New item))
-    → ((item : Item) → HasItem content item ↔ (HasItem (content_at world site) item ⊎ New item))
-    → ((id : SiteCounter) (one : Record) → New (addition id one) → (id.site ≡ site) × IsRecordOf (events_of world.source) one)
-    → ((id : SiteCounter) → New (withdrawal id) → (one : Record) × HasItem all (addition id one))
-    → ((id old : SiteCounter) → New (replacement id old) → ((one : Record) × HasItem all (addition old one)) × (((bound : Difference) × New (addition id (plain bound))) × (id ≢ old)))
-    → IsWhole (with_content world site content) more
-made_whole world all more site content New whole there larger grown records gone entries = record {
-  sites = λ at. each_site (λ (c : Content). IsPart c more) world site content at (λ item h. (larger item).1 (⊎_elim (λ was. inl (whole.sites site item was)) inr ((grown item).0 h))) (λ item h. lifts item (whole.sites at item h));
-  packets = λ number item h. lifts item (whole.packets number item h);
-  own = λ id one h. ⊎_elim (λ was. kept world site content id.site (addition id one) (λ item i. (grown item).1 (inl i)) (whole.own id one was)) (λ new.
-      subst (λ (k : ℕ). HasItem (content_at (with_content world site content) k) (addition id one)) (sym (records id one new).0)
-      (subst (λ (c : Content). HasItem c (addition id one)) (sym (content_here world site content there)) ((grown (addition id one)).1 (inr new)))) ((larger (addition id one)).0 h);
-  made = λ id h. lifted id (⊎_elim (whole.made id) (gone id) ((larger (withdrawal id)).0 h));
-  replaced = λ id old h. lifted old (⊎_elim (whole.replaced id old) (λ new. (entries id old new).0) ((larger (replacement id old)).0 h));
-  amends = amends_made all more New larger whole.amends amending;
-  sites_amend = λ at. each_site AllAmend world site content at (amends_made (content_at world site) content New grown (whole.sites_amend site) amending) (whole.sites_amend at);
-  packets_amend = whole.packets_amend;
-  records = λ id one h. ⊎_elim (whole.records id one) (λ new. (records id one new).1) ((larger (addition id one)).0 h);
-}
-  where
-    lifts : IsPart all more
-    lifts item h = (larger item).1 (inl h)
-
-    lifted : (id : SiteCounter) → (one : Record) × HasItem all (addition id one) → (one : Record) × HasItem more (addition id one)
-    lifted id one = (one.0, lifts (addition id one.0) one.1)
-
-    amending : (id old : SiteCounter) → New (replacement id old) → ((bound : Difference) × New (addition id (plain bound))) × (id ≢ old)
-    amending id old new = (entries id old new).1
-
-pub added_whole : (world : World) (all : Content) (site : ℕ) (one : Record) → IsWhole world all → HasSite world site → IsRecordOf (events_of world.source) one
-    → IsWhole (make world site one) (with_record all (next_id_at world site) one)
-added_whole world all site one whole there fits =
-    let id = next_id_at world site in
-    made_whole world all (with_record all id one) site (with_record (content_at world site) id one) (λ item. item ≡ addition id one) whole there
-    (addition_items all id one (next_unknown world all site whole))
-    (addition_items (content_at world site) id one (next_is_new (content_at world site) site id.counter refl))
-    (λ other two e. (site_of other two id one e, subst (IsRecordOf (events_of world.source)) (sym (same_one other id two one e)) fits))
-    (λ other e. absurd (cc))
-    (λ other old e. absurd (cc))
-
-pub withdrawn_whole : (world : World) (all : Content) (site : ℕ) (id : SiteCounter) → IsWhole world all → HasSite world site → is_known (content_at world site) id ≡ true
-    → IsWhole (withdraw world site id) (with_tombstone all id)
-withdrawn_whole world all site id whole there known =
-    made_whole world all (with_tombstone all id) site (with_tombstone (content_at world site) id) (λ item. item ≡ withdrawal id) whole there
-    (withdrawal_brought all (with_tombstone all id) id refl)
-    (withdrawal_brought (content_at world site) (with_tombstone (content_at world site) id) id refl)
-    (λ other two e. absurd (cc))
-    (λ other e. subst (λ (i : SiteCounter). (r : Record) × HasItem all (addition i r)) (sym (same_gone other id e)) (held_record world all (content_at world site) id whole (whole.sites site) known))
-    (λ other old e. absurd (cc))
-
-pub amended_whole : (world : World) (all : Content) (site : ℕ) (old : SiteCounter) (bound : Difference) → IsWhole world all → HasSite world site
-    → is_known (content_at world site) old ≡ true → IsBoundWithin (events_of world.source) bound
-    → IsWhole (amend world site old bound) (with_amendment all (next_id_at world site) old bound)
-amended_whole world all site old bound whole there known within =
-    let id = next_id_at world site in
-    let new = next_is_new (content_at world site) site id.counter refl in
-    made_whole world all (with_amendment all id old bound) site (with_amendment (content_at world site) id old bound) (λ item. (item ≡ addition id (plain bound)) ⊎ (item ≡ replacement id old)) whole there
-    (amendment_items all id old bound whole.amends (next_unknown world all site whole))
-    (amendment_items (content_at world site) id old bound (whole.sites_amend site) new)
-    (λ other two e. ⊎_elim (λ f. (site_of other two id (plain bound) f, subst (IsRecordOf (events_of world.source)) (sym (same_one other id two (plain bound) f)) (record { bound = within; proper = tt }))) (λ f. absurd (cc)) e)
-    (λ other e. ⊎_elim (λ f. absurd (cc)) (λ f. absurd (cc)) e)
-    (λ other second e. ⊎_elim (λ f. absurd (cc)) (λ f. (
-      subst (λ (i : SiteCounter). (r : Record) × HasItem all (addition i r)) (sym (same_old other second id old f)) (held_record world all (content_at world site) old whole (whole.sites site) known),
-      (
-        (bound, inl (ap (λ (i : SiteCounter). addition i (plain bound)) (same_new other second id old f))),
-        λ g. false≢true (sym (subst (λ (i : SiteCounter). is_known (content_at world site) i ≡ false) (sym (same_new other second id old f) ∙ (g ∙ same_old other second id old f)) new) ∙ known),
-      ),
-    )) e)
-
--- ---- merges
 -- two parts of a whole agree on every id
 pub parts_agree : (a b all : Content) → IsPart a all → IsPart b all → dispute_contents a b ≡ None
 parts_agree a b all first second = settled (dispute_contents a b) refl
@@ -190,15 +83,159 @@ parts_agree a b all first second = settled (dispute_contents a b) refl
         let both = contents_join.defined a b all first second in
         let is : true ≡ false = ap is_some (sym both.1) ∙ (contents_dispute a b ∙ ap (λ (o : Option SiteCounter). not (is_some o)) some) in absurd (cc)
 
-pub sites_agree : (world : World) → IsCoherent world → (site other : ℕ) → dispute_contents (content_at world site) (content_at world other) ≡ None
-sites_agree world coherent site other = parts_agree (content_at world site) (content_at world other) coherent.0 (coherent.1.sites site) (coherent.1.sites other)
+-- ---- calls
+-- the records that a call brings are new to the state, and what it takes in agrees with it
+abbrev IsNewTo : Content → Accepted → Type 0
+IsNewTo s (added id one) = is_known s id ≡ false
+IsNewTo s (amended id old bound) = AllAmend s × (is_known s id ≡ false)
+IsNewTo s (withdrew id) = ⊤
+IsNewTo s (took other) = dispute_contents s other ≡ None
 
--- so what they hold has a join
-pub sites_join : (world : World) → IsCoherent world → (site other : ℕ)
-    → join_contents (content_at world site) (content_at world other) ≡ Some (joined_contents (content_at world site) (content_at world other))
-sites_join world coherent site other = contents_undisputed (content_at world site) (content_at world other) (sites_agree world coherent site other)
+-- so it leaves the items that were there and those that it brought
+call_items : (s : Content) (call : Accepted) → IsNewTo s call → (item : Item) → HasItem (content_after s call) item ↔ (HasItem s item ⊎ Brought call item)
+call_items s (added id one) new = addition_items s id one new
+call_items s (amended id old bound) new = amendment_items s id old bound new.0 new.1
+call_items s (withdrew id) new = withdrawal_brought s (with_tombstone s id) id refl
+call_items s (took other) new = contents_join.union s other (joined_contents s other) (contents_undisputed s other new)
 
--- and each record of a part is about the plan's events
+-- a change does so under an id that is not known
+change_new : (s : Content) (asked : Change) (id : SiteCounter) → AllAmend s → is_known s id ≡ false → IsNewTo s (change_call asked id)
+change_new s (Add bound) id amends unknown = unknown
+change_new s (Amend old bound) id amends unknown = (amends, unknown)
+change_new s (Withdraw old) id amends unknown = tt
+change_new s (Done event time) id amends unknown = unknown
+
+pub change_items_of : (s : Content) (asked : Change) (id : SiteCounter) → AllAmend s → is_known s id ≡ false
+    → (item : Item) → HasItem (content_after s (change_call asked id)) item ↔ (HasItem s item ⊎ Brought (change_call asked id) item)
+change_items_of s asked id amends unknown = call_items s (change_call asked id) (change_new s asked id amends unknown)
+
+-- as one at a site is
+pub changed_items : (world : World) → IsCoherent world → (site : ℕ) (asked : Change) (item : Item)
+    → HasItem (content_after (content_at world site) (change_call asked (next_id_at world site))) item
+    ↔ (HasItem (content_at world site) item ⊎ Brought (change_call asked (next_id_at world site)) item)
+changed_items world coherent site asked =
+    change_items_of (content_at world site) asked (next_id_at world site) (coherent.1.sites_amend site) (next_is_new (content_at world site) site (next_id_at world site).counter refl)
+
+-- as what a site takes in is
+pub taken_items : (world : World) (all : Content) → IsWhole world all → (site : ℕ) (other : Content) → IsPart other all
+    → (item : Item) → HasItem (joined_contents (content_at world site) other) item ↔ (HasItem (content_at world site) item ⊎ HasItem other item)
+taken_items world all whole site other inside = call_items (content_at world site) (took other) (parts_agree (content_at world site) other all (whole.sites site) inside)
+
+-- ---- equal items
+same_id : (id other : SiteCounter) (one two : Record) → addition id one ≡ addition other two → id ≡ other
+same_id id other one two e = cc
+
+same_one : (id other : SiteCounter) (one two : Record) → addition id one ≡ addition other two → one ≡ two
+same_one id other one two e = cc
+
+same_gone : (id other : SiteCounter) → withdrawal id ≡ withdrawal other → id ≡ other
+same_gone id other e = cc
+
+same_new : (other second id old : SiteCounter) → replacement other second ≡ replacement id old → other ≡ id
+same_new other second id old e = cc
+
+same_old : (other second id old : SiteCounter) → replacement other second ≡ replacement id old → second ≡ old
+same_old other second id old e = cc
+
+-- each record and each entry that a change brings is one of the id
+pub record_new : (asked : Change) (id other : SiteCounter) (one : Record) → Brought (change_call asked id) (addition other one) → other ≡ id
+record_new (Add bound) id other one e = same_id other id one (plain bound) e
+record_new (Amend old bound) id other one e = ⊎_elim (same_id other id one (plain bound)) (λ f. absurd (cc)) e
+record_new (Withdraw old) id other one e = absurd (cc)
+record_new (Done event time) id other one e = same_id other id one (executed time event) e
+
+pub entry_new : (asked : Change) (id other second : SiteCounter) → Brought (change_call asked id) (replacement other second) → other ≡ id
+entry_new (Add bound) id other second e = absurd (cc)
+entry_new (Amend old bound) id other second e = ⊎_elim (λ f. absurd (cc)) (same_new other second id old) e
+entry_new (Withdraw old) id other second e = absurd (cc)
+entry_new (Done event time) id other second e = absurd (cc)
+
+-- ---- items that a site makes
+-- what a site holds grows by new items, and with it the whole: records about the plan's events that are the site's own or held by theirs, withdrawals of ids that have a
+-- record, and entries of such records that replace ids that have one
+made_whole : (world : World) (all more : Content) (site : ℕ) (content : Content) (New : Item → Type 0) → IsWhole world all → HasSite world site
+    → ((item : Item) → HasItem more item ↔ (HasItem all item ⊎ New item))
+    → ((item : Item) → HasItem content item ↔ (HasItem (content_at world site) item ⊎ New item))
+    → ((id : SiteCounter) (one : Record) → New (addition id one) → (HasItem (content_at world id.site) (addition id one) ⊎ (id.site ≡ site)) × IsRecordOf (events_of world.source) one)
+    → ((id : SiteCounter) → New (withdrawal id) → (one : Record) × HasItem all (addition id one))
+    → ((id old : SiteCounter) → New (replacement id old) → ((one : Record) × HasItem all (addition old one)) × (((bound : Difference) × New (addition id (plain bound))) × (id ≢ old)))
+    → IsWhole (with_content world site content) more
+made_whole world all more site content New whole there larger grown records gone entries = record {
+  sites = λ at. each_site (λ (c : Content). IsPart c more) world site content at (λ item h. (larger item).1 (⊎_elim (λ was. inl (whole.sites site item was)) inr ((grown item).0 h))) (λ item h. lifts item (whole.sites at item h));
+  packets = λ number item h. lifts item (whole.packets number item h);
+  own = λ id one h. ⊎_elim (λ was. stays id one (whole.own id one was)) (λ new. ⊎_elim (stays id one) (λ is.
+      subst (λ (k : ℕ). HasItem (content_at (with_content world site content) k) (addition id one)) (sym is)
+      (subst (λ (c : Content). HasItem c (addition id one)) (sym (content_here world site content there)) ((grown (addition id one)).1 (inr new)))) (records id one new).0) ((larger (addition id one)).0 h);
+  made = λ id h. lifted id (⊎_elim (whole.made id) (gone id) ((larger (withdrawal id)).0 h));
+  replaced = λ id old h. lifted old (⊎_elim (whole.replaced id old) (λ new. (entries id old new).0) ((larger (replacement id old)).0 h));
+  amends = amends_made all more New larger whole.amends amending;
+  sites_amend = λ at. each_site AllAmend world site content at (amends_made (content_at world site) content New grown (whole.sites_amend site) amending) (whole.sites_amend at);
+  packets_amend = whole.packets_amend;
+  records = λ id one h. ⊎_elim (whole.records id one) (λ new. (records id one new).1) ((larger (addition id one)).0 h);
+}
+  where
+    stays : (id : SiteCounter) (one : Record) → HasItem (content_at world id.site) (addition id one) → HasItem (content_at (with_content world site content) id.site) (addition id one)
+    stays id one was = kept world site content id.site (addition id one) (λ item h. (grown item).1 (inl h)) was
+
+    lifts : IsPart all more
+    lifts item h = (larger item).1 (inl h)
+
+    lifted : (id : SiteCounter) → (one : Record) × HasItem all (addition id one) → (one : Record) × HasItem more (addition id one)
+    lifted id one = (one.0, lifts (addition id one.0) one.1)
+
+    amending : (id old : SiteCounter) → New (replacement id old) → ((bound : Difference) × New (addition id (plain bound))) × (id ≢ old)
+    amending id old new = (entries id old new).1
+
+-- a change that is accepted brings such items
+module _ (world : World) (all : Content) (site : ℕ) (whole : IsWhole world all) where
+  abbrev next : SiteCounter
+  next = next_id_at world site
+
+  new_here : is_known (content_at world site) next ≡ false
+  new_here = next_is_new (content_at world site) site next.counter refl
+
+  record_brought : (asked : Change) → change_refusal (held_at world site) asked ≡ None → (id : SiteCounter) (one : Record) → Brought (change_call asked next) (addition id one) → IsRecordOf (events_of world.source) one
+  record_brought (Add bound) free id one e =
+      subst (IsRecordOf (events_of world.source)) (sym (same_one id next one (plain bound) e)) (record { bound = accepted_bound (held_at world site) bound free; proper = tt })
+  record_brought (Amend old bound) free id one e = ⊎_elim
+      (λ f. subst (IsRecordOf (events_of world.source)) (sym (same_one id next one (plain bound) f)) (record { bound = amended_bound (held_at world site) old bound free; proper = tt }))
+      (λ f. absurd (cc)) e
+  record_brought (Withdraw old) free id one e = absurd (cc)
+  record_brought (Done event time) free id one e =
+      subst (IsRecordOf (events_of world.source)) (sym (same_one id next one (executed time event) e)) (record { bound = executed_bound (held_at world site) time event free; proper = (refl, refl) })
+
+  gone_brought : (asked : Change) → change_refusal (held_at world site) asked ≡ None → (id : SiteCounter) → Brought (change_call asked next) (withdrawal id) → (one : Record) × HasItem all (addition id one)
+  gone_brought (Add bound) free id e = absurd (cc)
+  gone_brought (Amend old bound) free id e = ⊎_elim (λ f. absurd (cc)) (λ f. absurd (cc)) e
+  gone_brought (Withdraw old) free id e =
+      subst (λ (i : SiteCounter). (one : Record) × HasItem all (addition i one)) (sym (same_gone id old e)) (held_record world all (content_at world site) old whole (whole.sites site) (accepted_known (held_at world site) old free))
+  gone_brought (Done event time) free id e = absurd (cc)
+
+  entry_brought : (asked : Change) → change_refusal (held_at world site) asked ≡ None → (id old : SiteCounter) → Brought (change_call asked next) (replacement id old)
+      → ((one : Record) × HasItem all (addition old one)) × (((bound : Difference) × Brought (change_call asked next) (addition id (plain bound))) × (id ≢ old))
+  entry_brought (Add bound) free id old e = absurd (cc)
+  entry_brought (Amend replaced bound) free id old e = ⊎_elim (λ f. absurd (cc)) (λ f.
+      let known = amended_known (held_at world site) replaced bound free in (
+        subst (λ (i : SiteCounter). (one : Record) × HasItem all (addition i one)) (sym (same_old id old next replaced f)) (held_record world all (content_at world site) replaced whole (whole.sites site) known),
+        (
+          (bound, inl (ap (λ (i : SiteCounter). addition i (plain bound)) (same_new id old next replaced f))),
+          λ g. false≢true (sym (subst (λ (i : SiteCounter). is_known (content_at world site) i ≡ false) (sym (same_new id old next replaced f) ∙ (g ∙ same_old id old next replaced f)) new_here) ∙ known),
+        ),
+      )) e
+  entry_brought (Withdraw replaced) free id old e = absurd (cc)
+  entry_brought (Done event time) free id old e = absurd (cc)
+
+  pub changed_whole : (asked : Change) → HasSite world site → change_refusal (held_at world site) asked ≡ None → IsWhole (with_call world site (change_call asked next)) (content_after all (change_call asked next))
+  changed_whole asked there free =
+      let call = change_call asked next in
+      made_whole world all (content_after all call) site (content_after (content_at world site) call) (Brought call) whole there
+      (change_items_of all asked next whole.amends (next_unknown world all site whole))
+      (changed_items world (all, whole) site asked)
+      (λ id one e. (inr (ap (λ (i : SiteCounter). i.site) (record_new asked next id one e)), record_brought asked free id one e))
+      (gone_brought asked free) (entry_brought asked free)
+
+-- ---- merges
+-- each record of a part is about the plan's events
 pub part_named : (world : World) (all part : Content) → IsWhole world all → IsPart part all → RecordsName (events_of world.source) part
 part_named world all part whole inside =
     entries_from_get ids_total ids_exact part.additions (λ entry. NamesEvents (events_of world.source) entry.1.bound)
@@ -213,24 +250,14 @@ site_bounds world coherent site =
 pub site_proper : (world : World) → IsCoherent world → (site : ℕ) → AllProper (content_at world site).additions
 site_proper world coherent site id one there = (coherent.1.records id one (coherent.1.sites site (addition id one) there)).proper
 
-pub site_named : (world : World) → IsCoherent world → (site : ℕ) → RecordsName (events_of world.source) (content_at world site)
-site_named world coherent site = part_named world coherent.0 (content_at world site) coherent.1 (coherent.1.sites site)
-
 -- a site takes in another part of the whole
-pub joined_whole : (world : World) (all : Content) (site : ℕ) (other : Content) → IsWhole world all → IsPart other all → AllAmend other → IsWhole (with_content world site (joined_contents (content_at world site) other)) all
-joined_whole world all site other whole inside amends =
-    let joined = joined_contents (content_at world site) other in
-    let union = contents_join.union (content_at world site) other joined (contents_undisputed (content_at world site) other (parts_agree (content_at world site) other all (whole.sites site) inside)) in record {
-      sites = λ at. each_site (λ (c : Content). IsPart c all) world site joined at (λ item h. ⊎_elim (λ ours. whole.sites site item ours) (λ theirs. inside item theirs) ((union item).0 h)) (whole.sites at);
-      packets = whole.packets;
-      own = λ id one h. kept world site joined id.site (addition id one) (λ item i. (union item).1 (inl i)) (whole.own id one h);
-      made = whole.made;
-      replaced = whole.replaced;
-      amends = whole.amends;
-      sites_amend = λ at. each_site AllAmend world site joined at (amends_join (content_at world site) other joined union (whole.sites_amend site) amends) (whole.sites_amend at);
-      packets_amend = whole.packets_amend;
-      records = whole.records;
-    }
+pub joined_whole : (world : World) (all : Content) (site : ℕ) (other : Content) → HasSite world site → IsWhole world all → IsPart other all → AllAmend other → IsWhole (with_content world site (joined_contents (content_at world site) other)) all
+joined_whole world all site other there whole inside amends =
+    made_whole world all all site (joined_contents (content_at world site) other) (HasItem other) whole there
+    (λ item. (inl, λ h. ⊎_elim (λ was. was) (inside item) h)) (taken_items world all whole site other inside)
+    (λ id one h. let at = inside (addition id one) h in (inl (whole.own id one at), whole.records id one at))
+    (λ id h. whole.made id (inside (withdrawal id) h))
+    (λ id old h. let is = amends id old h in (whole.replaced id old (inside (replacement id old) h), ((is.added.0, is.added.1), is.other)))
 
 -- ---- packets
 -- a place of a longer list has the new element, or what it had
@@ -257,69 +284,34 @@ sent_whole world all part whole inside amends = record {
   records = whole.records;
 }
 
--- a site and a packet agree on every id, what they hold has a join, and each record of the packet is about the plan's events
-pub packet_agrees : (world : World) → IsCoherent world → (site number : ℕ) → dispute_contents (content_at world site) (packet_at world number) ≡ None
-packet_agrees world coherent site number = parts_agree (content_at world site) (packet_at world number) coherent.0 (coherent.1.sites site) (coherent.1.packets number)
-
-pub packet_joins : (world : World) → IsCoherent world → (site number : ℕ)
-    → join_contents (content_at world site) (packet_at world number) ≡ Some (joined_contents (content_at world site) (packet_at world number))
-packet_joins world coherent site number = contents_undisputed (content_at world site) (packet_at world number) (packet_agrees world coherent site number)
-
-pub packet_named : (world : World) → IsCoherent world → (number : ℕ) → RecordsName (events_of world.source) (packet_at world number)
-packet_named world coherent number = part_named world coherent.0 (packet_at world number) coherent.1 (coherent.1.packets number)
-
 -- ---- runs
-made_grows : (world : World) (at : ℕ) (one : Record) → IsPart (content_at world at) (with_record (content_at world at) (next_id_at world at) one)
-made_grows world at one item h =
-    (addition_items (content_at world at) (next_id_at world at) one (next_is_new (content_at world at) at (next_id_at world at).counter refl) item).1 (inl h)
+-- what all sites and packets hold together after a step
+abbrev pub whole_after : World → Step → Content → Content
+whole_after world (changed site asked) all = content_after all (change_call asked (next_id_at world site))
+whole_after world (merged site other) all = all
+whole_after world (sent site part) all = all
+whole_after world (delivered site number) all = all
 
-amended_grows : (world : World) → IsCoherent world → (at : ℕ) (old : SiteCounter) (bound : Difference)
-    → IsPart (content_at world at) (with_amendment (content_at world at) (next_id_at world at) old bound)
-amended_grows world coherent at old bound item h = (amended_items world coherent at old bound item).1 (inl h)
+pub step_whole : (world : World) (all : Content) (step : Step) → IsAccepted world step → IsWhole world all → IsWhole (after world step) (whole_after world step all)
+step_whole world all (changed site asked) accepted whole = let is = accepted_change world site asked accepted in changed_whole world all site whole asked is.0 is.1
+step_whole world all (merged site other) accepted whole = joined_whole world all site (content_at world other) (accepted_merge world site other accepted).0 whole (whole.sites other) (whole.sites_amend other)
+step_whole world all (sent site part) accepted whole =
+    let is = (accepted_sending world site part accepted).1 in
+    sent_whole world all part whole (λ item there. whole.sites site item (sent_inside part (content_at world site) is item there)) (sent_amends part (content_at world site) is (whole.sites_amend site))
+step_whole world all (delivered site number) accepted whole = joined_whole world all site (packet_at world number) (accepted_delivery world site number accepted).0 whole (whole.packets number) (whole.packets_amend number)
 
 pub coherent_after : (world : World) (step : Step) → IsAccepted world step → IsCoherent world → IsCoherent (after world step)
-coherent_after world (added site bound) accepted coherent =
-    let is = accepted_addition world site bound accepted in
-    (with_record coherent.0 (next_id_at world site) (plain bound), added_whole world coherent.0 site (plain bound) coherent.1 is.0 (record { bound = accepted_bound (held_at world site) bound is.1; proper = tt }))
-coherent_after world (finished site event time) accepted coherent =
-    let is = accepted_execution world site event time accepted in (
-      with_record coherent.0 (next_id_at world site) (executed time event),
-      added_whole world coherent.0 site (executed time event) coherent.1 is.0 (record { bound = executed_bound (held_at world site) time event is.1; proper = (refl, refl) }),
-    )
-coherent_after world (amended site old bound) accepted coherent =
-    let is = accepted_amendment world site old bound accepted in (
-      with_amendment coherent.0 (next_id_at world site) old bound,
-      amended_whole world coherent.0 site old bound coherent.1 is.0 (amended_known (held_at world site) old bound is.1) (amended_bound (held_at world site) old bound is.1),
-    )
-coherent_after world (withdrew site id) accepted coherent =
-    let is = accepted_withdrawal world site id accepted in
-    (with_tombstone coherent.0 id, withdrawn_whole world coherent.0 site id coherent.1 is.0 (accepted_known (held_at world site) id is.1))
-coherent_after world (merged site other) accepted coherent =
-    (coherent.0, joined_whole world coherent.0 site (content_at world other) coherent.1 (coherent.1.sites other) (coherent.1.sites_amend other))
-coherent_after world (sent site part) accepted coherent =
-    let is = (accepted_sending world site part accepted).1 in (
-      coherent.0,
-      sent_whole world coherent.0 part coherent.1 (λ item there. coherent.1.sites site item (sent_inside part (content_at world site) is item there)) (sent_amends part (content_at world site) is (coherent.1.sites_amend site)),
-    )
-coherent_after world (delivered site number) accepted coherent =
-    (coherent.0, joined_whole world coherent.0 site (packet_at world number) coherent.1 (coherent.1.packets number) (coherent.1.packets_amend number))
+coherent_after world step accepted coherent = (whole_after world step coherent.0, step_whole world coherent.0 step accepted coherent.1)
 
 -- a site keeps what it held
 pub grows_after : (world : World) (step : Step) → IsCoherent world → (site : ℕ) → IsPart (content_at world site) (content_at (after world step) site)
-grows_after world (added at bound) coherent site item there = kept world at (with_record (content_at world at) (next_id_at world at) (plain bound)) site item (made_grows world at (plain bound)) there
-grows_after world (finished at event time) coherent site item there =
-    kept world at (with_record (content_at world at) (next_id_at world at) (executed time event)) site item (made_grows world at (executed time event)) there
-grows_after world (amended at old bound) coherent site item there =
-    kept world at (with_amendment (content_at world at) (next_id_at world at) old bound) site item (amended_grows world coherent at old bound) there
-grows_after world (withdrew at id) coherent site item there =
-    kept world at (with_tombstone (content_at world at) id) site item (λ i h. (withdrawal_brought (content_at world at) (with_tombstone (content_at world at) id) id refl i).1 (inl h)) there
+grows_after world (changed at asked) coherent site item there =
+    kept world at (content_after (content_at world at) (change_call asked (next_id_at world at))) site item (λ i h. (changed_items world coherent at asked i).1 (inl h)) there
 grows_after world (merged at other) coherent site item there =
-    kept world at (joined_contents (content_at world at) (content_at world other)) site item
-    (λ i h. (contents_join.union (content_at world at) (content_at world other) (joined_contents (content_at world at) (content_at world other)) (sites_join world coherent at other) i).1 (inl h)) there
+    kept world at (joined_contents (content_at world at) (content_at world other)) site item (λ i h. (taken_items world coherent.0 coherent.1 at (content_at world other) (coherent.1.sites other) i).1 (inl h)) there
 grows_after world (sent at part) coherent site item there = there
 grows_after world (delivered at number) coherent site item there =
-    kept world at (joined_contents (content_at world at) (packet_at world number)) site item
-    (λ i h. (contents_join.union (content_at world at) (packet_at world number) (joined_contents (content_at world at) (packet_at world number)) (packet_joins world coherent at number) i).1 (inl h)) there
+    kept world at (joined_contents (content_at world at) (packet_at world number)) site item (λ i h. (taken_items world coherent.0 coherent.1 at (packet_at world number) (coherent.1.packets number) i).1 (inl h)) there
 
 pub nothing_at_first : (source : PlanSource) (sites site : ℕ) → content_at (opening_world source sites) site ≡ no_content
 nothing_at_first source sites site = get_or-replicate_same sites no_content (site - 1)

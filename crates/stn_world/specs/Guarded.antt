@@ -1,10 +1,10 @@
 -- Worlds whose sites hold a guard, and act within what is their own.
 use Rattle.std.specs.Prelude.{◌≡◌, ℕ, true, ◌⊎◌, List, [], ◌∷◌, ⊤}
-use Rattle.stn_net.specs.Schedule.{HasSchedule}
+use Rattle.stn_net.specs.{Difference.Difference, Schedule.HasSchedule}
 use Rattle.stn_records.specs.Content.{Content, Item, addition, withdrawal, replacement, HasItem, IsPart}
-use Rattle.stn_site.specs.Bounds.{all_bounds}
+use Rattle.stn_site.specs.{Bounds.all_bounds, declared.change.Change.TheVariants.{Add, Amend, Withdraw, Done}}
 use Rattle.stn_guard.specs.{Owners.{is_owned, own_bounds}, Guard.Guards}
-use Rattle.stn_world.specs.{World.{World, HasSite, content_at, packet_at}, Steps.{Step, added, finished, amended, withdrew, merged, sent, delivered, IsAccepted, after}}
+use Rattle.stn_world.specs.{World.{World, HasSite, content_at, packet_at}, Steps.{Step, changed, merged, sent, delivered, IsAccepted, after}}
 
 -- the item is a record of a bound that is the own of the site that made it, one of the world
 abbrev pub IsOwnItem : (ℕ → ℕ) → World → Item → Type 0
@@ -23,6 +23,10 @@ pub record HoldsGuarded (owner : ℕ → ℕ) (state : Content) (world : World) 
   pub sites : (site : ℕ) → IsBesideOwn owner world state (content_at world site)
   pub packets : (number : ℕ) → IsBesideOwn owner world state (packet_at world number)
 
+-- a site adds a bound
+abbrev pub adds_bound : ℕ → Difference → Step
+adds_bound site bound = changed site (Add bound)
+
 -- each of the steps is accepted, one after the other
 abbrev pub AllAccepted : World → List Step → Type 0
 AllAccepted world [] = ⊤
@@ -37,10 +41,10 @@ pub record HoldsAlone (state : Content) (world : World) : Type 0 where
 -- a site that adds a bound or an execution does so within what is its own, and none amends or withdraws anything; what is merged, sent and
 -- delivered is free
 abbrev pub KeepsToOwn : (ℕ → ℕ) → Step → Type 0
-KeepsToOwn owner (added site bound) = is_owned owner site bound ≡ true
-KeepsToOwn owner (finished site event time) = owner event ≡ site
-KeepsToOwn owner (amended site old bound) = ⊥
-KeepsToOwn owner (withdrew site id) = ⊥
+KeepsToOwn owner (changed site (Add bound)) = is_owned owner site bound ≡ true
+KeepsToOwn owner (changed site (Amend old bound)) = ⊥
+KeepsToOwn owner (changed site (Withdraw id)) = ⊥
+KeepsToOwn owner (changed site (Done event time)) = owner event ≡ site
 KeepsToOwn owner (merged site other) = ⊤
 KeepsToOwn owner (sent site part) = ⊤
 KeepsToOwn owner (delivered site number) = ⊤

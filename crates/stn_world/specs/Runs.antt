@@ -1,26 +1,30 @@
 -- Runs of a world, and the items that are made in them.
-use Rattle.std.specs.{Prelude.{ℕ, List, [], ◌∷◌, ◌++◌, length, filter, Bool, true, false, is_some, if◌then◌else◌}, List.Contains}
+use Rattle.std.specs.{Prelude.{ℕ, List, [], ◌∷◌, ◌++◌, length, map, filter, Bool, true, false, is_some, if◌then◌else◌}, List.Contains}
 use Rattle.stn_lift.specs.PlanSource.{PlanSource}
 use Rattle.stn_net.specs.Difference.{IsBoundWithin}
 use Rattle.stn_records.specs.{Id.SiteCounter, Record.IsProperRecord, declared.record.Record.Record, Content.{Content, Item, addition, withdrawal, replacement, HasItem}}
-use Rattle.stn_site.specs.Held.{plain, executed}
-use Rattle.stn_world.specs.{World.{World, opening_world, next_id_at, content_at}, Steps.{Step, added, finished, amended, withdrew, step_refusal, stepped, run}}
+use Rattle.stn_site.specs.{Held.{plain, executed}, declared.change.Change.{Change, TheVariants.{Add, Amend, Withdraw, Done}}}
+use Rattle.stn_world.specs.{World.{World, opening_world, next_id_at, content_at}, Steps.{Step, changed, merged, sent, delivered, step_refusal, stepped, run}}
 
 -- an item that was made, and the site that made it
 pub record Making : Type 0 where
   pub site : ℕ
   pub item : Item
 
--- what an accepted step makes: a record that is added, a record and the entry by which it replaces another, an id that is withdrawn, and any
--- other step nothing
+-- the items that a change makes, where this is the id of the record that it adds: the record, for an amendment also the entry by which it
+-- replaces another; or the withdrawal
+abbrev pub change_items : Change → SiteCounter → List Item
+change_items (Add bound) id = addition id (plain bound) ∷ []
+change_items (Amend old bound) id = addition id (plain bound) ∷ replacement id old ∷ []
+change_items (Withdraw old) id = withdrawal old ∷ []
+change_items (Done event time) id = addition id (executed time event) ∷ []
+
+-- what an accepted step makes: one that is no change makes nothing
 abbrev pub makings : World → Step → List Making
-makings world (added site bound) = record { site = site; item = addition (next_id_at world site) (plain bound) } ∷ []
-makings world (finished site event time) = record { site = site; item = addition (next_id_at world site) (executed time event) } ∷ []
-makings world (amended site old bound) =
-    record { site = site; item = addition (next_id_at world site) (plain bound) }
-    ∷ (record { site = site; item = replacement (next_id_at world site) old } ∷ [])
-makings world (withdrew site id) = record { site = site; item = withdrawal id } ∷ []
-makings world other = []
+makings world (changed site asked) = map (λ item. record { site = site; item = item }) (change_items asked (next_id_at world site))
+makings world (merged site other) = []
+makings world (sent site part) = []
+makings world (delivered site number) = []
 
 -- what a step makes: a refused one nothing
 abbrev pub made_in : World → Step → List Making

@@ -1,18 +1,13 @@
 -- The calls of a world as steps: why one is refused, what it leaves, and what it brings to each site.
-use Rattle.std.specs.{Prelude.{◌≡◌, ℕ, ℤ, ◌+◌, ◌==◌, nat_le, ◌⊎◌, ◌↔◌, Bool, not, fold, List, [], ◌∷◌, length, Option, None, option_map, is_some, unwrap_or, Result, Ok, Err, if◌then◌else◌, ⊤}, Bool.then_some, Option.option_or}
-use Rattle.stn_net.specs.Difference.{Difference}
-use Rattle.stn_records.specs.{Id.SiteCounter, Content.{Content, Item, addition, withdrawal, replacement, HasItem}}
+use Rattle.std.specs.{Prelude.{◌≡◌, ℕ, ◌+◌, ◌==◌, nat_le, ◌⊎◌, ◌↔◌, Bool, not, fold, List, [], ◌∷◌, length, Option, None, option_map, is_some, unwrap_or, Result, Ok, Err, if◌then◌else◌, ⊤}, Bool.then_some, Option.option_or}
+use Rattle.stn_records.specs.Content.{Content, Item, HasItem}
 use Rattle.stn_site.specs.declared.faults.ReplicaFault.TheVariants as replica_fault
-use Rattle.stn_site.specs.{Held.{plain, executed}, Calls.CountAlike, Refusals.{add_refusal, done_refusal, amend_refusal, withdraw_refusal, take_refusal}}
-use Rattle.stn_world.specs.{declared.faults.WorldFault.{WorldFault, TheVariants.{NoSite, TooManyPackets, NoPacket, Replica, Memory}}, Faults.of_replica_fault, Parts.is_part, World.{World, most_packets, has_site, has_packet, content_at, packet_at, held_at, next_id_at, make, amend, withdraw, merge, send, deliver}}
+use Rattle.stn_site.specs.{declared.change.Change.Change, Change.{change_call, change_refusal}, Calls.{Brought, CountAlike}, Refusals.take_refusal}
+use Rattle.stn_world.specs.{declared.faults.WorldFault.{WorldFault, TheVariants.{NoSite, TooManyPackets, NoPacket, Replica, Memory}}, Faults.of_replica_fault, Parts.is_part, World.{World, most_packets, has_site, has_packet, content_at, packet_at, held_at, next_id_at, with_call, merge, send, deliver}}
 
--- a step: a site adds a bound, records the time at which it executed an event, amends a record by another bound, withdraws an id, takes in
--- all that another holds, sends any part of what it holds, or takes in a packet, of any age
+-- a step: a site makes a change, takes in all that another holds, sends any part of what it holds, or takes in a packet, of any age
 pub data Step : Type 0 where
-  added : ℕ → Difference → Step
-  finished : ℕ → ℕ → ℤ → Step
-  amended : ℕ → SiteCounter → Difference → Step
-  withdrew : ℕ → SiteCounter → Step
+  changed : ℕ → Change → Step
   merged : ℕ → ℕ → Step
   sent : ℕ → Content → Step
   delivered : ℕ → ℕ → Step
@@ -24,10 +19,7 @@ missing world site = then_some (not (has_site world site)) NoSite
 -- the first cause that refuses the step: a site is not there, a packet is not there, or the site's replica refuses it; a site may take in
 -- what it holds itself, and sends only what it holds. Where there is none, nothing but lack of memory can stop it
 abbrev pub step_refusal : World → Step → Option WorldFault
-step_refusal world (added site bound) = option_or (missing world site) (option_map of_replica_fault (add_refusal (held_at world site) bound))
-step_refusal world (finished site event time) = option_or (missing world site) (option_map of_replica_fault (done_refusal (held_at world site) event))
-step_refusal world (amended site old bound) = option_or (missing world site) (option_map of_replica_fault (amend_refusal (held_at world site) old bound))
-step_refusal world (withdrew site id) = option_or (missing world site) (option_map of_replica_fault (withdraw_refusal (held_at world site) id))
+step_refusal world (changed site asked) = option_or (missing world site) (option_map of_replica_fault (change_refusal (held_at world site) asked))
 step_refusal world (merged site other) =
     option_or (missing world site) (option_or (missing world other)
     (if site == other then None else option_map of_replica_fault (take_refusal (held_at world site) (content_at world other))))
@@ -41,10 +33,7 @@ IsAccepted world step = step_refusal world step ≡ None
 
 -- the world that an accepted step leaves
 abbrev pub after : World → Step → World
-after world (added site bound) = make world site (plain bound)
-after world (finished site event time) = make world site (executed time event)
-after world (amended site old bound) = amend world site old bound
-after world (withdrew site id) = withdraw world site id
+after world (changed site asked) = with_call world site (change_call asked (next_id_at world site))
 after world (merged site other) = merge world site other
 after world (sent site part) = send world part
 after world (delivered site number) = deliver world site number
@@ -75,14 +64,9 @@ abbrev pub IsSending : World → Step → Option WorldFault → Result ℕ World
 IsSending old step refusal (Ok number) new = (refusal ≡ None) × IsAccepted old step × (new ≡ after old step) × (number ≡ length old.packets + 1)
 IsSending old step refusal (Err fault) new = (fault ≡ unwrap_or refusal Memory) × (new ≡ old)
 
--- the step brings the item to the site: the site's own addition, its own amendment, which is a record and its entry, its own withdrawal,
--- what another site holds, or what the packet holds
+-- the step brings the item to the site: what its own change brings, what another site holds, or what the packet holds
 abbrev pub Brings : World → Step → ℕ → Item → Type 0
-Brings world (added at bound) site item = (at ≡ site) × (item ≡ addition (next_id_at world at) (plain bound))
-Brings world (finished at event time) site item = (at ≡ site) × (item ≡ addition (next_id_at world at) (executed time event))
-Brings world (amended at old bound) site item =
-    (at ≡ site) × ((item ≡ addition (next_id_at world at) (plain bound)) ⊎ (item ≡ replacement (next_id_at world at) old))
-Brings world (withdrew at id) site item = (at ≡ site) × (item ≡ withdrawal id)
+Brings world (changed at asked) site item = (at ≡ site) × Brought (change_call asked (next_id_at world at)) item
 Brings world (merged at other) site item = (at ≡ site) × HasItem (content_at world other) item
 Brings world (sent at part) site item = ⊥
 Brings world (delivered at number) site item = (at ≡ site) × HasItem (packet_at world number) item

@@ -1,9 +1,8 @@
 -- A plan at several sites, as a value, and its changes.
 use Rattle.std.specs.{Prelude.{ℕ, ◌-◌, ◌≤◌, Bool, ◌&&◌, nat_le, List, [], ◌∷◌, ◌++◌, length, slice_index_or, slice_set, replicate, refl}, Coded.{Coded, code_by, coded×, coded_list}}
-use Rattle.stn_net.specs.Difference.{Difference}
 use Rattle.stn_lift.specs.PlanSource.{PlanSource, coded_source}
-use Rattle.stn_records.specs.{declared.record.Record.Record, Id.SiteCounter, Content.{Content, coded_content, no_content, with_record, with_tombstone, with_amendment, joined_contents}}
-use Rattle.stn_site.specs.Held.{Held, next_id}
+use Rattle.stn_records.specs.{Id.SiteCounter, Content.{Content, coded_content, no_content, with_record, with_tombstone, with_amendment, joined_contents}}
+use Rattle.stn_site.specs.{Held.{Held, next_id}, Calls.{Accepted, added, amended, withdrew, took}}
 
 -- a program keeps at most so many packets
 abbrev pub most_packets : ℕ
@@ -61,21 +60,20 @@ next_id_at world site = next_id (held_at world site)
 abbrev pub with_content : World → ℕ → Content → World
 with_content world site content = record world { sites = slice_set world.sites (site - 1) content }
 
--- a site makes a record under its next id
-abbrev pub make : World → ℕ → Record → World
-make world site made = with_content world site (with_record (content_at world site) (next_id_at world site) made)
+-- what an accepted call leaves of what a site holds
+abbrev pub content_after : Content → Accepted → Content
+content_after content (added id one) = with_record content id one
+content_after content (amended id old bound) = with_amendment content id old bound
+content_after content (withdrew id) = with_tombstone content id
+content_after content (took other) = joined_contents content other
 
--- a site makes a record of a bound under its next id, and the record replaces another
-abbrev pub amend : World → ℕ → SiteCounter → Difference → World
-amend world site old bound = with_content world site (with_amendment (content_at world site) (next_id_at world site) old bound)
-
--- a site withdraws an id
-abbrev pub withdraw : World → ℕ → SiteCounter → World
-withdraw world site id = with_content world site (with_tombstone (content_at world site) id)
+-- the world where a site has accepted a call
+abbrev pub with_call : World → ℕ → Accepted → World
+with_call world site call = with_content world site (content_after (content_at world site) call)
 
 -- a site takes in all that another holds
 abbrev pub merge : World → ℕ → ℕ → World
-merge world site other = with_content world site (joined_contents (content_at world site) (content_at world other))
+merge world site other = with_call world site (took (content_at world other))
 
 -- a packet is sent, and stays for good
 abbrev pub send : World → Content → World
@@ -83,4 +81,4 @@ send world part = record world { packets = world.packets ++ part ∷ [] }
 
 -- a site takes in all that a packet holds
 abbrev pub deliver : World → ℕ → ℕ → World
-deliver world site number = with_content world site (joined_contents (content_at world site) (packet_at world number))
+deliver world site number = with_call world site (took (packet_at world number))

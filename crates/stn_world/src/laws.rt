@@ -3,7 +3,7 @@ ghost use Rattle.stn_lift.specs.PlanSource.{PlanSource, events_of, IsSoundSource
 ghost use Rattle.stn_records.specs.{Id.SiteCounter, declared.record.Record.Record, Content.{most_known, Content, Item, addition, HasItem, is_known, is_live, dispute_contents, IsPart, CountsSame}};
 ghost use Rattle.stn_site.specs.{Calls.Replaces, Held.Held, Report.IsReport};
 ghost use Rattle.stn_guard.specs.{Adding.{owner_by, AddsGuard}, declared.owners.OwnedSteps.OwnedSteps};
-ghost use Rattle.stn_world.specs.{World.{World, HasSite, HasPacket, opening_world, held_at, content_at, packet_at}, Steps.{Step, added, merged, delivered, IsAccepted, run, Brings, TookAt, TookSameAt, TookSameItemsAt}, Guarded.{AllAccepted, HoldsAlone, HoldsGuarded, KeepsToOwn, HaveOwnSchedules, HaveSchedules}, Runs.{Making, WasMade, records_made, states_of, HasEntries, IsRecordOf, InEachRun}};
+ghost use Rattle.stn_world.specs.{World.{World, HasSite, HasPacket, opening_world, held_at, content_at, packet_at}, Steps.{Step, merged, delivered, IsAccepted, run, Brings, TookAt, TookSameAt, TookSameItemsAt}, Guarded.{adds_bound, AllAccepted, HoldsAlone, HoldsGuarded, KeepsToOwn, HaveOwnSchedules, HaveSchedules}, Runs.{Making, WasMade, records_made, states_of, HasEntries, IsRecordOf, InEachRun}};
 
 use stn_site::{one_report, same_counts_same_bytes};
 
@@ -92,8 +92,8 @@ pub fn guarded_sites_keep_schedules()
 /// guard at once.
 pub fn guards_are_steps()
     ensures { (world : World) (site : ℕ) → HasSite world site → (owned : List OwnedSteps) (ids : List SiteCounter) (new : Held)
-        → (adds : AddsGuard owned (held_at world site) ids new) → AllAccepted world (map (added site) adds.guard)
-        → content_at (run world (map (added site) adds.guard)) site ≡ new.state }
+        → (adds : AddsGuard owned (held_at world site) ids new) → AllAccepted world (map (adds_bound site) adds.guard)
+        → content_at (run world (map (adds_bound site) adds.guard)) site ≡ new.state }
 {}
 
 /// The law that a guard leads to a guarded world: take what a site of a world holds, in any run, once it added its guard. A world

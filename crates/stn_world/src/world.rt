@@ -1,7 +1,7 @@
 ghost use Rattle.std.specs.{Prelude.{◌≡◌, ◌≢◌, ◌+◌, true, ◌-◌, ◌<◌, ◌≤◌, None, unwrap_or, length, map, slice_set, MatchOption, IfSome, IsOk, IfOk, IfErr, OnOk, OnErr}, FinMap.contains_key, Rc.rc_value};
 ghost use Rattle.stn_records.specs.{Id.{most_sites, IsSite}, Content.{no_content, part_of, IsPart}};
-ghost use Rattle.stn_site.specs.{Held.difference, Calls.{took, Leaves}, Refusals.take_refusal};
-ghost use Rattle.stn_world.specs.{declared.faults.WorldFault.TheVariants.{NoSite, TooManyPackets, NoPacket, Memory}, Faults.IsOpeningFault, Parts.holds_all, Whole.held_in, Steps.{added, finished, amended, withdrew, merged, sent, delivered, IsStep, IsMergeFault, IsSending, send_refusal, IsDeliveryFault}, World.{most_packets, HasSite, HasPacket, opening_world, content_at, packet_at, next_id_at}};
+ghost use Rattle.stn_site.specs.{Held.difference, Calls.{took, Leaves}, Change.{change_id, IsAgain}, Refusals.take_refusal, declared.change.Change.TheVariants.{Add, Amend, Withdraw, Done}};
+ghost use Rattle.stn_world.specs.{declared.faults.WorldFault.TheVariants.{NoSite, TooManyPackets, NoPacket, Memory}, Faults.IsOpeningFault, Parts.holds_all, Whole.held_in, Steps.{changed, merged, sent, delivered, IsStep, IsMergeFault, IsSending, send_refusal, IsDeliveryFault}, World.{most_packets, HasSite, HasPacket, opening_world, content_at, packet_at, next_id_at}};
 
 use crate::faults::WorldFault;
 use std::alloc::Allocator;
@@ -11,7 +11,7 @@ use stn_lift::Base;
 use stn_net::Event;
 use stn_records::{Id, MOST_SITES, Records, Site};
 use stn_replica::Replica;
-use stn_site::{ReplicaFault, SiteCopy, SitePlan};
+use stn_site::{AskedBound, Change, ReplicaFault, SiteCopy, SitePlan};
 use stn_time::Ms;
 
 /// The greatest number of a packet.
@@ -137,6 +137,19 @@ impl<A: Allocator + Copy, C: SiteCopy<A>> World<A, C> {
         }
     }
 
+    /// Makes a change at a site, and returns the id of the record that it adds, or the id that it withdraws.
+    ///
+    /// Refused in this order: `NoSite`; the faults of `Replica::change`. After a fault all is as before.
+    pub fn change(&mut self, site: u32, asked: &Change) -> Result<Id, WorldFault>
+        ensures id { IfOk result (λ id. id ≡ change_id asked.now (next_id_at self.old site)) }
+        ensures step { IsStep self.old (changed site asked.now) result self.new }
+        ensures again { HasSite self.old site → IsAgain asked.now (content_at self.old site) → IsOk result × (self.new ≡ self.old) }
+    {
+        let place = self.place_of(site)?;
+        let copy = &mut self.copies[place];
+        copy.change(asked).map_err(WorldFault::from)
+    }
+
     /// Adds a bound at a site, under that site's next id, which is returned.
     ///
     /// Refused in this order: `NoSite`; the faults of `Replica::add`. After a fault all is as before.
@@ -149,11 +162,9 @@ impl<A: Allocator + Copy, C: SiteCopy<A>> World<A, C> {
         hi: Ms,
     ) -> Result<Id, WorldFault>
         ensures id { IfOk result (λ id. id ≡ next_id_at self.old site) }
-        ensures step { IsStep self.old (added site (difference from to lo hi)) result self.new }
+        ensures step { IsStep self.old (changed site (Add (difference from to lo hi))) result self.new }
     {
-        let place = self.place_of(site)?;
-        let copy = &mut self.copies[place];
-        copy.add(from, to, lo, hi).map_err(WorldFault::from)
+        self.change(site, &Change::Add(AskedBound::new(from, to, lo, hi)))
     }
 
     /// Records at a site at which time it executed an event, under that site's next id, which is
@@ -162,11 +173,9 @@ impl<A: Allocator + Copy, C: SiteCopy<A>> World<A, C> {
     /// Refused in this order: `NoSite`; the faults of `Replica::done`. After a fault all is as before.
     pub fn done(&mut self, site: u32, event: Event, time: Ms) -> Result<Id, WorldFault>
         ensures id { IfOk result (λ id. id ≡ next_id_at self.old site) }
-        ensures step { IsStep self.old (finished site event time) result self.new }
+        ensures step { IsStep self.old (changed site (Done event time)) result self.new }
     {
-        let place = self.place_of(site)?;
-        let copy = &mut self.copies[place];
-        copy.done(event, time).map_err(WorldFault::from)
+        self.change(site, &Change::Done(event, time))
     }
 
     /// Amends at a site a record that it knows: adds a bound under that site's next id, which is returned,
@@ -184,12 +193,9 @@ impl<A: Allocator + Copy, C: SiteCopy<A>> World<A, C> {
         hi: Ms,
     ) -> Result<Id, WorldFault>
         ensures id { IfOk result (λ id. id ≡ next_id_at self.old site) }
-        ensures step { IsStep self.old (amended site old (difference from to lo hi)) result self.new }
+        ensures step { IsStep self.old (changed site (Amend old (difference from to lo hi))) result self.new }
     {
-        let place = self.place_of(site)?;
-        self.copies[place]
-            .amend(old, from, to, lo, hi)
-            .map_err(WorldFault::from)
+        self.change(site, &Change::Amend(old, AskedBound::new(from, to, lo, hi)))
     }
 
     /// Withdraws at a site a record that it knows, for good; one that is withdrawn there already changes
@@ -198,11 +204,11 @@ impl<A: Allocator + Copy, C: SiteCopy<A>> World<A, C> {
     /// Refused in this order: `NoSite`; the faults of `Replica::withdraw`. After a fault all is as
     /// before.
     pub fn withdraw(&mut self, site: u32, id: Id) -> Result<(), WorldFault>
-        ensures step { IsStep self.old (withdrew site id) result self.new }
+        ensures step { IsStep self.old (changed site (Withdraw id)) result self.new }
         ensures again { HasSite self.old site → contains_key (content_at self.old site).tombstones id ≡ true → IsOk result × (self.new ≡ self.old) }
     {
-        let place = self.place_of(site)?;
-        self.copies[place].withdraw(id).map_err(WorldFault::from)
+        self.change(site, &Change::Withdraw(id))?;
+        Ok(())
     }
 
     /// Takes in at a site all that another holds. If the site holds all of it already, as when it merges

@@ -1,6 +1,5 @@
-use Rattle.std.{proofs.{Common.{◌≡◌, set, ◌∙◌, map, ap}, lemmas.Result.on_err_weaker}, specs.{Prelude.⊤, Rc.rc_value}}
-use Rattle.stn_site.specs.Refusals.{take_refusal}
-use Rattle.stn_site.specs.Calls as call
+use Rattle.std.{proofs.{Common.{◌≡◌, Result, Ok, Err, set, ◌∙◌, map, ap}, lemmas.Result.on_err_weaker}, specs.{Prelude.{⊤, IfOk}, Rc.rc_value}}
+use Rattle.stn_site.specs.{Calls.took, Refusals.take_refusal}
 use Rattle.stn_world.{specs.{Steps.delivered, World.packet_at}, proofs.{Sites.{part_there, packet_there}, Calls.{IsPlaced, IsAnswer, IsTaken, held, deliver_taken, deliver_agreed}, world.World.deliver.Given.Over}}
 use Rattle.stn_world.proofs.Copies as copy
 use Rattle.stn_world.proofs.world.World.deliver.Goals as goal
@@ -11,8 +10,12 @@ placed g c = copy.placed g.C.SiteCopy.held c.self.inside.copies.items c.index_mu
 packet : (g : Over) (c : goal.After-map_err g) → c.index.result.now ≡ packet_at c.args.self.now c.args.packet
 packet g c = packet_there c.args.self.now _ (map g.C.SiteCopy.held c.self.inside.copies.items) c.in_ok-from.from c.args.packet c.index.result.now c.self.view_is c.in_ok-from.ensures.place c.in_ok-from.ensures.there c.index.ensures
 
-answer : (g : Over) (c : goal.After-map_err g) → IsAnswer (g.C.SiteCopy.held c.index_mut.result.now) (take_refusal (g.C.SiteCopy.held c.index_mut.result.now) c.index.result.now) (λ _. call.took c.index.result.now) c.take.result (g.C.SiteCopy.held c.take.new.self) c.map_err.result
-answer g c = record { free = c.take.ensures.accepted; leaves = c.take.ensures.leaves; fault = c.take.ensures.fault; kept = on_err_weaker c.take.result (λ same. ap g.C.SiteCopy.held same) c.take.ensures.kept; same = c.map_err.ensures.cases }
+given : {T E : Type 0} (r : Result T E) → IfOk r (λ _. ⊤)
+given (Ok x) = tt
+given (Err e) = tt
+
+answer : (g : Over) (c : goal.After-map_err g) → IsAnswer (g.C.SiteCopy.held c.index_mut.result.now) (take_refusal (g.C.SiteCopy.held c.index_mut.result.now) c.index.result.now) (λ _. took c.index.result.now) (λ _. ⊤) c.take.result (g.C.SiteCopy.held c.take.new.self) c.map_err.result
+answer g c = record { free = c.take.ensures.accepted; leaves = c.take.ensures.leaves; given = given c.take.result; fault = c.take.ensures.fault; kept = on_err_weaker c.take.result (λ same. ap g.C.SiteCopy.held same) c.take.ensures.kept; same = c.map_err.ensures.cases }
 
 taken : (g : Over) (c : goal.After-map_err g)
     → IsTaken c.args.self.now (rc_value c.self.inside.base) (map g.C.SiteCopy.held (set c.self.inside.copies.items c.in_ok-place.place c.take.new.self)) c.self.inside.packets.items (delivered c.args.site c.args.packet) (λ _. ⊤) c.map_err.result
