@@ -1,10 +1,10 @@
 -- What the searches of a plan's bounds find of the events that are left.
-use Rattle.std.{proofs.{Common.{◌≡◌, inl, inr, ℕ, ℤ, ◌+◌, ◌<◌, ◌≤◌, ◌≤ℤ◌, ◌<ℤ◌, Bool, true, false, List, [], ◌∷◌, ◌++◌, length, Option, Some, None, refl, sym, ap, subst, ◌∙◌, arith}, lemmas.{Option.MatchOption-at_some, Int.{ints, by_lt_z}, Bool.cases_lt, List.Elements.{All-append, All-nil}}}, specs.Prelude.{Vec, All, Result, Ok, Err, IfOk, MatchOption, is_some, int_le}}
+use Rattle.std.{proofs.{Common.{◌≡◌, inl, inr, ℕ, ℤ, ◌+◌, ◌<◌, ◌≤◌, ◌≤ℤ◌, ◌<ℤ◌, Bool, true, List, [], ◌∷◌, ◌++◌, length, Option, Some, None, refl, sym, ap, subst, ◌∙◌, arith}, lemmas.{Option.MatchOption-at_some, Int.{ints}, Bool.cases_lt, List.Elements.{All-append, All-nil}}}, specs.Prelude.{Vec, All, Result, Ok, Err, IfOk, MatchOption, is_some}}
 use Rattle.stn_net.{specs.{Event.most_events, Difference.{Difference, NamesEvents}, Schedule.{HasSchedule, times_of}, Windows.{Dispatch.{IsLeft, IsReady, AreReadyTimes, CanWaitUntil}, Leading.IsLeastLatest, Soonest.{AreEarliest, AreLatest, AreSoonest}}}, proofs.Readiness.left_within}
 use Rattle.stn_lift.specs.PlanSource.{PlanSource, base_bounds, events_of, IsSoundSource}
 use Rattle.stn_records.specs.Content.{Content}
 use Rattle.stn_site.specs.Bounds.{all_bounds, live_bounds}
-use Rattle.stn_questions.{specs.{declared.ready_event.ReadyEvent.ReadyEvent, Foresight.{AreSoonestOf, earlier_time}, Ready.AreReadyEvents}, proofs.ReadyLists.{counted, pushed_other, pushed_same}}
+use Rattle.stn_questions.{specs.{declared.ready_event.ReadyEvent.ReadyEvent, Foresight.{AreSoonestOf}, Ready.AreReadyEvents}, proofs.ReadyLists.{counted, pushed_other, pushed_same}}
 
 -- the soonest times by the bounds that were searched are those of the plan's
 pub soonest_found : {A E : Type 0} (bounds all : List Difference) (events count : ℕ) (done : List Bool) (now : ℤ) (result : Result (Option (Vec ℤ A)) E) → bounds ≡ all → events ≡ count → events ≤ most_events
@@ -74,25 +74,26 @@ ready_kept bounds done now ready number event is never each other time below lat
 ]
 
 -- the times by the bounds that were searched are those of the plan's bounds
-module _ {A : Type 0} (bounds all : List Difference) (events count : ℕ) (found : Option (Vec ℤ A)) (times : Vec ℤ A) (same : bounds ≡ all) (many : events ≡ count) (is : found ≡ Some times) where
-  pub found_earliest : MatchOption found (¬ HasSchedule bounds) (λ found_times. (length found_times.items ≡ events + 1) × AreEarliest bounds events (times_of found_times.items))
-      → (length times.items ≡ count + 1) × AreEarliest all count (times_of times.items)
+module _ {A : Type 0} (bounds all : List Difference) (events count : ℕ) (found : Option (Vec ℤ A × Vec ℤ A)) (both : Vec ℤ A × Vec ℤ A) (same : bounds ≡ all) (many : events ≡ count) (is : found ≡ Some both) where
+  pub found_earliest : MatchOption found (¬ HasSchedule bounds) (λ times. (length times.0.items ≡ events + 1) × AreEarliest bounds events (times_of times.0.items))
+      → (length both.0.items ≡ count + 1) × AreEarliest all count (times_of both.0.items)
   found_earliest told =
-      let (long, are) = MatchOption-at_some (¬ HasSchedule bounds) (λ found_times. (length found_times.items ≡ events + 1) × AreEarliest bounds events (times_of found_times.items)) times is told in
-      (long ∙ ap (λ n. n + 1) many, subst (λ n. AreEarliest all n (times_of times.items)) many (subst (λ bs. AreEarliest bs events (times_of times.items)) same are))
+      let (long, are) = MatchOption-at_some (¬ HasSchedule bounds) (λ (times : Vec ℤ A × Vec ℤ A). (length times.0.items ≡ events + 1) × AreEarliest bounds events (times_of times.0.items)) both is told in
+      (long ∙ ap (λ n. n + 1) many, subst (λ n. AreEarliest all n (times_of both.0.items)) many (subst (λ bs. AreEarliest bs events (times_of both.0.items)) same are))
 
-  pub found_latest : MatchOption found (¬ HasSchedule bounds) (λ found_times. (length found_times.items ≡ events + 1) × AreLatest bounds events (times_of found_times.items))
-      → (length times.items ≡ count + 1) × AreLatest all count (times_of times.items)
+  pub found_latest : MatchOption found (¬ HasSchedule bounds) (λ times. (length times.1.items ≡ events + 1) × AreLatest bounds events (times_of times.1.items))
+      → (length both.1.items ≡ count + 1) × AreLatest all count (times_of both.1.items)
   found_latest told =
-      let (long, are) = MatchOption-at_some (¬ HasSchedule bounds) (λ found_times. (length found_times.items ≡ events + 1) × AreLatest bounds events (times_of found_times.items)) times is told in
-      (long ∙ ap (λ n. n + 1) many, subst (λ n. AreLatest all n (times_of times.items)) many (subst (λ bs. AreLatest bs events (times_of times.items)) same are))
+      let (long, are) = MatchOption-at_some (¬ HasSchedule bounds) (λ (times : Vec ℤ A × Vec ℤ A). (length times.1.items ≡ events + 1) × AreLatest bounds events (times_of times.1.items)) both is told in
+      (long ∙ ap (λ n. n + 1) many, subst (λ n. AreLatest all n (times_of both.1.items)) many (subst (λ bs. AreLatest bs events (times_of both.1.items)) same are))
 
-  pub found_soonest : (done : List Bool) (now : ℤ)
-      → MatchOption found (¬ CanWaitUntil bounds done now) (λ found_times. (length found_times.items ≡ events + 1) × AreSoonest bounds done now (times_of found_times.items))
-      → (length times.items ≡ count + 1) × AreSoonest all done now (times_of times.items)
-  found_soonest done now told =
-      let (long, are) = MatchOption-at_some (¬ CanWaitUntil bounds done now) (λ found_times. (length found_times.items ≡ events + 1) × AreSoonest bounds done now (times_of found_times.items)) times is told in
-      (long ∙ ap (λ n. n + 1) many, subst (λ bs. AreSoonest bs done now (times_of times.items)) same are)
+pub found_soonest : {A : Type 0} (bounds all : List Difference) (events count : ℕ) (found : Option (Vec ℤ A)) (times : Vec ℤ A) (same : bounds ≡ all) (many : events ≡ count) (is : found ≡ Some times)
+    (done : List Bool) (now : ℤ)
+    → MatchOption found (¬ CanWaitUntil bounds done now) (λ found_times. (length found_times.items ≡ events + 1) × AreSoonest bounds done now (times_of found_times.items))
+    → (length times.items ≡ count + 1) × AreSoonest all done now (times_of times.items)
+found_soonest bounds all events count found times same many is done now told =
+    let (long, are) = MatchOption-at_some (¬ CanWaitUntil bounds done now) (λ found_times. (length found_times.items ≡ events + 1) × AreSoonest bounds done now (times_of found_times.items)) times is told in
+    (long ∙ ap (λ n. n + 1) many, subst (λ bs. AreSoonest bs done now (times_of times.items)) same are)
 
 -- bounds and live records' bounds, one after the other
 pub all_in : (source : PlanSource) (state : Content) (front back live : List Difference) → front ≡ base_bounds source → back ≡ live → live ≡ live_bounds state → front ++ back ≡ all_bounds source state

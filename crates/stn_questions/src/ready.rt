@@ -7,7 +7,7 @@ ghost use Rattle.stn_questions.specs.{Foresight.earlier_time, Ready.{AreReadyEve
 use crate::foresight::next_with;
 use crate::ready_event::ReadyEvent;
 use std::alloc::Allocator;
-use stn_conflict::{earliest, latest, soonest};
+use stn_conflict::{earliest_and_latest, soonest};
 use stn_net::{Event, Next, is_left};
 use stn_site::SitePlan;
 use stn_time::{Memory, Ms};
@@ -111,8 +111,8 @@ fn ready_events<A: Allocator + Copy>(
     let live = plan.live_bounds()?;
     let events = plan.base().events();
     let bounds = plan.base().bounds();
-    let first_times = earliest(plan.alloc(), events, bounds, &live)?.unwrap();
-    let last_times = latest(plan.alloc(), events, bounds, &live)?.unwrap();
+    let found = earliest_and_latest(plan.alloc(), events, bounds, &live)?;
+    let (first_times, last_times) = found.unwrap();
     let Some(last) = least_left(&last_times, done) else {
         return Ok(Vec::new(plan.alloc()));
     };

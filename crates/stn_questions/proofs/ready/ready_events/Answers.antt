@@ -11,14 +11,14 @@ returns-then-lt g c =
     let state = c.args.plan.now.state in
     let own = c.bounds-bounds.ensures.value ∙ ap base_bounds c.base-2.ensures in
     let events = c.events-events.ensures.value ∙ ap events_of c.base.ensures in
-    let all = all_in source state c.bounds-bounds.result.now c.deref-2.result.now c.in_ok-live.live.items own c.deref-2.ensures.value c.in_ok-live.ensures.value in
-    let last : (length c.unwrap-last_times.result.items ≡ events_of source + 1) × AreLatest (all_bounds source state) (events_of source) (times_of c.unwrap-last_times.result.items) =
-    found_latest _ _ _ _ c.in_ok-latest.field-0 c.unwrap-last_times.result all events c.unwrap-last_times.ensures c.in_ok-latest.ensures in
-    let least : IsLeastLatest (times_of c.unwrap-last_times.result.items) c.args.done.now c.in-Some.last = rw c.deref-3.ensures.value at c.in-Some.ensures in
+    let all = all_in source state c.bounds-bounds.result.now c.deref.result.now c.in_ok-live.live.items own c.deref.ensures.value c.in_ok-live.ensures.value in
+    let last : (length c.unwrap-first_times.result.1.items ≡ events_of source + 1) × AreLatest (all_bounds source state) (events_of source) (times_of c.unwrap-first_times.result.1.items) =
+    found_latest _ _ _ _ c.in_ok-found.found c.unwrap-first_times.result all events c.unwrap-first_times.ensures c.in_ok-found.ensures.latest in
+    let least : IsLeastLatest (times_of c.unwrap-first_times.result.1.items) c.args.done.now c.in-Some.last = rw c.deref-2.ensures.value at c.in-Some.ensures in
     let past : c.in-Some.last <ℤ c.args.now = (let lt = sym c.lt.ensures ∙ c.if-lt.true in grind (arith, ints)) in
     subst (AreReadyEvents (all_bounds source state) c.args.done.now c.args.now) (sym c.new-then-lt.ensures.items)
     (none_ready (all_bounds source state) c.args.done.now c.args.now
-    (none_after_last (all_bounds source state) (events_of source) c.args.done.now (times_of c.unwrap-last_times.result.items) c.args.now c.in-Some.last last.1 c.requires.one_each least past))
+    (none_after_last (all_bounds source state) (events_of source) c.args.done.now (times_of c.unwrap-first_times.result.1.items) c.args.now c.in-Some.last last.1 c.requires.one_each least past))
 
 pub unwrap-times-requires : goal.unwrap-times-requires
 unwrap-times-requires g c =
@@ -26,13 +26,13 @@ unwrap-times-requires g c =
     let state = c.args.plan.now.state in
     let own = c.bounds-bounds.ensures.value ∙ ap base_bounds c.base-2.ensures in
     let events = c.events-events.ensures.value ∙ ap events_of c.base.ensures in
-    let all = all_in source state c.bounds-bounds.result.now c.deref-2.result.now c.in_ok-live.live.items own c.deref-2.ensures.value c.in_ok-live.ensures.value in
-    let whole = all_in source state c.bounds-bounds.result.now c.deref-4.result.now c.in_ok-live.live.items own c.deref-4.ensures.value c.in_ok-live.ensures.value in
-    let last : (length c.unwrap-last_times.result.items ≡ events_of source + 1) × AreLatest (all_bounds source state) (events_of source) (times_of c.unwrap-last_times.result.items) =
-    found_latest _ _ _ _ c.in_ok-latest.field-0 c.unwrap-last_times.result all events c.unwrap-last_times.ensures c.in_ok-latest.ensures in
-    let least : IsLeastLatest (times_of c.unwrap-last_times.result.items) c.args.done.now c.in-Some.last = rw c.deref-3.ensures.value at c.in-Some.ensures in
+    let all = all_in source state c.bounds-bounds.result.now c.deref.result.now c.in_ok-live.live.items own c.deref.ensures.value c.in_ok-live.ensures.value in
+    let whole = all_in source state c.bounds-bounds.result.now c.deref-3.result.now c.in_ok-live.live.items own c.deref-3.ensures.value c.in_ok-live.ensures.value in
+    let last : (length c.unwrap-first_times.result.1.items ≡ events_of source + 1) × AreLatest (all_bounds source state) (events_of source) (times_of c.unwrap-first_times.result.1.items) =
+    found_latest _ _ _ _ c.in_ok-found.found c.unwrap-first_times.result all events c.unwrap-first_times.ensures c.in_ok-found.ensures.latest in
+    let least : IsLeastLatest (times_of c.unwrap-first_times.result.1.items) c.args.done.now c.in-Some.last = rw c.deref-2.ensures.value at c.in-Some.ensures in
     let named = all_named source state (subst IsSoundSource c.base-2.ensures c.bounds-bounds.ensures.sound) c.in_ok-live.ensures.named in
-    let waits = none_past_waits (all_bounds source state) (events_of source) (times_of c.unwrap-last_times.result.items) c.args.done.now last.1 c.requires.one_each c.in-Some.last named least.least in
+    let waits = none_past_waits (all_bounds source state) (events_of source) (times_of c.unwrap-first_times.result.1.items) c.args.done.now last.1 c.requires.one_each c.in-Some.last named least.least in
     there_unless c.in_ok-soonest.field-0 _ _ c.in_ok-soonest.ensures (λ none. none (subst (λ bounds. CanWaitUntil bounds c.args.done.now c.in-Some.last) (sym whole) waits))
 
 pub returns : goal.returns
@@ -42,18 +42,17 @@ returns g c =
     let own = c.bounds-bounds.ensures.value ∙ ap base_bounds c.base-2.ensures in
     let events = c.events-events.ensures.value ∙ ap events_of c.base.ensures in
     let front = all_in source state c.bounds-bounds.result.now c.deref.result.now c.in_ok-live.live.items own c.deref.ensures.value c.in_ok-live.ensures.value in
-    let middle = all_in source state c.bounds-bounds.result.now c.deref-2.result.now c.in_ok-live.live.items own c.deref-2.ensures.value c.in_ok-live.ensures.value in
-    let whole = all_in source state c.bounds-bounds.result.now c.deref-4.result.now c.in_ok-live.live.items own c.deref-4.ensures.value c.in_ok-live.ensures.value in
-    let first : (length c.unwrap-first_times.result.items ≡ events_of source + 1) × AreEarliest (all_bounds source state) (events_of source) (times_of c.unwrap-first_times.result.items) =
-    found_earliest _ _ _ _ c.in_ok-earliest.field-0 c.unwrap-first_times.result front events c.unwrap-first_times.ensures c.in_ok-earliest.ensures in
-    let last : (length c.unwrap-last_times.result.items ≡ events_of source + 1) × AreLatest (all_bounds source state) (events_of source) (times_of c.unwrap-last_times.result.items) =
-    found_latest _ _ _ _ c.in_ok-latest.field-0 c.unwrap-last_times.result middle events c.unwrap-last_times.ensures c.in_ok-latest.ensures in
+    let whole = all_in source state c.bounds-bounds.result.now c.deref-3.result.now c.in_ok-live.live.items own c.deref-3.ensures.value c.in_ok-live.ensures.value in
+    let first : (length c.unwrap-first_times.result.0.items ≡ events_of source + 1) × AreEarliest (all_bounds source state) (events_of source) (times_of c.unwrap-first_times.result.0.items) =
+    found_earliest _ _ _ _ c.in_ok-found.found c.unwrap-first_times.result front events c.unwrap-first_times.ensures c.in_ok-found.ensures.earliest in
+    let last : (length c.unwrap-first_times.result.1.items ≡ events_of source + 1) × AreLatest (all_bounds source state) (events_of source) (times_of c.unwrap-first_times.result.1.items) =
+    found_latest _ _ _ _ c.in_ok-found.found c.unwrap-first_times.result front events c.unwrap-first_times.ensures c.in_ok-found.ensures.latest in
     let soon : (length c.unwrap-times.result.items ≡ events_of source + 1) × AreSoonest (all_bounds source state) c.args.done.now c.in-Some.last (times_of c.unwrap-times.result.items) =
     found_soonest _ _ _ _ c.in_ok-soonest.field-0 c.unwrap-times.result whole events c.unwrap-times.ensures c.args.done.now c.in-Some.last c.in_ok-soonest.ensures in
-    let least : IsLeastLatest (times_of c.unwrap-last_times.result.items) c.args.done.now c.in-Some.last = rw c.deref-3.ensures.value at c.in-Some.ensures in
+    let least : IsLeastLatest (times_of c.unwrap-first_times.result.1.items) c.args.done.now c.in-Some.last = rw c.deref-2.ensures.value at c.in-Some.ensures in
     let named = all_named source state (subst IsSoundSource c.base-2.ensures c.bounds-bounds.ensures.sound) c.in_ok-live.ensures.named in
-    let at : AreReadyAt (all_bounds source state) (events_of source) c.args.done.now (times_of c.unwrap-first_times.result.items) (times_of c.unwrap-last_times.result.items) (times_of c.unwrap-times.result.items) c.in-Some.last =
+    let at : AreReadyAt (all_bounds source state) (events_of source) c.args.done.now (times_of c.unwrap-first_times.result.0.items) (times_of c.unwrap-first_times.result.1.items) (times_of c.unwrap-times.result.items) c.in-Some.last =
     record { named = named; one_each = c.requires.one_each; earliest = first.1; latest = last.1; least = least; soonest = soon.1 } in
     let in_time : c.args.now ≤ℤ c.in-Some.last = (let lt = sym c.lt.ensures ∙ c.if-lt.false in grind (arith, ints)) in
     IfOk-weaker c.ready_until.result _ _ (λ ready told.
-    told (all_bounds source state) (events_of source) (times_of c.unwrap-last_times.result.items) (rw (c.deref-5.ensures.value, c.deref-6.ensures.value) at) in_time) c.ready_until.ensures
+    told (all_bounds source state) (events_of source) (times_of c.unwrap-first_times.result.1.items) (rw (c.deref-4.ensures.value, c.deref-5.ensures.value) at) in_time) c.ready_until.ensures
