@@ -17,3 +17,5 @@ pub mod Robustness
 pub mod OneLoosened
 pub mod Sides
 pub mod MadeRobust
+pub mod StartCycles
+pub mod StartBounds

@@ -67,7 +67,7 @@ module _ {source : PlanSource} {slack : Slack} {loosened : List Difference} {eve
       (subst (λ l. HasSchedule l) (append_assoc (horizon_bounds (events_of source)) loosened (moved_bounds (loose_durations slack source) (p.are.made.kept ++ horizon_bounds (events_of source)))) s)))
   cause_after Memory none = tt
 
-sides_named : (durations : List Difference) → AreSteps 0 durations → (events : ℕ) (bounds : List Difference) → AllByRecursion (NamesEvents events) bounds
+pub sides_named : (durations : List Difference) → AreSteps 0 durations → (events : ℕ) (bounds : List Difference) → AllByRecursion (NamesEvents events) bounds
     → AllByRecursion (NamesEvents events) (moved_bounds durations bounds)
 sides_named durations are events [] named = tt
 sides_named durations are events (bound ∷ bounds) named =

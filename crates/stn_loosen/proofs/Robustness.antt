@@ -4,7 +4,7 @@ use Rattle.stn_net.{proofs.Widest.horizon_each, specs.{Difference.Difference, Ho
 use Rattle.stn_time.{specs.Time.horizon, proofs.Each.{All-left, All-right, each_joined}}
 use Rattle.stn_lift.specs.{BaseBounds.{step_of, order_bound, pair_order, event_orders, orders, events_interfere, event_times}, PlanSource.{PlanSource, bare, files, events_of, planned_of, activities_of, IsSoundSource}}
 use Rattle.stn_replica.proofs.Schedules.{schedule_before, met_behind, schedule_with}
-use Rattle.stn_loosen.{specs.{Slack.{Slack, IsSlack}, Promise.Promises, Moved.moved_bounds, Robust.{loose_bounds, HasPromise, AreRobust}, Loosened.{orders_of, Imply, AreKept, bounds_with, loose_durations, AreMadeOf}}, proofs.{Kept.{kept_hold, all_implied}, Looser.{within, loose_durations_met, orders_named}, Orders.orders_implied, Steps.{source_steps, steps_apart}, Runs.IsRobust, Settings.{AreApart, IsMetIn, each_weaker, start_kept, durations_kept, moved_promise, moved_alike, latest_at, latest_keeps, promise_met, promise_origin}}}
+use Rattle.stn_loosen.{specs.{Slack.{Slack, IsSlack}, Promise.{Promises, still, setting_of}, Moved.moved_bounds, Fragile.start_bounds, Robust.{loose_bounds, HasPromise, AreRobust}, Loosened.{orders_of, Imply, AreKept, bounds_with, loose_durations, AreMadeOf}}, proofs.{Kept.{kept_hold, all_implied}, Looser.{within, loose_durations_met, orders_named}, Orders.orders_implied, Steps.{source_steps, steps_apart}, Runs.IsRobust, Settings.{AreApart, IsMetIn, each_weaker, start_kept, start_within, durations_kept, moved_promise, moved_alike, latest_at, latest_keeps, promise_met, promise_origin}}}
 
 -- an order is between two events
 abbrev Differs : Difference → Type 0
@@ -99,6 +99,53 @@ module _ (source : PlanSource) (sound : IsSoundSource source) (slack : Slack) (i
       met = All-from_recursion (Meets promised) (moved_bounds durations (orders_of source ++ horizons))
           (sides_met (orders_of source ++ horizons) (each_joined IsMoved (orders_of source) horizons moved_orders moved_horizons));
     }
+
+    -- each end at the time of its start
+    abbrev at_starts : ℕ → ℤ
+    at_starts event = promised (setting_of (loose_durations slack source) event).from
+
+    moved_met : (others : List Difference) → AllByRecursion IsMoved others → AllByRecursion (Meets at_starts) (moved_bounds (loose_durations slack source) others)
+    moved_met others all =
+        moved_alike durations apart promised at_starts (λ event. ap (λ (b : Difference). promised b.from) (apart.starts event)) others (sides_met others all)
+
+    -- a duration is moved to its start, from which it is no time
+    lasts_met : (others : List Difference) → AllByRecursion (λ (d : Difference). setting_of (loose_durations slack source) d.to ≡ d) others
+        → AllByRecursion (Meets at_starts) (moved_bounds (loose_durations slack source) others)
+    lasts_met [] own = tt
+    lasts_met (d ∷ others) own =
+        let start : setting_of durations d.from ≡ still d.from = subst (λ (b : Difference). setting_of durations b.from ≡ still b.from) own.0 (apart.starts d.to) in
+        let from = ap (λ (b : Difference). at_starts b.from) start in
+        let to = ap (λ (b : Difference). at_starts b.from) own.0 in (
+          (omega (arith, ints, from, to), omega (arith, ints, from, to, ap (λ (b : Difference). b.hi) own.0, ap (λ (b : Difference). b.lo) start)),
+          (
+            (omega (arith, ints, from, to, ap (λ (b : Difference). b.lo) own.0, ap (λ (b : Difference). b.hi) start), omega (arith, ints, from, to)),
+            lasts_met others own.1,
+          ),
+        )
+
+    moved_joined : (some others : List Difference) → AllByRecursion (Meets at_starts) (moved_bounds (loose_durations slack source) some)
+        → AllByRecursion (Meets at_starts) (moved_bounds (loose_durations slack source) others) → AllByRecursion (Meets at_starts) (moved_bounds (loose_durations slack source) (some ++ others))
+    moved_joined [] others first second = second
+    moved_joined (bound ∷ some) others first second = (first.0, (first.1.0, moved_joined some others first.1.1 second))
+
+    horizon_kept : All (Meets at_starts) (horizon_bounds (events_of source))
+    horizon_kept = horizon_each (Meets at_starts) (events_of source) (λ event apart_from last.
+        let within_horizons = within_horizon (durations ++ orders_of source) in
+        let here = start_within durations apart promised (loose_bounds source slack) promise (events_of source) within_horizons event last in
+        let origin = ap (λ (b : Difference). promised b.from) apart.origin in
+        (omega (arith, ints, here.0, origin, promise_schedule.origin), omega (arith, ints, here.1, origin, promise_schedule.origin)))
+
+    pub starts_schedule : HasSchedule (start_bounds source slack)
+    starts_schedule = (
+      at_starts,
+      record {
+        origin = ap (λ (b : Difference). promised b.from) apart.origin ∙ promise_schedule.origin;
+        met = All-append (Meets at_starts) horizons (moved_bounds durations (horizons ++ (durations ++ orders_of source))) horizon_kept
+            (All-from_recursion (Meets at_starts) (moved_bounds durations (horizons ++ (durations ++ orders_of source)))
+            (moved_joined horizons (durations ++ orders_of source) (moved_met horizons moved_horizons)
+            (moved_joined durations (orders_of source) (lasts_met durations apart.own) (moved_met (orders_of source) moved_orders))));
+      },
+    )
 
     -- the times at which all durations are shortest
     shortest : ℕ → ℤ

@@ -128,7 +128,7 @@ module _ (durations : List Difference) (apart : AreApart durations) where
     module _ (bounds : List Difference) (is : Promises durations bounds promised) (events : ℕ)
         (within : (time : ℕ → ℤ) → IsSchedule bounds time → (event : ℕ) → event ≤ events → (pos 0 ≤ℤ time event) × (time event ≤ℤ horizon)) where
       -- the starts are promised within the horizon
-      start_within : (event : ℕ) → event ≤ events → (pos 0 ≤ℤ promised (setting_of durations event).from) × (promised (setting_of durations event).from ≤ℤ horizon)
+      pub start_within : (event : ℕ) → event ≤ events → (pos 0 ≤ℤ promised (setting_of durations event).from) × (promised (setting_of durations event).from ≤ℤ horizon)
       start_within event last =
           let there = within (latest_at 0) (is (latest_at 0) (latest_keeps 0)) (setting_of durations event).from (omega (arith, apart.earlier event, last)) in
           let same = start_kept promised (latest_at 0) (latest_keeps 0) event in

@@ -22,7 +22,7 @@ AreKept-join bounds (side ∷ first) second one other kept are =
     kept
 
 -- no two events are farther apart than the horizon
-apart_within : (events : ℕ) (records : List Difference) (bound : Difference) → NamesEvents events bound → (time : ℕ → ℤ) → IsSchedule (made_bounds events records) time
+pub apart_within : (events : ℕ) (records : List Difference) (bound : Difference) → NamesEvents events bound → (time : ℕ → ℤ) → IsSchedule (made_bounds events records) time
     → (neg_ℤ horizon ≤ℤ (time bound.to -ℤ time bound.from)) × ((time bound.to -ℤ time bound.from) ≤ℤ horizon)
 apart_within events records bound named time s =
     let met : All (Meets time) (horizon_bounds events) = All-left (Meets time) (horizon_bounds events) records s.met in

@@ -3,6 +3,8 @@ pub mod Loosened
 pub mod Promise
 pub mod Moved
 pub mod Robust
+pub mod Fragile
+pub mod Starting
 pub mod Run
 pub mod Faults
 pub mod Numbered

@@ -1,7 +1,8 @@
 ghost use Rattle.std.specs.Prelude.{◌≡◌, ◌≢◌, ◌↔◌, ◌-ℤ◌, ◌≤ℤ◌, ◌++◌, ℕ, ℤ, List, All, Contains};
 ghost use Rattle.stn_net.specs.{Difference.Difference, Horizon.horizon_bounds, Schedule.{IsSchedule, HasSchedule}, Windows.Window.IsInWindow};
 ghost use Rattle.stn_lift.specs.PlanSource.{PlanSource, events_of, IsSoundSource};
-ghost use Rattle.stn_loosen.specs.{Slack.{Slack, IsSlack}, Loosened.{orders_of, bounds_with, loose_durations, AreLoosened, AreFewLoosened, AreTooMany}, Promise.Promises, Moved.moved_bounds, Robust.{loose_bounds, HasPromise, AreRobust}, Run.{Execution, executed_bounds, IsExecution}};
+ghost use Rattle.stn_conflict.specs.{declared.links.Link.Link, Arcs.IsNegativeCycle};
+ghost use Rattle.stn_loosen.specs.{Slack.{Slack, IsSlack}, Loosened.{orders_of, bounds_with, loose_durations, AreLoosened, AreFewLoosened, AreTooMany}, Promise.Promises, Moved.moved_bounds, Fragile.start_bounds, Robust.{loose_bounds, HasPromise, AreRobust}, Run.{Execution, executed_bounds, IsExecution}};
 
 /// The law that a plan and a tolerance have one loosened plan.
 pub fn one_loosened_plan()
@@ -26,6 +27,13 @@ pub fn promises_are_schedules_of_starts()
     ensures { (source : PlanSource) → (slack : Slack) → IsSoundSource source → IsSlack slack → (promised : ℕ → ℤ)
         → (Promises (loose_durations slack source) (loose_bounds source slack) promised
         ↔ IsSchedule (moved_bounds (loose_durations slack source) (orders_of source ++ horizon_bounds (events_of source))) promised) }
+{}
+
+/// The law of what is told of a plan that is not robust: where links of the bounds on starts are a closed chain with a negative sum, there
+/// is no promise.
+pub fn fragile_plans_have_no_promise()
+    ensures { (source : PlanSource) → (slack : Slack) → (links : List Link) → IsSoundSource source → IsSlack slack
+        → IsNegativeCycle (start_bounds source slack) links → ¬ HasPromise source slack }
 {}
 
 /// The law of the robust plan: it has a schedule if and only if the loosened plan has a promise; each of its schedules is a promise of

@@ -57,7 +57,7 @@ impl Span {
 }
 
 // What sets an event: the duration of the step that it ends; any other event is set by itself.
-fn setting_of(durations: &[Bound], event: Event) -> Span
+pub(crate) fn setting_of(durations: &[Bound], event: Event) -> Span
     requires { AreSteps 0 durations.now }
     ensures value { as_bound result ≡ setting_of durations.now event }
     ensures lo { IsWithinHorizon result.lo }

@@ -1,0 +1,185 @@
+-- Bounds on starts of which a search takes some.
+use Rattle.std.proofs.{Common.{◌≡◌, ◌≢◌, inl, inr, ℕ, ◌+◌, ◌<◌, ◌≤◌, ℤ, pos, neg_ℤ, ◌+ℤ◌, ◌-ℤ◌, ◌≤ℤ◌, ◌<ℤ◌, Bool, true, false, eqb, ltb, Ordering, Less, Equal, Greater, List, [], ◌∷◌, ◌++◌, length, map, take, get_or, refl, sym, ap, subst, ◌∙◌, arith, append_assoc, append-nil, length-append, All}, lemmas.{Bool.Decides.nat_tests, Int.ints, List.{take_more, take_all, length-map, get_or_append_left, get_or_push, get_or-take, Elements.{All-nil, All-head, All-push}}}}
+use Rattle.std.specs.{Ordering.{int_cmp, MatchOrdering}, Cmp.int_ranks}
+use Rattle.stn_time.specs.Time.{horizon}
+use Rattle.stn_net.{specs.{Difference.{Difference, NamesEvents}, Horizon.horizon_bounds, Schedule.{Meets, IsSchedule, HasSchedule}}, proofs.Horizons.{length-horizon_bounds, known_within}}
+use Rattle.stn_conflict.specs.{declared.links.{Link.Link, Side.{Side, TheVariants.{Upper, Lower}}}, Arcs.{Arc, arc, arc_of, bound_at, IsChain, weight_of, IsNegativeCycle}}
+use Rattle.stn_replica.proofs.Schedules.{schedule_before, met_behind}
+use Rattle.stn_loosen.{specs.{Starting.{IsStart, AreCrossed, ArePlaced, AreChosen, link_at}, Stepped.{IsHalfOpen, IsBoundOf}}, proofs.Sides.apart_within}
+
+-- ---- links at their places
+module _ (all bounds : List Difference) (places : List ℕ) (are : ArePlaced all bounds places) where
+  same_arc : (link : Link) → link.place < length bounds → arc_of all (link_at places link) ≡ arc_of bounds link
+  same_arc link there = ap (λ b. arc b link.side) (are link.place there).1
+
+  placed_chain : (links : List Link) (x y : ℕ) → IsChain bounds links x y → IsChain all (map (link_at places) links) x y
+  placed_chain [] x y chain = chain
+  placed_chain (link ∷ links) x y (there, from, rest) =
+      let same = same_arc link there in (
+        (are link.place there).0,
+        ap (λ (a : Arc). a.from) same ∙ from,
+        subst (λ (a : Arc). IsChain all (map (link_at places) links) a.to y) (sym same) (placed_chain links _ y rest),
+      )
+
+  placed_weight : (links : List Link) (x y : ℕ) → IsChain bounds links x y → weight_of all (map (link_at places) links) ≡ weight_of bounds links
+  placed_weight [] x y chain = refl
+  placed_weight (link ∷ links) x y (there, from, rest) =
+      ap (λ (a : Arc). a.weight +ℤ weight_of all (map (link_at places) links)) (same_arc link there) ∙ ap (λ w. (arc_of bounds link).weight +ℤ w) (placed_weight links _ y rest)
+
+  pub placed_cycle : (links : List Link) → IsNegativeCycle bounds links → IsNegativeCycle all (map (link_at places) links)
+  placed_cycle links cycle =
+      let x = cycle.closed.0 in
+      record {
+        some = omega (arith, length-map links (link_at places), cycle.some);
+        closed = (x, placed_chain links x x cycle.closed.1);
+        negative = subst (λ w. w <ℤ pos 0) (sym (placed_weight links x x cycle.closed.1)) cycle.negative;
+      }
+
+-- ---- a bound that contradicts itself
+ends_alike : (bound : Difference) (side : Side) → bound.from ≡ bound.to → (arc bound side).to ≡ (arc bound side).from
+ends_alike bound Upper same = sym same
+ends_alike bound Lower same = same
+
+module _ (all : List Difference) (place : ℕ) (there : place < length all) where
+  alone : (side : Side) → (bound_at all place).from ≡ (bound_at all place).to → (arc (bound_at all place) side).weight <ℤ pos 0
+      → IsNegativeCycle all (record { place = place; side = side } ∷ [])
+  alone side same negative = record {
+    some = omega arith;
+    closed = ((arc (bound_at all place) side).from, (there, refl, ends_alike (bound_at all place) side same));
+    negative = omega (arith, ints, negative);
+  }
+
+  both : (bound_at all place).hi <ℤ (bound_at all place).lo → IsNegativeCycle all (record { place = place; side = Upper } ∷ record { place = place; side = Lower } ∷ [])
+  both less = record {
+    some = omega arith;
+    closed = ((bound_at all place).from, (there, refl, (there, refl, refl)));
+    negative = omega (arith, ints, less);
+  }
+
+  pub crossed_cycle : (links : List Link) → length links ≢ 0 → AreCrossed (bound_at all place) place links → IsNegativeCycle all links
+  crossed_cycle [] some are = absurd (some refl)
+  crossed_cycle (link ∷ []) some are =
+      subst (λ (l : Link). IsNegativeCycle all (l ∷ [])) (ap (λ p. record { place = p; side = link.side }) (sym are.0)) (alone link.side are.1 are.2)
+  crossed_cycle (link ∷ other ∷ []) some are =
+      subst (λ (l : Link). IsNegativeCycle all (l ∷ other ∷ [])) (sym are.0)
+      (subst (λ (l : Link). IsNegativeCycle all (record { place = place; side = Upper } ∷ l ∷ [])) (sym are.1) (both are.2))
+  crossed_cycle (link ∷ other ∷ third ∷ more) some are = absurd are
+
+-- ---- a bound that is left out
+module _ (events : ℕ) (others : List Difference) (bound : Difference) (start : IsStart events bound) (time : ℕ → ℤ) (schedule : IsSchedule (horizon_bounds events ++ others) time) where
+  inside : (neg_ℤ horizon ≤ℤ (time bound.to -ℤ time bound.from)) × ((time bound.to -ℤ time bound.from) ≤ℤ horizon)
+  inside = apart_within events others bound start.named time schedule
+
+  -- it is a bound of the plan where its sides lie within the horizon; where one of them doesn't, the horizon's imply it
+  pub left_out_met : (place : ℕ) → AreCrossed bound place [] → ¬ IsBoundOf events bound → Meets time bound
+  left_out_met place whole none = by (eqb bound.from bound.to) refl
+    where
+      here : bound.from ≢ bound.to → (bound.lo ≡ neg_ℤ horizon → bound.hi ≤ℤ horizon → ⊥) × (bound.hi ≡ horizon → neg_ℤ horizon ≤ℤ bound.lo → ⊥)
+      here differs = (
+        λ low high. none (record {
+          sound = record { named = start.named; differs = differs; ordered = whole.0 };
+          lo = (omega (arith, ints, low), omega (arith, ints, low));
+          hi = (omega (arith, ints, low, whole.0), high);
+        }),
+        λ high low. none (record {
+          sound = record { named = start.named; differs = differs; ordered = whole.0 };
+          lo = (low, omega (arith, ints, high, whole.0));
+          hi = (omega (arith, ints, high), omega (arith, ints, high));
+        }),
+      )
+
+      open_low : bound.from ≢ bound.to → bound.lo ≡ neg_ℤ horizon → (o : Ordering) → MatchOrdering o (bound.hi <ℤ horizon) (bound.hi ≡ horizon) (horizon <ℤ bound.hi) → Meets time bound
+      open_low differs low Less ranks = absurd ((here differs).0 low (omega (arith, ints, ranks)))
+      open_low differs low Equal ranks = absurd ((here differs).0 low (omega (arith, ints, ranks)))
+      open_low differs low Greater ranks = (omega (arith, ints, low, inside.0), omega (arith, ints, ranks, inside.1))
+
+      open_high : bound.from ≢ bound.to → bound.hi ≡ horizon → (o : Ordering) → MatchOrdering o (bound.lo <ℤ neg_ℤ horizon) (bound.lo ≡ neg_ℤ horizon) (neg_ℤ horizon <ℤ bound.lo) → Meets time bound
+      open_high differs high Less ranks = (omega (arith, ints, ranks, inside.0), omega (arith, ints, high, inside.1))
+      open_high differs high Equal ranks = absurd ((here differs).1 high (omega (arith, ints, ranks)))
+      open_high differs high Greater ranks = absurd ((here differs).1 high (omega (arith, ints, ranks)))
+
+      halves : bound.from ≢ bound.to → IsHalfOpen bound → Meets time bound
+      halves differs (inl low) = open_low differs low (int_cmp bound.hi horizon) (int_ranks bound.hi horizon)
+      halves differs (inr high) = open_high differs high (int_cmp bound.lo (neg_ℤ horizon)) (int_ranks bound.lo (neg_ℤ horizon))
+
+      by : (same : Bool) → eqb bound.from bound.to ≡ same → Meets time bound
+      by true e =
+          let same : bound.from ≡ bound.to = grind (arith, nat_tests) in
+          let sides = whole.1 same in
+          (omega (arith, ints, sides.0, ap time same), omega (arith, ints, sides.1, ap time same))
+      by false e = let differs : bound.from ≢ bound.to = grind (arith, nat_tests) in halves differs start.half
+
+-- ---- one bound after the other
+abbrev nothing : Difference
+nothing = record { from = 0; to = 0; lo = pos 0; hi = pos 0 }
+
+placed_push : (all bounds : List Difference) (places : List ℕ) → length places ≡ length bounds → ArePlaced all bounds places → (bound : Difference) (place : ℕ) → place < length all
+    → bound ≡ bound_at all place → ArePlaced all (bounds ++ bound ∷ []) (places ++ place ∷ [])
+placed_push all bounds places long are bound place there is = λ k below. by k below (ltb k (length bounds)) refl
+  where
+    by : (k : ℕ) → k < length (bounds ++ bound ∷ []) → (first : Bool) → ltb k (length bounds) ≡ first
+        → (get_or (places ++ place ∷ []) k 0 < length all) × (bound_at all (get_or (places ++ place ∷ []) k 0) ≡ bound_at (bounds ++ bound ∷ []) k)
+    by k below true e =
+        let first : k < length bounds = grind (arith, nat_tests) in
+        let at : get_or (places ++ place ∷ []) k 0 ≡ get_or places k 0 = get_or_append_left places (place ∷ []) 0 k (omega (arith, long, first)) in (
+          subst (λ p. p < length all) (sym at) (are k first).0,
+          ap (bound_at all) at ∙ (are k first).1 ∙ sym (get_or_append_left bounds (bound ∷ []) nothing k first),
+        )
+    by k below false e =
+        let past : length bounds ≤ k = grind (arith, nat_tests) in
+        let last : length bounds ≡ k = omega (arith, past, below, length-append bounds (bound ∷ [])) in
+        let at : get_or (places ++ place ∷ []) k 0 ≡ place = get_or_push places place 0 k (long ∙ last) in (
+          subst (λ p. p < length all) (sym at) there,
+          ap (bound_at all) at ∙ sym is ∙ sym (get_or_push bounds bound nothing k last),
+        )
+
+module _ (events : ℕ) (all : List Difference) where
+  pub chosen_none : take events all ≡ horizon_bounds events → (places : List ℕ) → length places ≡ events → ((k : ℕ) → k < events → get_or places k 0 ≡ k) → AreChosen events all events [] places
+  chosen_none begins places long same = record {
+    named = All-nil (NamesEvents events);
+    counted = long ∙ sym (ap length (append-nil (horizon_bounds events)) ∙ length-horizon_bounds events);
+    placed = λ k below.
+        let first : k < events = omega (arith, below, ap length (append-nil (horizon_bounds events)), length-horizon_bounds events) in (
+          subst (λ p. p < length all) (sym (same k first)) (omega (arith, known_within events all begins, first)),
+          ap (bound_at all) (same k first) ∙ sym (get_or-take events all k nothing first) ∙ ap (λ l. bound_at l k) (begins ∙ sym (append-nil (horizon_bounds events))),
+        );
+    met = λ time schedule. subst (All (Meets time)) (append-nil (horizon_bounds events) ∙ sym begins) schedule.met;
+  }
+
+  module _ (place : ℕ) (chosen : List Difference) (places : List ℕ) (are : AreChosen events all place chosen places) (there : place < length all) where
+    more : take (place + 1) all ≡ take place all ++ bound_at all place ∷ []
+    more = take_more all place _ there
+
+    one_more : (others : List Difference) → ((time : ℕ → ℤ) → IsSchedule (horizon_bounds events ++ others) time → All (Meets time) (take place all) × Meets time (bound_at all place))
+        → (time : ℕ → ℤ) → IsSchedule (horizon_bounds events ++ others) time → All (Meets time) (take (place + 1) all)
+    one_more others met time schedule =
+        let each = met time schedule in
+        subst (All (Meets time)) (sym more) (All-push (Meets time) (take place all) (bound_at all place) each.0 each.1)
+
+    pub chosen_left_out : ((time : ℕ → ℤ) → IsSchedule (horizon_bounds events ++ chosen) time → Meets time (bound_at all place)) → AreChosen events all (place + 1) chosen places
+    chosen_left_out met = record {
+      named = are.named;
+      counted = are.counted;
+      placed = are.placed;
+      met = one_more chosen (λ time schedule. (are.met time schedule, met time schedule));
+    }
+
+    module _ (bound : Difference) (is : bound ≡ bound_at all place) (named : NamesEvents events bound) where
+      whole : horizon_bounds events ++ (chosen ++ bound ∷ []) ≡ (horizon_bounds events ++ chosen) ++ bound ∷ []
+      whole = sym (append_assoc (horizon_bounds events) chosen (bound ∷ []))
+
+      pub chosen_more : AreChosen events all (place + 1) (chosen ++ bound ∷ []) (places ++ place ∷ [])
+      chosen_more = record {
+        named = All-push (NamesEvents events) chosen bound are.named named;
+        counted = omega (arith, are.counted, length-append places (place ∷ []), ap length whole, length-append (horizon_bounds events ++ chosen) (bound ∷ []));
+        placed = subst (λ l. ArePlaced all l (places ++ place ∷ [])) (sym whole) (placed_push all (horizon_bounds events ++ chosen) places are.counted are.placed bound place there is);
+        met = one_more (chosen ++ bound ∷ []) (λ time schedule.
+            let front : IsSchedule ((horizon_bounds events ++ chosen) ++ bound ∷ []) time = subst (λ l. IsSchedule l time) whole schedule in (
+              are.met time (schedule_before (horizon_bounds events ++ chosen) (bound ∷ []) time front),
+              subst (Meets time) is (All-head (Meets time) bound [] (met_behind (horizon_bounds events ++ chosen) (bound ∷ []) time front)),
+            ));
+      }
+
+  -- all were looked at
+  pub all_met : (chosen : List Difference) (places : List ℕ) (count : ℕ) → length all ≤ count → AreChosen events all count chosen places → HasSchedule (horizon_bounds events ++ chosen) → HasSchedule all
+  all_met chosen places count whole are s = (s.0, record { origin = s.1.origin; met = subst (All (Meets s.0)) (take_all count all whole) (are.met s.0 s.1) })
