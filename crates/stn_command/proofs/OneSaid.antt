@@ -1,13 +1,13 @@
 -- A query has one answer, and one cause that refuses it or none.
-use Rattle.std.proofs.Common.{◌≡◌, ◌⊎◌, true≢false, inl, inr, ℕ, ℤ, Bool, true, false, List, Option, Some, None, sym, ap, ◌∙◌}
+use Rattle.std.proofs.Common.{◌≡◌, ◌⊎◌, true≢false, inl, inr, ℕ, ℤ, Bool, true, false, List, map, Option, Some, None, sym, ap, ◌∙◌}
 use Rattle.stn_refusal.specs.declared.code.Code.TheVariants as code
 use Rattle.stn_refusal.specs.{declared.failure.Failure.Failure, Refusals.refused_of}
-use Rattle.stn_lift.specs.PlanSource.{PlanSource}
+use Rattle.stn_lift.specs.{Plan.Steps.PlannedStep, PlanSource.PlanSource}
 use Rattle.stn_records.specs.Content.{Content}
 use Rattle.stn_site.specs.{Held.Held, Bounds.all_bounds, Report.IsReport}
-use Rattle.stn_questions.{specs.{declared.asked.Question.Question, Answer.IsAnswer, Steps.{source_names, plan_names}, Repair.Text.IsRepairsText}, proofs.OneAnswer.one_ready_text}
+use Rattle.stn_questions.{specs.{declared.asked.Question.{Question, TheVariants.{Records, Steps, Bounds, Why, WhyApart}}, Answer.IsAnswer, Steps.{source_names, step_name}, Repair.Text.IsRepairsText}, proofs.OneAnswer.one_ready_text}
 use Rattle.stn_picture.specs.{Chart.Look, Picture.IsPicture}
-use Rattle.stn_command.{specs.{Query.{Query, report, check, foresee, ask, repairs, draw, IsSaid, IsForeseen, IsRehearseRefusal, IsOutlookRefusal, IsQuestionRefusal, IsQueryRefusal}, Dispatch.done_or_not_chosen, declared.queries.Outlook.Outlook, Named.{IsNamed, Shown, listed, pictured}}, proofs.Foresight.{one_next_text, one_rest_text, one_overdue}}
+use Rattle.stn_command.{specs.{Query.{Query, report, check, foresee, ask, repairs, draw, IsSaid, IsForeseen, IsRehearseRefusal, IsOutlookRefusal, IsQuestionRefusal, IsQueryRefusal}, Dispatch.done_or_not_chosen, declared.queries.Outlook.Outlook, Named.{IsNamed, IsSaidWithNames}, NamedLines.with_names}, proofs.Foresight.{one_next_text, one_rest_text, one_overdue}}
 use Rattle.stn_command.specs.declared.queries.Outlook.TheVariants as outlook
 use Rattle.stn_net.specs.{Failures.bound_failure, declared.bound.BoundFault.TheVariants.NoEvent}
 
@@ -33,10 +33,25 @@ one_text reports answers mends pictures (ask question) held text other p q = ans
 one_text reports answers mends pictures repairs held text other p q = mends held.source held.state text other p q
 one_text reports answers mends pictures (draw look) held text other p q = pictures look (source_names held.source) held.source held.state text other p q
 
--- the same by the names that another plan's text gives
-pub one_named : OnePicture → (shown : Shown) (plan : List ℕ) (held : Held) (text other : List ℕ) → IsNamed shown plan held text → IsNamed shown plan held other → text ≡ other
-one_named pictures listed plan held text other p q = p ∙ sym q
-one_named pictures (pictured look) plan held text other p q = pictures look (plan_names plan) held.source held.state text other p q
+-- the same by the names of steps
+module _ (one : (query : Query) (held : Held) (text other : List ℕ) → IsSaid query held text → IsSaid query held other → text ≡ other) where
+  with_names_once : (query : Query) (steps : List PlannedStep) (held : Held) (text other : List ℕ) → IsSaidWithNames query steps held text
+      → IsSaidWithNames query steps held other → text ≡ other
+  with_names_once query steps held text other p q =
+      p.2 ∙ (ap (with_names (map step_name steps) held.state) (one query held p.0 q.0 p.1 q.1) ∙ sym q.2)
+
+  pub one_named : OnePicture → (query : Query) (steps : List PlannedStep) (held : Held) (text other : List ℕ) → IsNamed query steps held text
+      → IsNamed query steps held other → text ≡ other
+  one_named pictures report steps held text other p q = with_names_once report steps held text other p q
+  one_named pictures (check times) steps held text other p q = with_names_once (check times) steps held text other p q
+  one_named pictures (foresee outlook now choice) steps held text other p q = with_names_once (foresee outlook now choice) steps held text other p q
+  one_named pictures (ask Records) steps held text other p q = with_names_once (ask Records) steps held text other p q
+  one_named pictures (ask Steps) steps held text other p q = p ∙ sym q
+  one_named pictures (ask Bounds) steps held text other p q = with_names_once (ask Bounds) steps held text other p q
+  one_named pictures (ask (Why event)) steps held text other p q = with_names_once (ask (Why event)) steps held text other p q
+  one_named pictures (ask (WhyApart from to)) steps held text other p q = with_names_once (ask (WhyApart from to)) steps held text other p q
+  one_named pictures repairs steps held text other p q = with_names_once repairs steps held text other p q
+  one_named pictures (draw look) steps held text other p q = pictures look (map step_name steps) held.source held.state text other p q
 
 -- one test, and what stands against a query where it holds
 one_of : {P Q : Type 0} (found cause other : Option Failure) → ¬ (P × Q) → (P × (cause ≡ found)) ⊎ (Q × (cause ≡ None))

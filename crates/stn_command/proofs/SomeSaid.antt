@@ -1,14 +1,14 @@
 -- What a site holds has an answer to each query, or a cause that refuses it.
-use Rattle.std.{proofs.{Common.{◌≡◌, ◌⊎◌, inl, inr, ℕ, ℤ, pos, ◌+◌, ◌<◌, arith, ⊎_elim, Bool, true, false, List, ◌∷◌, codes, length, Some, None, refl}, lemmas.{Bool.{cases_eq, cases_lt}, Option.none-some, List.FromFn.length-map-range_with_len}}, specs.Prelude.{not, ◌||◌}}
+use Rattle.std.{proofs.{Common.{◌≡◌, ◌⊎◌, inl, inr, ℕ, ℤ, pos, ◌+◌, ◌<◌, arith, ⊎_elim, Bool, true, false, List, ◌∷◌, codes, length, map, Some, None, refl}, lemmas.{Bool.{cases_eq, cases_lt}, Option.none-some, List.FromFn.length-map-range_with_len}}, specs.Prelude.{not, ◌||◌}}
 use Rattle.stn_net.specs.Schedule.{times_of}
 use Rattle.stn_refusal.specs.declared.code.Code.TheVariants as code
 use Rattle.stn_refusal.specs.{declared.{refusal.Refusal.Refusal, failure.Failure.TheVariants.Refused}, Refusals.{refusal, refusal_at, refusal_of}}
-use Rattle.stn_lift.specs.PlanSource.{PlanSource, events_of, steps_of}
+use Rattle.stn_lift.specs.{Plan.Steps.PlannedStep, PlanSource.{PlanSource, events_of, steps_of}}
 use Rattle.stn_site.specs.{Held.Held, SoundSite.IsSoundSite, Lines.line, Names.broken_bound, Report.is_done}
-use Rattle.stn_questions.{specs.{declared.asked.Question.{Question, TheVariants.{Records, Steps, Bounds, Why, WhyApart}}, Answer.{AsksOfNoEvent, AsksOfSameEvent}, Steps.{source_names, names_text, plan_names}}, proofs.{SomeReport.{IsSoundState, some_report}, SomeAnswer.some_answer, SomeDispatch.{possible_or_none, some_next, some_rest, some_ready}}}
+use Rattle.stn_questions.{specs.{declared.asked.Question.{Question, TheVariants.{Records, Steps, Bounds, Why, WhyApart}}, Answer.{AsksOfNoEvent, AsksOfSameEvent}, Steps.{source_names, step_name, name_lines}}, proofs.{SomeReport.{IsSoundState, some_report}, SomeAnswer.some_answer, SomeDispatch.{possible_or_none, some_next, some_rest, some_ready}}}
 use Rattle.stn_guard.specs.Adding.{are_within}
 use Rattle.stn_picture.specs.Chart.{Look}
-use Rattle.stn_command.{specs.{declared.queries.Outlook.Outlook, Named.{IsNamed, Shown, listed, pictured}, Dispatch.{Choice, is_chosen, done_or_not_chosen, check_text, next_text, runs_text}, Query.{Query, report, check, foresee, ask, repairs, draw, IsForeseen, IsSaid, IsOutlookRefusal, has_steps, IsQueryRefusal}}, proofs.{OneSaid.one_refusal, SomeRepairs.some_repairs_text, SomePicture.some_picture}}
+use Rattle.stn_command.{specs.{declared.queries.Outlook.Outlook, Named.{IsNamed, IsSaidWithNames}, NamedLines.with_names, Dispatch.{Choice, is_chosen, done_or_not_chosen, check_text, next_text, runs_text}, Query.{Query, report, check, foresee, ask, repairs, draw, IsForeseen, IsSaid, IsOutlookRefusal, has_steps, IsQueryRefusal}}, proofs.{OneSaid.one_refusal, SomeRepairs.some_repairs_text, SomePicture.some_picture}}
 use Rattle.stn_command.specs.declared.queries.Outlook.TheVariants as outlook
 
 -- something is said to the query, which nothing refuses, or a cause refuses it
@@ -129,6 +129,18 @@ module _ (held : Held) (sound : IsSoundSite held) where
         | inr refused ↦ inr refused
       ]
 
-  pub some_named : (shown : Shown) (plan : List ℕ) → (text : List ℕ) × IsNamed shown plan held text
-  some_named listed plan = (names_text plan, refl)
-  some_named (pictured look) plan = some_picture held.source held.state state_sound look (plan_names plan)
+  -- the same by the names of steps
+  by_said : (query : Query) (steps : List PlannedStep) → IsQueryRefusal query held None → (text : List ℕ) × IsSaidWithNames query steps held text
+  by_said query steps free = (let (text, is) = some_said query free in (with_names (map step_name steps) held.state text, (text, is, refl)))
+
+  pub some_named : (query : Query) (steps : List PlannedStep) → IsQueryRefusal query held None → (text : List ℕ) × IsNamed query steps held text
+  some_named report steps free = by_said report steps free
+  some_named (check times) steps free = by_said (check times) steps free
+  some_named (foresee outlook now choice) steps free = by_said (foresee outlook now choice) steps free
+  some_named (ask Records) steps free = by_said (ask Records) steps free
+  some_named (ask Steps) steps free = (name_lines 0 steps, refl)
+  some_named (ask Bounds) steps free = by_said (ask Bounds) steps free
+  some_named (ask (Why event)) steps free = by_said (ask (Why event)) steps free
+  some_named (ask (WhyApart from to)) steps free = by_said (ask (WhyApart from to)) steps free
+  some_named repairs steps free = by_said repairs steps free
+  some_named (draw look) steps free = some_picture held.source held.state state_sound look (map step_name steps)

@@ -4,4 +4,5 @@ pub mod Dispatch
 pub mod Query
 pub mod Steps
 pub mod Guarding
+pub mod NamedLines
 pub mod Named

@@ -1,34 +1,47 @@
--- What is said of a plan whose steps get names from the text of another, and why it is not.
-use Rattle.std.specs.{Prelude.{◌≡◌, ℕ, ◌==◌, if◌then◌else◌, List, length, Option, Some, None, Result, Ok, Err}, Option.option_or}
-use Rattle.stn_refusal.specs.declared.failure.Failure.{Failure}
+-- What is said to a query where steps have the names that a plan's text gives, and why it is not.
+use Rattle.std.specs.Prelude.{◌≡◌, ◌⊎◌, ℕ, ◌==◌, if◌then◌else◌, List, length, map, Vec, Option, Some, None, Result, Ok, Err}
+use Rattle.stn_refusal.specs.{declared.failure.Failure.Failure, Refusals.out_of_memory}
 use Rattle.stn_lift.specs.{Plan.{Steps.{PlannedStep, plan_of}, Failures.plan_failure}, declared.plan.fault.PlanFault.PlanFault, PlanSource.steps_of}
 use Rattle.stn_site.specs.Held.{Held}
-use Rattle.stn_questions.specs.Steps.{names_text, plan_names}
-use Rattle.stn_picture.specs.{Chart.{Look, seen_look}, Picture.IsPicture}
-use Rattle.stn_command.specs.{declared.names.Shown.Shown as ShownOfCode, Query.draw_refusal, Words.no_such_word}
-use Rattle.stn_command.specs.declared.names.Shown.TheVariants as shown
+use Rattle.stn_questions.specs.{declared.asked.Question.TheVariants.Steps, Steps.{planned_steps, step_name, name_lines}}
+use Rattle.stn_picture.specs.Picture.{IsPicture}
+use Rattle.stn_command.specs.{NamedLines.with_names, Query.{Query, ask, draw, IsSaid, IsQueryRefusal}, Words.no_such_word}
 
--- what is shown with the names: the steps, or the picture, drawn so
-pub data Shown : Type 0 where
-  listed : Shown
-  pictured : (look : Look) → Shown
+-- the answer without names, and at the end of its lines those of such steps
+abbrev pub IsSaidWithNames : Query → List PlannedStep → Held → List ℕ → Type 0
+IsSaidWithNames query steps held text = (plain : List ℕ) × IsSaid query held plain × (text ≡ with_names (map step_name steps) held.state plain)
 
--- the same, as the code has it
-abbrev pub seen_shown : ShownOfCode → Shown
-seen_shown shown.Steps = listed
-seen_shown (shown.Picture look) = pictured (seen_look look)
+-- the text answers the query, where the steps have the actions and arguments of such steps: these are all that is said of the steps, and
+-- a picture has them as names
+abbrev pub IsNamed : Query → List PlannedStep → Held → List ℕ → Type 0
+IsNamed (ask Steps) steps held text = text ≡ name_lines 0 steps
+IsNamed (draw look) steps held text = IsPicture look (map step_name steps) held.source held.state text
+IsNamed query steps held text = IsSaidWithNames query steps held text
 
--- the names of the steps, or the picture with them, where the other plan has this text
-abbrev pub IsNamed : Shown → List ℕ → Held → List ℕ → Type 0
-IsNamed listed plan held text = text ≡ names_text plan
-IsNamed (pictured look) plan held text = IsPicture look (plan_names plan) held.source held.state text
+-- the text is said; or something refuses the query, or memory ran out
+abbrev pub SaysNamed : {A : Type 0} → Query → List PlannedStep → Held → Result (Vec ℕ A) Failure → Type 0
+SaysNamed query steps held (Ok text) = IsNamed query steps held text.items × IsQueryRefusal query held None
+SaysNamed query steps held (Err failure) = IsQueryRefusal query held (Some failure) ⊎ (failure ≡ out_of_memory)
 
--- why another plan, read so, names no steps of one of so many: its text has a fault, or it has another number of steps
+-- why a plan, read so, names no steps of one of so many: its text has a fault, or it has another number of steps
 abbrev pub count_refusal : ℕ → Result (List PlannedStep) PlanFault → Option Failure
 count_refusal steps (Err fault) = Some (plan_failure fault)
 count_refusal steps (Ok named) = if length named == steps then None else Some no_such_word
 
--- why nothing is shown with these names: the other plan names no steps of this one, or the picture is refused
-abbrev pub names_refusal : Shown → Held → List ℕ → Option Failure
-names_refusal listed held plan = count_refusal (steps_of held.source) (plan_of plan)
-names_refusal (pictured look) held plan = option_or (count_refusal (steps_of held.source) (plan_of plan)) (draw_refusal look held)
+-- a cause comes before others
+abbrev pub IsBehind : Option Failure → (Option Failure → Type 0) → Option Failure → Type 0
+IsBehind (Some failure) Next cause = cause ≡ Some failure
+IsBehind None Next cause = Next cause
+
+-- why nothing is said with these names: the plan names no steps of this one, or the query is refused
+abbrev pub IsNamesRefusal : Query → List ℕ → Held → Option Failure → Type 0
+IsNamesRefusal query plan held cause = IsBehind (count_refusal (steps_of held.source) (plan_of plan)) (IsQueryRefusal query held) cause
+
+-- what is said with the names of a plan's text, or with none, and why it is not
+abbrev pub IsSaidBy : Option (List ℕ) → Query → Held → List ℕ → Type 0
+IsSaidBy None query held text = IsSaid query held text
+IsSaidBy (Some plan) query held text = IsNamed query (planned_steps plan) held text
+
+abbrev pub IsRefusedBy : Option (List ℕ) → Query → Held → Option Failure → Type 0
+IsRefusedBy None query held cause = IsQueryRefusal query held cause
+IsRefusedBy (Some plan) query held cause = IsNamesRefusal query plan held cause

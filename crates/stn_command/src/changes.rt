@@ -1,41 +1,15 @@
-//! Changes of what a site holds.
+//! What is told of changes of what a site holds.
 
-ghost use Rattle.std.specs.Prelude.{◌≡◌, ◌++◌, None, take, vec_len, unwrap_or, OnOk, OnErr, IfOk, IfErr};
-ghost use Rattle.stn_site.specs.{Calls.Leaves, Held.next_id, Lines.line};
+ghost use Rattle.std.specs.Prelude.{◌≡◌, ◌++◌, take, vec_len, OnOk, OnErr};
+ghost use Rattle.stn_site.specs.Lines.{line};
 ghost use Rattle.stn_records.specs.Id.{id_text};
-ghost use Rattle.stn_site.specs.declared.faults.ReplicaFault.TheVariants as fault;
-ghost use Rattle.stn_command.specs.Change.{change_call, change_refusal, made_by, made_text};
+ghost use Rattle.stn_command.specs.Change.{made_by, made_text};
 
 use std::alloc::Allocator;
-use stn_net::Event;
 use stn_records::Id;
-use stn_site::{ReplicaFault, SitePlan};
+use stn_site::Change;
 use stn_text::all_or_nothing;
-use stn_time::{Memory, Ms};
-
-/// A bound between two events, as it is asked for: it may not be one.
-#[derive(Clone, Copy)]
-pub struct AskedBound {
-    pub from: Event,
-    pub to: Event,
-    /// The least difference, in milliseconds.
-    pub lo: Ms,
-    /// The greatest.
-    pub hi: Ms,
-}
-
-/// A change of what a site holds, as it is asked for.
-#[derive(Clone, Copy)]
-pub enum Change {
-    /// Adds a bound.
-    Add(AskedBound),
-    /// Adds a bound in place of the record of this id.
-    Amend(Id, AskedBound),
-    /// Withdraws the record of this id.
-    Withdraw(Id),
-    /// Records that an event took place at a time.
-    Done(Event, Ms),
-}
+use stn_time::Memory;
 
 /// What a change made.
 #[derive(Clone, Copy)]
@@ -49,6 +23,17 @@ pub enum Made {
 }
 
 impl Made {
+    /// What a change made, where this is the id of the record that it added.
+    pub fn of(asked: &Change, id: Id) -> Made
+        ensures { result ≡ made_by asked.now id }
+    {
+        match *asked {
+            Change::Add(_) | Change::Done(..) => Made::Added(id),
+            Change::Amend(..) => Made::Amended(id),
+            Change::Withdraw(gone) => Made::Withdrawn(gone),
+        }
+    }
+
     /// Appends the printed line. If memory runs out, it appends nothing.
     pub fn print<A: Allocator>(&self, out: &mut Vec<u8, A>) -> Result<(), Memory>
         ensures printed { OnOk result (out.new.items ≡ out.old.items ++ made_text self.now) }
@@ -83,37 +68,4 @@ fn append_words_and_id<A: Allocator>(
     out.extend_from_slice(words)?;
     id.print(out)?;
     out.extend_from_slice(b"\n")
-}
-
-/// Changes what a site holds.
-///
-/// Refused as `SitePlan::add`, `amend`, `withdraw` and `done` refuse it. After a fault all is as before.
-pub fn make_change<A: Allocator + Copy>(
-    plan: &mut SitePlan<A>,
-    asked: &Change,
-) -> Result<Made, ReplicaFault>
-    ensures left { OnOk result (Leaves plan.old (change_call asked.now (next_id plan.old)) plan.new) }
-    ensures made { IfOk result (λ made. made ≡ made_by asked.now (next_id plan.old)) }
-    ensures accepted { OnOk result (change_refusal plan.old asked.now ≡ None) }
-    ensures fault { IfErr result (λ cause. cause ≡ unwrap_or (change_refusal plan.old asked.now) fault.Memory) }
-    ensures kept { OnErr result (plan.new ≡ plan.old) }
-{
-    match *asked {
-        Change::Add(bound) => {
-            let id = plan.add(bound.from, bound.to, bound.lo, bound.hi)?;
-            Ok(Made::Added(id))
-        }
-        Change::Amend(old, bound) => {
-            let id = plan.amend(old, bound.from, bound.to, bound.lo, bound.hi)?;
-            Ok(Made::Amended(id))
-        }
-        Change::Withdraw(id) => {
-            plan.withdraw(id)?;
-            Ok(Made::Withdrawn(id))
-        }
-        Change::Done(event, time) => {
-            let id = plan.done(event, time)?;
-            Ok(Made::Added(id))
-        }
-    }
 }

@@ -1,9 +1,9 @@
 ghost use Rattle.std.specs.Prelude.{◌≡◌, ◌⊎◌, ℕ, ℤ, None, Some, List, Option};
 ghost use Rattle.stn_refusal.specs.declared.{refusal.Refusal.Refusal, failure.Failure.{Failure, TheVariants.Refused}};
 ghost use Rattle.stn_site.specs.{Held.Held, Report.done_events, SoundSite.IsSoundSite, Calls.{Accepted, CameBy, TookSame}};
-ghost use Rattle.stn_lift.specs.PlanSource.{PlanSource};
+ghost use Rattle.stn_lift.specs.{Plan.Steps.PlannedStep, PlanSource.PlanSource};
 ghost use Rattle.stn_records.specs.Content.{Content};
-ghost use Rattle.stn_command.specs.{declared.queries.Outlook.Outlook, Dispatch.{Choice, every_event, done_or_not_chosen}, Named.{IsNamed, Shown}, Query.{Query, foresee, IsSaid, IsQueryRefusal}};
+ghost use Rattle.stn_command.specs.{declared.queries.Outlook.Outlook, Dispatch.{Choice, every_event, done_or_not_chosen}, Named.IsNamed, Query.{Query, foresee, IsSaid, IsQueryRefusal}};
 
 use stn_picture::one_picture;
 use stn_questions::{one_answer, one_repairs_text};
@@ -14,8 +14,8 @@ use stn_site::one_report;
 /// cause that refuses a query or none.
 pub fn one_said()
     ensures text { (query : Query) (held : Held) (text other : List ℕ) → IsSaid query held text → IsSaid query held other → text ≡ other }
-    ensures named { (shown : Shown) (plan : List ℕ) (held : Held) (text other : List ℕ)
-        → IsNamed shown plan held text → IsNamed shown plan held other → text ≡ other }
+    ensures named { (query : Query) (steps : List PlannedStep) (held : Held) (text other : List ℕ)
+        → IsNamed query steps held text → IsNamed query steps held other → text ≡ other }
     ensures refusal { (query : Query) (held : Held) (cause other : Option Failure)
         → IsQueryRefusal query held cause → IsQueryRefusal query held other → cause ≡ other }
 {
@@ -25,13 +25,14 @@ pub fn one_said()
     one_picture();
 }
 
-/// The law that each site has an answer to each query that nothing refuses (`text`), that nothing refuses a query or a cause does that is
-/// printed (`refusal`), and that each site can show its steps by the names in any plan text (`named`).
+/// The law that each site has an answer to each query that nothing refuses (`text`), also by the names of any steps (`named`), and that
+/// nothing refuses a query or a cause does that is printed (`refusal`).
 pub fn every_query_has_an_answer()
     ensures text { (query : Query) (held : Held) → IsSoundSite held → IsQueryRefusal query held None → (text : List ℕ) × IsSaid query held text }
     ensures refusal { (query : Query) (held : Held) → IsSoundSite held
         → IsQueryRefusal query held None ⊎ ((cause : Refusal) × IsQueryRefusal query held (Some (Refused cause))) }
-    ensures named { (shown : Shown) (plan : List ℕ) (held : Held) → IsSoundSite held → (text : List ℕ) × IsNamed shown plan held text }
+    ensures named { (query : Query) (steps : List PlannedStep) (held : Held) → IsSoundSite held → IsQueryRefusal query held None
+        → (text : List ℕ) × IsNamed query steps held text }
 {}
 
 /// The law that where every event is chosen, one counts as left exactly if it is not done.

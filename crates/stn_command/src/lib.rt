@@ -1,11 +1,11 @@
-//! What a site is asked: changes of what it holds, and questions about it. Scripts and commands on logs read their words, choose the
-//! site or the log, and ask here.
+//! What a site is asked, and what is told of its changes. Scripts and commands on logs read their words, choose the site or the log,
+//! and ask here.
 #![tactic(auto)]
 
-pub use changes::{AskedBound, Change, Made, make_change};
+pub use changes::Made;
 pub use guarding::print_guard;
 pub use laws::{chosen_all, every_query_has_an_answer, one_said, same_foreseen};
-pub use names::{Shown, say_named};
+pub use names::say_named;
 pub use queries::{Choice, Outlook, Query, append_said, say};
 pub use steps::{read_owned, read_steps};
 pub use words::{no_such_word, read_event, read_id, read_time};
@@ -14,6 +14,7 @@ mod changes;
 mod dispatch;
 mod guarding;
 mod laws;
+mod named_lines;
 mod names;
 mod queries;
 mod steps;

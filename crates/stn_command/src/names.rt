@@ -1,48 +1,63 @@
-//! What is said of a plan whose steps get names from the text of another.
+//! What is said to a query where steps have the names that a plan's text gives.
 
-ghost use Rattle.std.specs.Prelude.{◌≡◌, ◌⊎◌, None, Some, Ok, map, MatchResult};
+ghost use Rattle.std.specs.Prelude.{◌≡◌, ◌⊎◌, None, Some, Ok, MatchResult};
 ghost use Rattle.stn_refusal.specs.Refusals.{out_of_memory};
 ghost use Rattle.stn_lift.specs.Plan.Steps.{plan_of};
-ghost use Rattle.stn_questions.specs.Steps.{step_name};
-ghost use Rattle.stn_picture.specs.{Chart.seen_look, Picture.IsPicture};
-ghost use Rattle.stn_command.specs.{Query.draw_refusal, Named.{IsNamed, seen_shown, count_refusal, names_refusal}};
+ghost use Rattle.stn_questions.specs.Steps.{planned_steps};
+ghost use Rattle.stn_picture.specs.Chart.{seen_look};
+ghost use Rattle.stn_command.specs.{Query.{ask, draw, seen_query}, Named.{IsNamed, IsNamesRefusal, SaysNamed, IsSaidWithNames, count_refusal}};
+ghost use Rattle.stn_command.specs.Query.{IsQueryRefusal};
 
-use crate::queries::are_within;
+use crate::named_lines::with_names;
+use crate::queries::{Query, are_within, say};
 use crate::words::no_such_word;
 use std::alloc::Allocator;
 use stn_lift::Plan;
 use stn_net::BoundFault;
 use stn_picture::{Look, print_picture};
-use stn_questions::{names_of, step_names};
+use stn_questions::{Question, names_of, step_names};
 use stn_refusal::Failure;
 use stn_site::SitePlan;
 
-/// What is shown of a plan whose steps get names.
-#[derive(Clone, Copy)]
-pub enum Shown<'a> {
-    /// The steps.
-    Steps,
-    /// The picture, drawn so.
-    Picture(Look<'a>),
-}
-
-/// What is shown of a plan whose steps have the actions and arguments of the steps of another, of which this is the text.
+/// What is said to a query about a site's copy of a plan whose steps have the actions and arguments of the steps of another, of which
+/// this is the text: the steps by these alone, the picture by them, and any other answer with them at the end of its lines, after two
+/// spaces each.
 ///
-/// Refused as 20 to 24 where `Plan::read` refuses the text, 70 where the other plan has not as many steps, 4 where a picture
-/// gives a site a step that the plan has not; then where memory runs out.
-pub fn say_named<'x, A: Allocator + Copy>(
+/// Refused as 20 to 24 where `Plan::read` refuses the text, 70 where the other plan has not as many steps, then as `say` refuses the
+/// query; or where memory runs out.
+pub fn say_named<A: Allocator + Copy>(
     plan: &SitePlan<A>,
-    shown: &'x Shown<'x>,
+    query: &Query<'_>,
     other: &[u8],
 ) -> Result<Vec<u8, A>, Failure>
     ensures { MatchResult result
-        (λ text. IsNamed (seen_shown shown.now) other.now plan.now text.items × (names_refusal (seen_shown shown.now) plan.now other.now ≡ None))
-        (λ failure. (failure ≡ out_of_memory) ⊎ (names_refusal (seen_shown shown.now) plan.now other.now ≡ Some failure)) }
+        (λ text. IsNamed (seen_query query.now) (planned_steps other.now) plan.now text.items × IsNamesRefusal (seen_query query.now) other.now plan.now None)
+        (λ failure. (failure ≡ out_of_memory) ⊎ IsNamesRefusal (seen_query query.now) other.now plan.now (Some failure)) }
 {
     let named = read_named(plan.alloc(), plan.base().steps(), other)?;
-    match shown {
-        Shown::Steps => Ok(names_of(plan.alloc(), &named)?),
-        Shown::Picture(look) => draw_named(plan, look, &named),
+    match query {
+        Query::Ask(question) => tell_named(plan, *question, &named),
+        Query::Draw(look) => draw_named(plan, look, &named),
+        Query::Report | Query::Check(_) | Query::Foresee(..) | Query::Repairs => {
+            say_with_names(plan, query, &named)
+        }
+    }
+}
+
+// The answer to a question, where the steps have the names of those of another plan.
+fn tell_named<A: Allocator + Copy>(
+    plan: &SitePlan<A>,
+    question: Question,
+    named: &Plan<'_, A>,
+) -> Result<Vec<u8, A>, Failure>
+    ensures { SaysNamed (ask question) named.now.steps plan.now result }
+{
+    match question {
+        Question::Steps => Ok(names_of(plan.alloc(), named)?),
+        Question::Records => say_with_names(plan, &Query::Ask(question), named),
+        Question::Bounds => say_with_names(plan, &Query::Ask(question), named),
+        Question::Why(_) => say_with_names(plan, &Query::Ask(question), named),
+        Question::WhyApart(..) => say_with_names(plan, &Query::Ask(question), named),
     }
 }
 
@@ -52,9 +67,7 @@ fn draw_named<'x, A: Allocator + Copy>(
     look: &'x Look<'x>,
     named: &Plan<'_, A>,
 ) -> Result<Vec<u8, A>, Failure>
-    ensures { MatchResult result
-        (λ text. IsPicture (seen_look look.now) (map step_name named.now.steps) plan.now.source plan.now.state text.items × (draw_refusal (seen_look look.now) plan.now ≡ None))
-        (λ failure. (failure ≡ out_of_memory) ⊎ (draw_refusal (seen_look look.now) plan.now ≡ Some failure)) }
+    ensures { SaysNamed (draw (seen_look look.now)) named.now.steps plan.now result }
 {
     if !are_within(look.owned, plan.base().steps()) {
         return Err(Failure::from(BoundFault::NoEvent));
@@ -63,6 +76,21 @@ fn draw_named<'x, A: Allocator + Copy>(
     let mut picture = Vec::new(plan.alloc());
     print_picture(plan, look, &names, &mut picture)?;
     Ok(picture)
+}
+
+// What is said to a query, with the names of the steps of another plan at the end of its lines.
+fn say_with_names<A: Allocator + Copy>(
+    plan: &SitePlan<A>,
+    query: &Query<'_>,
+    named: &Plan<'_, A>,
+) -> Result<Vec<u8, A>, Failure>
+    ensures { MatchResult result
+        (λ text. IsSaidWithNames (seen_query query.now) named.now.steps plan.now text.items × IsQueryRefusal (seen_query query.now) plan.now None)
+        (λ failure. (failure ≡ out_of_memory) ⊎ IsQueryRefusal (seen_query query.now) plan.now (Some failure)) }
+{
+    let plain = say(plan, query)?;
+    let names = step_names(plan.alloc(), named)?;
+    Ok(with_names(plan, &names, &plain)?)
 }
 
 // The plan of a text, where it has so many steps.

@@ -61,25 +61,25 @@ all_plain = (
                   (
                     reads refl refl refl (one refl refl refl refl, (one refl refl refl refl, (many refl refl refl refl refl, (asks refl refl refl, tt)))),
                     (
-                      reads refl refl refl (one refl refl refl refl, (one refl refl refl refl, (asks refl refl refl, tt))),
+                      reads refl refl refl (one refl refl refl refl, (one refl refl refl refl, (one refl refl refl refl, (flag refl refl refl refl refl refl, (asks refl refl refl, tt))))),
                       (
-                        reads refl refl refl (one refl refl refl refl, (one refl refl refl refl, (one refl refl refl refl, (one refl refl refl refl, (flag refl refl refl refl refl refl, (asks refl refl refl, tt)))))),
+                        reads refl refl refl (one refl refl refl refl, (one refl refl refl refl, (one refl refl refl refl, (one refl refl refl refl, (flag refl refl refl refl refl refl, (one refl refl refl refl, (flag refl refl refl refl refl refl, (asks refl refl refl, tt)))))))),
                         (
-                          reads refl refl refl (one refl refl refl refl, (one refl refl refl refl, (one refl refl refl refl, (one refl refl refl refl, (flag refl refl refl refl refl refl, (asks refl refl refl, tt)))))),
+                          reads refl refl refl (one refl refl refl refl, (one refl refl refl refl, (one refl refl refl refl, (one refl refl refl refl, (flag refl refl refl refl refl refl, (one refl refl refl refl, (flag refl refl refl refl refl refl, (asks refl refl refl, tt)))))))),
                           (
-                            reads refl refl refl (one refl refl refl refl, (one refl refl refl refl, (one refl refl refl refl, (one refl refl refl refl, (asks refl refl refl, tt))))),
+                            reads refl refl refl (one refl refl refl refl, (one refl refl refl refl, (one refl refl refl refl, (one refl refl refl refl, (one refl refl refl refl, (flag refl refl refl refl refl refl, (asks refl refl refl, tt))))))),
                             (
-                              reads refl refl refl (one refl refl refl refl, (one refl refl refl refl, (asks refl refl refl, tt))),
+                              reads refl refl refl (one refl refl refl refl, (one refl refl refl refl, (one refl refl refl refl, (flag refl refl refl refl refl refl, (asks refl refl refl, tt))))),
                               (
-                                reads refl refl refl (one refl refl refl refl, (one refl refl refl refl, (asks refl refl refl, tt))),
+                                reads refl refl refl (one refl refl refl refl, (one refl refl refl refl, (one refl refl refl refl, (flag refl refl refl refl refl refl, (asks refl refl refl, tt))))),
                                 (
                                   reads refl refl refl (one refl refl refl refl, (one refl refl refl refl, (one refl refl refl refl, (asks refl refl refl, tt)))),
                                   (
-                                    reads refl refl refl (one refl refl refl refl, (one refl refl refl refl, (asks refl refl refl, tt))),
+                                    reads refl refl refl (one refl refl refl refl, (one refl refl refl refl, (one refl refl refl refl, (flag refl refl refl refl refl refl, (asks refl refl refl, tt))))),
                                     (
                                       reads refl refl refl (one refl refl refl refl, (one refl refl refl refl, (many refl refl refl refl refl, (asks refl refl refl, tt)))),
                                       (
-                                        reads refl refl refl (one refl refl refl refl, (one refl refl refl refl, (one refl refl refl refl, (one refl refl refl refl, (flag refl refl refl refl refl refl, (asks refl refl refl, tt)))))),
+                                        reads refl refl refl (one refl refl refl refl, (one refl refl refl refl, (one refl refl refl refl, (one refl refl refl refl, (flag refl refl refl refl refl refl, (one refl refl refl refl, (flag refl refl refl refl refl refl, (asks refl refl refl, tt)))))))),
                                         (
                                           reads refl refl refl (one refl refl refl refl, (one refl refl refl refl, (one refl refl refl refl, (one refl refl refl refl, (one refl refl refl refl, (many refl refl refl refl refl, (asks refl refl refl, tt))))))),
                                           (

@@ -52,9 +52,13 @@ flag_rule name = record (new_rule name) { long = Some name; action = Some action
 abbrev pub options_rule : Text → Rule
 options_rule name = record (option_rule name) { action = Some action.Append }
 
--- the options that choose events
+-- the options that say by which names steps are told
+abbrev pub name_rules : List Rule
+name_rules = option_rule (codes "plan") ∷ flag_rule (codes "names") ∷ []
+
+-- the options that choose events, and then those
 abbrev pub choice_rules : List Rule
-choice_rules = option_rule (codes "steps") ∷ flag_rule (codes "starts") ∷ []
+choice_rules = option_rule (codes "steps") ∷ flag_rule (codes "starts") ∷ name_rules
 
 -- a command with its words
 abbrev pub command : Text → List Rule → Shape
@@ -77,14 +81,14 @@ commands = command (codes "run") []
     ∷ on_log (codes "done") (word_rule (codes "EVENT") ∷ word_rule (codes "TIME") ∷ [])
     ∷ on_log (codes "merge") (word_rule (codes "OTHER") ∷ [])
     ∷ on_log (codes "guard") (options_rule (codes "own") ∷ [])
-    ∷ on_log (codes "report") []
+    ∷ on_log (codes "report") name_rules
     ∷ on_log (codes "next") (word_rule (codes "NOW") ∷ choice_rules)
     ∷ on_log (codes "ready") (word_rule (codes "NOW") ∷ choice_rules)
-    ∷ on_log (codes "why") (word_rule (codes "EVENT") ∷ maybe_rule (codes "TO") ∷ [])
-    ∷ on_log (codes "repairs") []
-    ∷ on_log (codes "records") []
+    ∷ on_log (codes "why") (word_rule (codes "EVENT") ∷ maybe_rule (codes "TO") ∷ name_rules)
+    ∷ on_log (codes "repairs") name_rules
+    ∷ on_log (codes "records") name_rules
     ∷ on_log (codes "steps") (option_rule (codes "plan") ∷ [])
-    ∷ on_log (codes "bounds") []
+    ∷ on_log (codes "bounds") name_rules
     ∷ on_log (codes "check") (many_rule (codes "TIME") ∷ [])
     ∷ on_log (codes "rehearse") (word_rule (codes "NOW") ∷ choice_rules)
     ∷ on_log (codes "draw") (option_rule (codes "now") ∷ option_rule (codes "arrows") ∷ option_rule (codes "plan") ∷ options_rule (codes "own") ∷ [])

@@ -1,7 +1,7 @@
 -- What the words of a command line ask for, by what clap finds in them: a command, and the value of each of its words.
 use Rattle.std.specs.{Prelude.{◌≡◌, ◌≢◌, ◌↔◌, ◌≤◌, ℕ, Bool, IsTrue, List, [], Option, Some, codes, map, option_map, unwrap_or, ⊤}, Borrow.Bor, Str.Parse.{digits_value, without_leading_plus}}
 use Rattle.clap.specs.{Words.{IsAmong, Row, Text, all_of, fault_of, first_of, kind_of}, declared.error.kind.ErrorKind.TheVariants.OutOfMemory}
-use Rattle.stn_line.specs.{Commands.{most_connections, most_seconds, usual_seconds, stn}, declared.words.{SiteLog.SiteLog, EventChoice.EventChoice, NewLog.NewLog, LogChange.LogChange, LogQuestion.LogQuestion, Line.Line, LineFault.LineFault}}
+use Rattle.stn_line.specs.{Commands.{most_connections, most_seconds, usual_seconds, stn}, declared.words.{SiteLog.SiteLog, EventChoice.EventChoice, NameWords.NameWords, NewLog.NewLog, LogChange.LogChange, LogQuestion.LogQuestion, Line.Line, LineFault.LineFault}}
 use Rattle.stn_line.specs.declared.words.NewLog.TheVariants as new
 use Rattle.stn_line.specs.declared.words.LogChange.TheVariants as change
 use Rattle.stn_line.specs.declared.words.LogQuestion.TheVariants as question
@@ -43,6 +43,11 @@ pub record IsChoice (choice : EventChoice) (rows : List Row) : Type 0 where
   pub steps : IsOption (codes "steps") choice.steps rows
   pub starts : IsFlag (codes "starts") choice.starts rows
 
+-- where the names of steps come from
+pub record AreNames (names : NameWords) (rows : List Row) : Type 0 where
+  pub plan : IsOption (codes "plan") names.plan rows
+  pub own : IsFlag (codes "names") names.own rows
+
 -- a command of this name makes such a log, with the values of its words
 abbrev pub IsNewLogOf : NewLog → Text → List Row → Type 0
 IsNewLogOf (new.Bare steps) name rows = (name ≡ codes "bare") × IsNumberValue (codes "STEPS") steps rows
@@ -76,19 +81,19 @@ IsQuestionOf (question.Rehearse now choice) name rows =
 IsQuestionOf (question.Why event to) name rows = (name ≡ codes "why") × IsWordValue (codes "EVENT") event rows × IsOption (codes "TO") to rows
 IsQuestionOf question.Repairs name rows = name ≡ codes "repairs"
 IsQuestionOf question.Records name rows = name ≡ codes "records"
-IsQuestionOf (question.Steps plan) name rows = (name ≡ codes "steps") × IsOption (codes "plan") plan rows
+IsQuestionOf question.Steps name rows = name ≡ codes "steps"
 IsQuestionOf question.Bounds name rows = name ≡ codes "bounds"
 IsQuestionOf (question.Check times) name rows = (name ≡ codes "check") × IsWords (codes "TIME") times.items rows
 IsQuestionOf (question.Draw drawing) name rows =
-    (name ≡ codes "draw") × IsOption (codes "plan") drawing.plan rows × IsOption (codes "now") drawing.now rows
-    × IsOption (codes "arrows") drawing.arrows rows × IsWords (codes "own") drawing.owned.items rows
+    (name ≡ codes "draw") × IsOption (codes "now") drawing.now rows × IsOption (codes "arrows") drawing.arrows rows
+    × IsWords (codes "own") drawing.owned.items rows
 
 -- the command line is one of the command of this name, with the values of its words
 abbrev pub IsLineOf : Line → Text → List Row → Type 0
 IsLineOf line.Run name rows = name ≡ codes "run"
 IsLineOf (line.Make log made) name rows = IsOnLog log rows × IsNewLogOf made name rows
 IsLineOf (line.Change log made) name rows = IsOnLog log rows × IsChangeOf made name rows
-IsLineOf (line.Ask log asked) name rows = IsOnLog log rows × IsQuestionOf asked name rows
+IsLineOf (line.Ask log asked names) name rows = IsOnLog log rows × IsQuestionOf asked name rows × AreNames names rows
 IsLineOf (line.Explain code) name rows = (name ≡ codes "explain") × IsOption (codes "CODE") code rows
 IsLineOf (line.Shell log) name rows = (name ≡ codes "shell") × IsOnLog log rows
 IsLineOf (line.Serve log address count seconds) name rows =

@@ -92,6 +92,11 @@ const NAMES: Word = Word::Plan(
     "The file of a plan whose actions name the steps; for a bare or loosened plan",
 );
 
+const OWN_NAMES: Word = Word::Flag(
+    "names",
+    "The log's own plan names the steps; for a log of `init`",
+);
+
 const STARTS: Word = Word::Flag("starts", "Only starts count as left");
 
 const COMMANDS: [Row; 25] = [
@@ -205,17 +210,17 @@ const COMMANDS: [Row; 25] = [
     Row {
         name: "report",
         about: "Prints each event's window of times, or the bounds that contradict each other",
-        words: &[LOG, SITE],
+        words: &[LOG, SITE, NAMES, OWN_NAMES],
     },
     Row {
         name: "next",
         about: "Says which event to run next, and when",
-        words: &[LOG, SITE, NOW, STEPS, STARTS],
+        words: &[LOG, SITE, NOW, STEPS, STARTS, NAMES, OWN_NAMES],
     },
     Row {
         name: "ready",
         about: "Says which events may run from NOW on, and until when",
-        words: &[LOG, SITE, NOW, STEPS, STARTS],
+        words: &[LOG, SITE, NOW, STEPS, STARTS, NAMES, OWN_NAMES],
     },
     Row {
         name: "why",
@@ -225,17 +230,19 @@ const COMMANDS: [Row; 25] = [
             SITE,
             Word::Text("EVENT", "The event: `s1`, `e1`, or `z` for the origin"),
             Word::MaybeText("TO", "A second event: how long after the first it comes"),
+            NAMES,
+            OWN_NAMES,
         ],
     },
     Row {
         name: "repairs",
         about: "Prints what mends a conflict: each record without which the others can be kept, and which to drop",
-        words: &[LOG, SITE],
+        words: &[LOG, SITE, NAMES, OWN_NAMES],
     },
     Row {
         name: "records",
         about: "Prints the records in the log, also those that no longer count",
-        words: &[LOG, SITE],
+        words: &[LOG, SITE, NAMES, OWN_NAMES],
     },
     Row {
         name: "steps",
@@ -245,7 +252,7 @@ const COMMANDS: [Row; 25] = [
     Row {
         name: "bounds",
         about: "Prints all bounds that count, the plan's first",
-        words: &[LOG, SITE],
+        words: &[LOG, SITE, NAMES, OWN_NAMES],
     },
     Row {
         name: "check",
@@ -262,7 +269,7 @@ const COMMANDS: [Row; 25] = [
     Row {
         name: "rehearse",
         about: "Prints the rest of the plan as `next` would run it from NOW on",
-        words: &[LOG, SITE, NOW, STEPS, STARTS],
+        words: &[LOG, SITE, NOW, STEPS, STARTS, NAMES, OWN_NAMES],
     },
     Row {
         name: "draw",

@@ -6,7 +6,7 @@ pub use explanations::{Subject, fault_word, meaning_of, print_explained};
 pub use help::said;
 pub use reading::line;
 pub use words::{
-    DrawingWords, EventChoice, Line, LineFault, LogChange, LogQuestion, NewLog, SiteLog,
+    DrawingWords, EventChoice, Line, LineFault, LogChange, LogQuestion, NameWords, NewLog, SiteLog,
 };
 
 mod commands;

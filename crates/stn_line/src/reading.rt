@@ -1,11 +1,11 @@
 ghost use Rattle.std.specs.Prelude.{◌≡◌, ◌≤◌, ◌∷◌, IfErr, IfOk, IsSomeAnd, [], ℕ, codes, map};
 ghost use Rattle.clap.specs.Words.{fault_of, found_of, rows_of, subcommand_of, subcommand_rows_of};
-ghost use Rattle.stn_line.specs.{Commands.{most_read_steps, most_seconds, stn as program}, Given.{HasWords, IsEntered, IsOneOf, HasValue, IsNumberThere, IsNumberWhereGiven}, Lines.{IsWordsFault, IsChoice, IsFlag, IsLineOf, IsNewLogOf, IsChangeOf, IsQuestionOf, IsNumberValue, IsOnLog, IsOption, IsSeconds, IsWordValue, IsWords}};
+ghost use Rattle.stn_line.specs.{Commands.{most_read_steps, most_seconds, stn as program}, Given.{HasWords, IsEntered, IsOneOf, HasValue, IsNumberThere, IsNumberWhereGiven}, Lines.{IsWordsFault, AreNames, IsChoice, IsFlag, IsLineOf, IsNewLogOf, IsChangeOf, IsQuestionOf, IsNumberValue, IsOnLog, IsOption, IsSeconds, IsWordValue, IsWords}};
 ghost use Rattle.stn_records.specs.Id.{most_sites};
 
 use crate::commands::stn;
 use crate::words::{
-    DrawingWords, EventChoice, Line, LineFault, LogChange, LogQuestion, NewLog, SiteLog,
+    DrawingWords, EventChoice, Line, LineFault, LogChange, LogQuestion, NameWords, NewLog, SiteLog,
 };
 use clap::ArgMatches;
 use clap::error::ErrorKind;
@@ -54,10 +54,16 @@ fn command<'a>(alloc: Global, name: &str, words: &ArgMatches<'a>) -> Result<Line
             Ok(Line::Change(site_log(words), changing(name, words)))
         }
         "guard" => guarding(alloc, words),
-        "check" | "draw" => Ok(Line::Ask(site_log(words), listing(alloc, name, words)?)),
-        "next" | "ready" | "rehearse" => Ok(Line::Ask(site_log(words), choosing(name, words))),
+        "check" | "draw" => {
+            let question = listing(alloc, name, words)?;
+            Ok(Line::Ask(site_log(words), question, names(words)))
+        }
+        "next" | "ready" | "rehearse" => {
+            let question = choosing(name, words);
+            Ok(Line::Ask(site_log(words), question, names(words)))
+        }
         "report" | "repairs" | "records" | "bounds" | "why" | "steps" => {
-            Ok(Line::Ask(site_log(words), asking(name, words)))
+            Ok(Line::Ask(site_log(words), asking(name, words), names(words)))
         }
         "shell" => Ok(Line::Shell {
             log: site_log(words),
@@ -147,7 +153,6 @@ fn listing<'a>(
             times: all_words(alloc, words, "TIME")?,
         }),
         _ => Ok(LogQuestion::Draw(DrawingWords {
-            plan: option(words, "plan"),
             now: option(words, "now"),
             arrows: option(words, "arrows"),
             owned: all_words(alloc, words, "own")?,
@@ -185,9 +190,7 @@ fn asking<'a>(name: &str, words: &ArgMatches<'a>) -> LogQuestion<'a>
             event: word(words, "EVENT"),
             to: option(words, "TO"),
         },
-        _ => LogQuestion::Steps {
-            plan: option(words, "plan"),
-        },
+        _ => LogQuestion::Steps,
     }
 }
 
@@ -263,6 +266,16 @@ fn choice<'a>(words: &ArgMatches<'a>) -> EventChoice<'a>
     EventChoice {
         steps: option(words, "steps"),
         starts: flag(words, "starts"),
+    }
+}
+
+// Where the names of steps come from.
+fn names<'a>(words: &ArgMatches<'a>) -> NameWords<'a>
+    ensures { AreNames result (rows_of (found_of words.now)) }
+{
+    NameWords {
+        plan: option(words, "plan"),
+        own: flag(words, "names"),
     }
 }
 

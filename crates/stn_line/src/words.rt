@@ -83,11 +83,19 @@ pub enum LogChange<'a> {
     },
 }
 
-/// How a plan is drawn: by the names of a plan's file, as in `Steps`; from a time on, where one is given; with arrows, unless the word
-/// for them says no; with the steps of sites, as in `Guard`.
+/// Where the names of a plan's steps come from, if an answer is to tell them.
+#[derive(Clone, Copy)]
+pub struct NameWords<'a> {
+    /// The file of a plan text, for a bare plan.
+    pub plan: Option<&'a str>,
+    /// Whether it is the log's own plan text, of a plan of files.
+    pub own: bool,
+}
+
+/// How a plan is drawn: from a time on, where one is given; with arrows, unless the word for them says no; with the steps of sites, as
+/// in `Guard`.
 #[derive(Drop)]
 pub struct DrawingWords<'a> {
-    pub plan: Option<&'a str>,
     pub now: Option<&'a str>,
     pub arrows: Option<&'a str>,
     pub owned: Vec<&'a str, Global>,
@@ -122,10 +130,8 @@ pub enum LogQuestion<'a> {
     Repairs,
     /// Tells which records the log holds.
     Records,
-    /// Tells which steps the plan has; those of a bare plan by the names of a plan's file, if one is given.
-    Steps {
-        plan: Option<&'a str>,
-    },
+    /// Tells which steps the plan has.
+    Steps,
     /// Tells which bounds count.
     Bounds,
     /// Tells whether times, one for each event from `s1` on, are a schedule.
@@ -145,8 +151,8 @@ pub enum Line<'a> {
     Make(SiteLog<'a>, NewLog<'a>),
     /// Changes a log that is there.
     Change(SiteLog<'a>, LogChange<'a>),
-    /// Asks a question of a log that is there, which stays as it is.
-    Ask(SiteLog<'a>, LogQuestion<'a>),
+    /// Asks a question of a log that is there, which stays as it is; the answer tells the steps by such names.
+    Ask(SiteLog<'a>, LogQuestion<'a>, NameWords<'a>),
     /// Explains a refusal or a fault, by the number or the word that is printed for it; where none is given, lists all.
     Explain {
         code: Option<&'a str>,

@@ -2,18 +2,18 @@
 use Rattle.std.{proofs.{Common.{◌≡◌, inl, inr, ℕ, ◌+◌, Bool, true, false, List, length, take, Option, Some, None, is_some, option_map, Result, Ok, Err, refl, sym, ap, subst, ◌∙◌, arith, length-append}, lemmas.{Bool.false≢true, Option.same_Some}}, specs.{Borrow.Bor, Prelude.{⊤, codes, [], ◌∷◌, ◌++◌}}}
 use Rattle.stn_device.proofs.Known.{not_err}
 use Rattle.stn_net.specs.{Difference.Difference, Schedule.HasSchedule}
-use Rattle.stn_lift.specs.{PlanSource.{PlanSource, bare, files, events_of, base_of, steps_of}, Failures.base_failure, declared.fault.BaseFault.BaseFault}
-use Rattle.stn_site.specs.{Held.Held, Failures.replica_failure, Bounds.all_bounds, declared.faults.ReplicaFault.ReplicaFault}
+use Rattle.stn_lift.specs.{Plan.Steps.plan_of, PlanSource.{PlanSource, bare, files, events_of, base_of, steps_of}, Failures.base_failure, declared.fault.BaseFault.BaseFault}
+use Rattle.stn_site.specs.{Held.Held, Change.change_refusal, Failures.replica_failure, Bounds.all_bounds, declared.{faults.ReplicaFault.ReplicaFault, change.Change.{Change as ChangeAsked, TheVariants.{Add, Amend, Withdraw, Done}}}}
 use Rattle.stn_store.specs.{Log.{Log, log_held, IsLog, Failures.load_failure}, declared.log.fault.LoadFault.LoadFault, Store.{Entry, Holds, IsThere, IsTaken, IsMissing, Spells, Means, Opens, IsUnopened}, Steps.{Entries, FindsFree, FindsText, LoadsLog, SavesNew}, Merging.IsMergeRefusal}
-use Rattle.stn_command.specs.{Change.change_refusal, Named.{names_refusal, Shown, IsNamed, listed, pictured}, Words.no_such_word, declared.changes.Change.{Change as ChangeAsked, TheVariants.{Add, Amend, Withdraw, Done}}, Query.{Query, report, check, foresee, ask, repairs, draw, IsSaid, IsQueryRefusal}}
+use Rattle.stn_command.specs.{Named.{IsSaidBy, IsRefusedBy, IsBehind, count_refusal}, Words.no_such_word, Query.{Query, report, check, foresee, ask, repairs, draw, IsQueryRefusal}}
 use Rattle.stn_command.specs.declared.queries.Outlook.TheVariants as outlook
 use Rattle.stn_guard.specs.{Adding.{IsGuardRefusal, no_step, conflict, guarded, records_refusal, owner_by}, Making.IsGuardOf, declared.owners.OwnedSteps.OwnedSteps}
 use Rattle.stn_loosen.specs.{Slack.Slack, Loosened.{AreFewLoosened, AreTooMany}, Robust.{AreRobust, AreFewRobust, AreTooManyRobust}}
 use Rattle.stn_refusal.specs.declared.failure.{Failure.Failure, Fault.Fault}
 use Rattle.stn_effects.{specs.Effects.{Effect, Then, Makes, Settles, Gives, EndAlike, failing}, proofs.Endings.{EndSo, makes_same, reads_same, then_alike, then_done_alike, gives_alike, gives_lacks, lacks_alike, finds_alike, makes_alike, reads_alike, as_alike}}
 use Rattle.stn_records.specs.Content.{Content, no_content}
-use Rattle.stn_line.specs.{Explanations.Explained.IsExplained, declared.words.{SiteLog.SiteLog, NewLog.TheVariants.{Bare, Init, Loosen}, Line.{Line, TheVariants.{Run, Make, Change, Ask, Explain, Shell, Serve, Send}}}}
-use Rattle.stn_logs.{specs.{Words.{Asked, query, named_by, Update, change, merge, guard, slack_read, update_read, question_read}, Loosening.{HoldsLoosened, IsLoosenedRefusal, IsRobustRefusal, WithBase, IsLooseningRefusal}, Commands.{Updated, SavesUpdated, IsGuarded, SavesMade, MakesLog, FindsSource, IsChanged, IsMerged, IsUnguarded, Updates, UpdatesLog, nameless, SaysAsked, AnswersAsked, IsExplainRefusal, DoesLine}}, proofs.Unsaved.{free_same, text_same, load_same, source_same, update_same, saved_lacks, Looser, LoosensTexts}}
+use Rattle.stn_line.specs.{Explanations.Explained.IsExplained, declared.words.{SiteLog.SiteLog, NameWords.NameWords, NewLog.TheVariants.{Bare, Init, Loosen}, Line.{Line, TheVariants.{Run, Make, Change, Ask, Explain, Shell, Serve, Send}}}}
+use Rattle.stn_logs.{specs.{Words.{Update, change, merge, guard, slack_read, update_read, question_read}, Loosening.{HoldsLoosened, IsLoosenedRefusal, IsRobustRefusal, WithBase, IsLooseningRefusal}, Commands.{SavesUpdated, IsGuarded, SavesMade, MakesLog, FindsSource, IsChanged, IsMerged, IsUnguarded, Updates, UpdatesLog, nameless, own_plan_text, FindsNames, SaysAsked, AnswersAsked, IsExplainRefusal, DoesLine}}, proofs.Unsaved.{free_same, text_same, load_same, source_same, names_same, update_same, saved_lacks, Looser, LoosensTexts}}
 
 -- at most one cause is named
 abbrev IsOne : (Option Failure → Type 0) → Type 0
@@ -98,9 +98,13 @@ query_at_rest (ask question) held cause p = p
 query_at_rest repairs held cause p = p
 query_at_rest (draw look) held cause p = p
 
-names_at_rest : (what : Shown) (held : Held) (names : List ℕ) → names_refusal what held names ≡ names_refusal what (idle held) names
-names_at_rest listed held names = refl
-names_at_rest (pictured look) held names = refl
+behind_at_rest : (asked : Query) (held : Held) (first cause : Option Failure) → IsBehind first (IsQueryRefusal asked held) cause → IsBehind first (IsQueryRefusal asked (idle held)) cause
+behind_at_rest asked held None cause p = query_at_rest asked held cause p
+behind_at_rest asked held (Some failure) cause p = p
+
+refused_at_rest : (plan : Option (List ℕ)) (asked : Query) (held : Held) (cause : Option Failure) → IsRefusedBy plan asked held cause → IsRefusedBy plan asked (idle held) cause
+refused_at_rest None asked held cause p = query_at_rest asked held cause p
+refused_at_rest (Some plan) asked held cause p = behind_at_rest asked held (count_refusal (steps_of held.source) (plan_of plan)) cause p
 
 -- at most one refusal of a guard
 module _ (guards : (owner : ℕ → ℕ) (events : ℕ) (bounds one other : List Difference) → HasSchedule bounds → IsGuardOf owner events bounds one → IsGuardOf owner events bounds other → one ≡ other)
@@ -134,6 +138,15 @@ module _ (logs : (bytes : List ℕ) (one other : Result Log LoadFault) → IsLog
     (queries : (asked : Query) (held : Held) (cause other : Option Failure) → IsQueryRefusal asked held cause → IsQueryRefusal asked held other → cause ≡ other)
     (robusts : (source : PlanSource) (slack : Slack) (one other : List Difference) → AreRobust source slack one → AreRobust source slack other → one ≡ other)
     (many : (source : PlanSource) (slack : Slack) → AreTooMany source slack → (records : List Difference) → ¬ AreFewLoosened source slack records) where
+  -- ---- a query by names of steps
+  one_behind : (asked : Query) (held : Held) (first : Option Failure) → IsOne (IsBehind first (IsQueryRefusal asked held))
+  one_behind asked held None cause other p q = queries asked held cause other p q
+  one_behind asked held (Some failure) cause other p q = p ∙ sym q
+
+  one_refused : (plan : Option (List ℕ)) (asked : Query) (held : Held) → IsOne (IsRefusedBy plan asked held)
+  one_refused None asked held cause other p q = queries asked held cause other p q
+  one_refused (Some plan) asked held cause other p q = one_behind asked held (count_refusal (steps_of held.source) (plan_of plan)) cause other p q
+
   -- ---- a loosened plan, and a robust one
   one_loosened : (source : PlanSource) (slack : Slack) → IsOne (IsLoosenedRefusal source slack)
   one_loosened source slack cause other (inl p) (inl q) = p.1 ∙ sym q.1
@@ -224,6 +237,19 @@ module _ (logs : (bytes : List ℕ) (one other : Result Log LoadFault) → IsLog
         (λ steps others alike. gives_alike Fails (files actions steps) (files acts others) known
         (ap (λ (one : List ℕ). files one steps) same ∙ ap (λ (one : List ℕ). files acts one) alike)))
 
+    -- the names of steps are found once
+    names_alike : (plan : Option (List ℕ)) (own : Bool) (source : PlanSource)
+        → EndSo Fails (λ one other. one ≡ other) known (FindsNames Fails plan own source) (FindsNames Fails plan own source)
+    names_alike None false source = reads_alike Fails (Ok None) known
+    names_alike None true source = reads_alike Fails (own_plan_text source) known
+    names_alike (Some plan) false source = then_alike Fails (Settles Fails (nameless source)) (λ _. Then (FindsText Fails plan) (λ text. Gives (Some text)))
+        (Settles Fails (nameless source)) (λ _. Then (FindsText Fails plan) (λ text. Gives (Some text)))
+        (λ one other. one ≡ other) (λ one other. one ≡ other) known (reads_same Fails (nameless source)) (reads_same Fails (nameless source)) (reads_alike Fails (nameless source) known)
+        (λ _ _ _. then_alike Fails (FindsText Fails plan) (λ text. Gives (Some text)) (FindsText Fails plan) (λ text. Gives (Some text))
+        (λ one other. one ≡ other) (λ one other. one ≡ other) known (text_same Fails plan) (text_same Fails plan) (text_alike plan)
+        (λ text other same. gives_alike Fails (Some text) (Some other) known (ap (λ (one : List ℕ). Some one) same)))
+    names_alike (Some plan) true source = reads_alike Fails (Err no_such_word) known
+
     -- ---- what is asked of a log, by two copies that say the same
     module _ (held other : Held) (same : idle held ≡ idle other) where
       at_rest_alike : (IsCause : Held → Option Failure → Type 0) → ((one : Held) (cause : Option Failure) → IsCause one cause → IsCause (idle one) cause)
@@ -245,24 +271,17 @@ module _ (logs : (bytes : List ℕ) (one other : Result Log LoadFault) → IsLog
       update_alike (guard owned) = makes_alike Fails (IsGuarded owned held) (IsGuarded owned other)
           (IsUnguarded owned held) (IsUnguarded owned other) known (at_rest_alike (IsUnguarded owned) (guard_at_rest owned) (one_unguarded guards owned))
 
-      names_alike : (what : Shown) (names others : List ℕ) → names ≡ others → names_refusal what held names ≡ names_refusal what other others
-      names_alike what names others alike =
-          names_at_rest what held names ∙ ap (λ (one : Held). names_refusal what one names) same
-          ∙ ap (names_refusal what (idle other)) alike ∙ sym (names_at_rest what other others)
-
-      says_alike : (asked : Asked) → EndSo Fails (λ _ _. ⊤) known (SaysAsked Fails asked held) (SaysAsked Fails asked other)
-      says_alike (query asked) = makes_alike Fails (IsSaid asked held) (IsSaid asked other) (IsQueryRefusal asked held) (IsQueryRefusal asked other) known
-          (at_rest_alike (IsQueryRefusal asked) (query_at_rest asked) (queries asked))
-      says_alike (named_by what plan) = then_alike Fails (Settles Fails (nameless held.source)) (λ _. Then (FindsText Fails plan) (λ names. Makes Fails (IsNamed what names held) (λ cause. cause ≡ names_refusal what held names)))
-          (Settles Fails (nameless other.source)) (λ _. Then (FindsText Fails plan) (λ names. Makes Fails (IsNamed what names other) (λ cause. cause ≡ names_refusal what other names)))
-          (λ one last. one ≡ last) (λ _ _. ⊤) known (reads_same Fails (nameless held.source)) (reads_same Fails (nameless other.source))
-          (subst (λ (one : Held). EndSo Fails (λ one last. one ≡ last) known (Settles Fails (nameless held.source)) (Settles Fails (nameless one.source))) same
-          (reads_alike Fails (nameless held.source) known))
-          (λ _ _ _. then_alike Fails (FindsText Fails plan) (λ names. Makes Fails (IsNamed what names held) (λ cause. cause ≡ names_refusal what held names))
-          (FindsText Fails plan) (λ names. Makes Fails (IsNamed what names other) (λ cause. cause ≡ names_refusal what other names))
-          (λ one last. one ≡ last) (λ _ _. ⊤) known (text_same Fails plan) (text_same Fails plan) (text_alike plan)
-          (λ names others alike. makes_alike Fails (IsNamed what names held) (IsNamed what others other) (λ cause. cause ≡ names_refusal what held names) (λ cause. cause ≡ names_refusal what other others) known
-          (λ cause reason p q. p ∙ (names_alike what names others alike ∙ sym q))))
+      says_alike : (asked : Query) (names : NameWords) → EndSo Fails (λ _ _. ⊤) known (SaysAsked Fails asked names held) (SaysAsked Fails asked names other)
+      says_alike asked names =
+          let file : Option (List ℕ) = option_map (λ (w : Bor (List ℕ)). w.now) names.plan in
+          then_alike Fails (FindsNames Fails file names.own held.source) (λ plan. Makes Fails (IsSaidBy plan asked held) (IsRefusedBy plan asked held))
+          (FindsNames Fails file names.own other.source) (λ plan. Makes Fails (IsSaidBy plan asked other) (IsRefusedBy plan asked other))
+          (λ one last. one ≡ last) (λ _ _. ⊤) known (names_same Fails file names.own held.source) (names_same Fails file names.own other.source)
+          (subst (λ (one : Held). EndSo Fails (λ one last. one ≡ last) known (FindsNames Fails file names.own held.source) (FindsNames Fails file names.own one.source)) same
+          (names_alike file names.own held.source))
+          (λ plan last alike. makes_alike Fails (IsSaidBy plan asked held) (IsSaidBy last asked other) (IsRefusedBy plan asked held) (IsRefusedBy last asked other) known
+          (λ cause reason p q. at_rest_alike (IsRefusedBy plan asked) (refused_at_rest plan asked) (one_refused plan asked) cause reason p
+          (subst (λ (one : Option (List ℕ)). IsRefusedBy one asked other reason) (sym alike) q)))
 
     -- ---- a command
     loosening_alike : (log : SiteLog) (domain plan : List ℕ) (robust : Bool) (slack : Slack)
@@ -291,11 +310,11 @@ module _ (logs : (bytes : List ℕ) (one other : Result Log LoadFault) → IsLog
         (λ made last _. lacks_alike Fails known (SavesUpdated Fails log.name.now made) (SavesUpdated Fails log.name.now last)
         (saved_lacks Fails log.name.now made) (saved_lacks Fails log.name.now last)))
 
-    answers_alike : (log : SiteLog) (asked : Asked) → EndSo Fails (λ _ _. ⊤) known (AnswersAsked Fails log asked) (AnswersAsked Fails log asked)
-    answers_alike log asked = then_alike Fails (LoadsLog Fails log.name.now log.site) (λ held. SaysAsked Fails asked held)
-        (LoadsLog Fails log.name.now log.site) (λ held. SaysAsked Fails asked held)
+    answers_alike : (log : SiteLog) (asked : Query) (names : NameWords) → EndSo Fails (λ _ _. ⊤) known (AnswersAsked Fails log asked names) (AnswersAsked Fails log asked names)
+    answers_alike log asked names = then_alike Fails (LoadsLog Fails log.name.now log.site) (λ held. SaysAsked Fails asked names held)
+        (LoadsLog Fails log.name.now log.site) (λ held. SaysAsked Fails asked names held)
         (λ held other. idle held ≡ idle other) (λ _ _. ⊤) known (load_same Fails log.name.now log.site) (load_same Fails log.name.now log.site)
-        (load_alike log.name.now log.site log.site refl) (λ held other same. says_alike held other same asked)
+        (load_alike log.name.now log.site log.site refl) (λ held other same. says_alike held other same asked names)
 
     -- words are read alike, and then what they ask for is done alike
     read_alike : {X : Type 0} (said : Result X Failure) (Next : X → Effect Entries (List ℕ)) → ((value : X) → EndSo Fails (λ _ _. ⊤) known (Next value) (Next value))
@@ -325,7 +344,7 @@ module _ (logs : (bytes : List ℕ) (one other : Result Log LoadFault) → IsLog
     line_alike (Make log (Loosen domain plan early late robust)) =
         read_alike (slack_read early late) (λ slack. LoosensTexts Fails log domain.now plan.now robust slack) (λ slack. loosening_alike log domain.now plan.now robust slack)
     line_alike (Change log words) = read_alike (update_read words) (λ asked. UpdatesLog Fails log asked) (λ asked. updating_alike log asked)
-    line_alike (Ask log words) = read_alike (question_read log words) (λ asked. AnswersAsked Fails log asked) (λ asked. answers_alike log asked)
+    line_alike (Ask log words names) = read_alike (question_read log words) (λ asked. AnswersAsked Fails log asked names) (λ asked. answers_alike log asked names)
     line_alike (Explain word) =
         let one = option_map (λ (w : Bor (List ℕ)). w.now) word in
         makes_alike Fails (IsExplained one) (IsExplained one) (IsExplainRefusal one) (IsExplainRefusal one) known (one_explained one)

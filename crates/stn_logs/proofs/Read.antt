@@ -1,10 +1,10 @@
 -- Words that are read one after the other.
-use Rattle.std.{proofs.Common.{◌≡◌, ℕ, ℤ, Bor, Bool, List, Option, Result, Ok, Err, refl}, specs.Prelude.codes}
+use Rattle.std.{proofs.Common.{◌≡◌, ℕ, ℤ, Bor, Bool, List, Option, Result, Ok, Err, refl}}
 use Rattle.stn_command.specs.{Words.{and_then, time_read}, Steps.{steps_read, all_owned}, Query.foresee, declared.queries.Outlook.Outlook}
 use Rattle.stn_guard.specs.declared.owners.OwnedSteps.{OwnedSteps}
 use Rattle.stn_replica.specs.declared.own.StepRange.{StepRange}
 use Rattle.stn_line.specs.declared.words.{EventChoice.EventChoice, SiteLog.SiteLog}
-use Rattle.stn_logs.specs.Words.{among_read, arrows_read, given_read, look_read, query}
+use Rattle.stn_logs.specs.Words.{among_read, arrows_read, given_read, look_read}
 use Rattle.stn_refusal.specs.declared.failure.Failure.{Failure}
 
 -- the first word, and what is read after it
@@ -25,7 +25,7 @@ module _ (outlook : Outlook) (now : List ℕ) (choice : EventChoice) where
   among_time_wrong chosen failure steps time = rw (steps, time) refl
 
   pub among_right : (chosen : Option (List StepRange)) (when : ℤ) → given_read steps_read choice.steps ≡ Ok chosen → time_read now ≡ Ok when
-      → among_read outlook now choice ≡ Ok (query (foresee outlook when (record { steps = chosen; starts = choice.starts })))
+      → among_read outlook now choice ≡ Ok (foresee outlook when (record { steps = chosen; starts = choice.starts }))
   unfolding among_read
   among_right chosen when steps time = rw (steps, time) refl
 

@@ -1,14 +1,14 @@
 -- What a step of a command leaves; a command that gives no answer saves nothing.
-use Rattle.std.{proofs.Common.{◌≡◌, ℕ, Bool, List, Option, Result, Ok, Err}, specs.Prelude.{option_map, codes, [], ◌∷◌, ◌++◌}}
+use Rattle.std.{proofs.Common.{◌≡◌, ℕ, Bool, true, false, List, Option, Some, None, Ok, Err}, specs.Prelude.{option_map, codes, [], ◌∷◌, ◌++◌}}
 use Rattle.stn_effects.{specs.Effects.{Effect, Then, Makes, Settles, Gives, failing}, proofs.Endings.{ChangesNothing, KeepsIfStopped, StopsForLack, makes_same, reads_same, gives_same, gives_lacks, gives_never_stops, then_same, then_keeps, then_done, then_lacks}}
 use Rattle.stn_lift.specs.{PlanSource.{PlanSource, bare, files, base_of, steps_of}, Failures.base_failure}
 use Rattle.stn_records.specs.Content.{Content, no_content}
-use Rattle.stn_command.specs.{Change.change_refusal, Query.{IsSaid, IsQueryRefusal}, Named.{IsNamed, names_refusal}, Words.no_such_word}
-use Rattle.stn_line.specs.{Explanations.Explained.IsExplained, declared.words.{SiteLog.SiteLog, NewLog.TheVariants.{Bare, Init, Loosen}, Line.{Line, TheVariants.{Run, Make, Change, Ask, Explain, Shell, Serve, Send}}}}
-use Rattle.stn_site.specs.{Held.Held, Failures.replica_failure}
+use Rattle.stn_command.specs.{Query.Query, Named.{IsSaidBy, IsRefusedBy}, Words.no_such_word}
+use Rattle.stn_line.specs.{declared.words.{SiteLog.SiteLog, NameWords.NameWords, NewLog.TheVariants.{Bare, Init, Loosen}, Line.{Line, TheVariants.{Run, Make, Change, Ask, Explain, Shell, Serve, Send}}}}
+use Rattle.stn_site.specs.{Held.Held, Change.change_refusal, Failures.replica_failure}
 use Rattle.stn_loosen.specs.Slack.{Slack}
-use Rattle.stn_store.specs.{Log.{Log, log_held}, Merging.IsMergeRefusal, Store.IsLack, Steps.{Entries, FindsFree, FindsText, LoadsLog, Saves, SavesNew}}
-use Rattle.stn_logs.specs.{Loosening.{HoldsLoosened, IsLooseningRefusal}, Words.{Asked, query, named_by, Update, change, guard, merge, slack_read, update_read, question_read}, Commands.{Updated, updated, unchanged, SavesUpdated, IsGuarded, SavesMade, MakesLog, FindsSource, IsChanged, IsMerged, IsUnguarded, Updates, UpdatesLog, nameless, SaysAsked, AnswersAsked, IsExplainRefusal, DoesLine}}
+use Rattle.stn_store.specs.{Log.{log_held}, Merging.IsMergeRefusal, Steps.{Entries, FindsFree, FindsText, LoadsLog, Saves, SavesNew}}
+use Rattle.stn_logs.specs.{Loosening.{HoldsLoosened, IsLooseningRefusal}, Words.{Update, change, guard, merge, slack_read, update_read, question_read}, Commands.{Updated, updated, unchanged, SavesUpdated, IsGuarded, SavesMade, MakesLog, FindsSource, IsChanged, IsMerged, IsUnguarded, Updates, UpdatesLog, nameless, own_plan_text, FindsNames, SaysAsked, AnswersAsked, DoesLine}}
 use Rattle.stn_refusal.specs.declared.failure.{Failure.Failure, Fault.Fault}
 
 module _ (Fails : Fault → Type 0) where
@@ -63,17 +63,21 @@ module _ (Fails : Fault → Type 0) where
     saved_lacks (updated held text) = then_lacks (Saves Fails name (log_held held)) (λ _. Gives text) Fails (save_lacks held) (λ _. gives_lacks Fails text)
     saved_lacks (unchanged text) = gives_lacks Fails text
 
-  says_same : (asked : Asked) (held : Held) → ChangesNothing (SaysAsked Fails asked held)
-  says_same (query asked) held = makes_same Fails (IsSaid asked held) (IsQueryRefusal asked held)
-  says_same (named_by what plan) held = then_same (Settles Fails (nameless held.source))
-      (λ _. Then (FindsText Fails plan) (λ names. Makes Fails (IsNamed what names held) (λ cause. cause ≡ names_refusal what held names)))
-      (reads_same Fails (nameless held.source)) (λ _. then_same (FindsText Fails plan)
-      (λ names. Makes Fails (IsNamed what names held) (λ cause. cause ≡ names_refusal what held names)) (text_same plan)
-      (λ names. makes_same Fails (IsNamed what names held) (λ cause. cause ≡ names_refusal what held names)))
+  -- the text that names steps, and what is said by it
+  pub names_same : (plan : Option (List ℕ)) (own : Bool) (source : PlanSource) → ChangesNothing (FindsNames Fails plan own source)
+  names_same None false source = reads_same Fails (Ok None)
+  names_same None true source = reads_same Fails (own_plan_text source)
+  names_same (Some plan) false source = then_same (Settles Fails (nameless source)) (λ _. Then (FindsText Fails plan) (λ text. Gives (Some text)))
+      (reads_same Fails (nameless source)) (λ _. then_same (FindsText Fails plan) (λ text. Gives (Some text)) (text_same plan) (λ text. gives_same (Some text)))
+  names_same (Some plan) true source = reads_same Fails (Err no_such_word)
 
-  answers_same : (log : SiteLog) (asked : Asked) → ChangesNothing (AnswersAsked Fails log asked)
-  answers_same log asked = then_same (LoadsLog Fails log.name.now log.site) (λ held. SaysAsked Fails asked held)
-      (load_same log.name.now log.site) (λ held. says_same asked held)
+  says_same : (asked : Query) (names : NameWords) (held : Held) → ChangesNothing (SaysAsked Fails asked names held)
+  says_same asked names held = then_same (FindsNames Fails (option_map (λ plan. plan.now) names.plan) names.own held.source) (λ plan. Makes Fails (IsSaidBy plan asked held) (IsRefusedBy plan asked held))
+      (names_same (option_map (λ plan. plan.now) names.plan) names.own held.source) (λ plan. makes_same Fails (IsSaidBy plan asked held) (IsRefusedBy plan asked held))
+
+  answers_same : (log : SiteLog) (asked : Query) (names : NameWords) → ChangesNothing (AnswersAsked Fails log asked names)
+  answers_same log asked names = then_same (LoadsLog Fails log.name.now log.site) (λ held. SaysAsked Fails asked names held)
+      (load_same log.name.now log.site) (λ held. says_same asked names held)
 
   -- ---- what comes of an update that was read, and of the tolerance
   updating_keeps : (log : SiteLog) (asked : Update) → KeepsIfStopped (UpdatesLog Fails log asked)
@@ -109,8 +113,8 @@ module _ (Fails : Fault → Type 0) where
       (reads_same Fails (slack_read early late)) (λ slack. loosening_keeps log domain.now plan.now robust slack)
   line_keeps (Change log words) = then_keeps (Settles Fails (update_read words)) (λ asked. UpdatesLog Fails log asked)
       (reads_same Fails (update_read words)) (λ asked. updating_keeps log asked)
-  line_keeps (Ask log words) = λ old new failure. then_same (Settles Fails (question_read log words)) (λ asked. AnswersAsked Fails log asked)
-      (reads_same Fails (question_read log words)) (λ asked. answers_same log asked) old new (Err failure)
+  line_keeps (Ask log words names) = λ old new failure. then_same (Settles Fails (question_read log words)) (λ asked. AnswersAsked Fails log asked names)
+      (reads_same Fails (question_read log words)) (λ asked. answers_same log asked names) old new (Err failure)
   line_keeps (Explain word) = λ old new failure is. is.0
   line_keeps Run = none_keeps
   line_keeps (Shell log) = none_keeps

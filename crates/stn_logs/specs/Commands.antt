@@ -1,16 +1,16 @@
 -- What each command on a log does, step by step, and the text that it answers. Its refusals come in the order of its steps.
-use Rattle.std.specs.Prelude.{◌≡◌, ◌⊎◌, ℕ, List, [], ◌∷◌, ◌++◌, codes, Option, Some, None, option_map, Result, Ok, Err}
+use Rattle.std.specs.Prelude.{◌≡◌, ◌⊎◌, ℕ, Bool, true, false, List, [], ◌∷◌, ◌++◌, codes, Option, Some, None, option_map, Result, Ok, Err}
 use Rattle.stn_effects.specs.Effects.{Effect, Then, Makes, Settles, Gives, failing}
 use Rattle.stn_net.specs.Schedule.{HasSchedule}
 use Rattle.stn_lift.specs.{PlanSource.{PlanSource, bare, files, base_of, steps_of}, Failures.base_failure}
 use Rattle.stn_records.specs.{Content.{Content, no_content}, Id.SiteCounter}
-use Rattle.stn_site.specs.{Bounds.all_bounds, Calls.{Accepted, Leaves, took}, Failures.replica_failure, Held.Held, declared.faults.ReplicaFault.ReplicaFault}
-use Rattle.stn_command.specs.{Change.{change_call, change_refusal, made_by, made_text}, Query.{Query, IsSaid, IsQueryRefusal}, Guarding.guard_text, Named.{Shown, IsNamed, names_refusal}, Words.no_such_word, declared.changes.Change.Change as ChangeAsked}
+use Rattle.stn_site.specs.{Bounds.all_bounds, Calls.{Accepted, Leaves, took}, Change.{change_call, change_refusal}, Failures.replica_failure, Held.Held, declared.{faults.ReplicaFault.ReplicaFault, change.Change.Change as ChangeAsked}}
+use Rattle.stn_command.specs.{Change.{made_by, made_text}, Query.Query, Guarding.guard_text, Named.{IsSaidBy, IsRefusedBy}, Words.no_such_word}
 use Rattle.stn_guard.specs.{Adding.{AddsGuard, IsGuardRefusal}, declared.owners.OwnedSteps.OwnedSteps}
 use Rattle.stn_store.specs.{Log.log_held, Merging.IsMergeRefusal, Steps.{Entries, FindsFree, FindsText, LoadsLog, Saves, SavesNew}}
-use Rattle.stn_logs.specs.{Words.{Asked, query, named_by, Update, change, merge, guard, slack_read, update_read, question_read}, declared.changes.Outcome.Outcome, Loosening.{HoldsLoosened, IsLooseningRefusal}}
+use Rattle.stn_logs.specs.{Words.{Update, change, merge, guard, slack_read, update_read, question_read}, declared.changes.Outcome.Outcome, Loosening.{HoldsLoosened, IsLooseningRefusal}}
 use Rattle.stn_logs.specs.declared.changes.Outcome.TheVariants as came
-use Rattle.stn_line.specs.{Explanations.Explained.{IsExplained, NamesNothing}, declared.words.{SiteLog.SiteLog, NewLog.TheVariants.{Bare, Init, Loosen}, Line.{Line, TheVariants.{Run, Make, Change, Ask, Explain, Shell, Serve, Send}}}}
+use Rattle.stn_line.specs.{Explanations.Explained.{IsExplained, NamesNothing}, declared.words.{SiteLog.SiteLog, NameWords.NameWords, NewLog.TheVariants.{Bare, Init, Loosen}, Line.{Line, TheVariants.{Run, Make, Change, Ask, Explain, Shell, Serve, Send}}}}
 use Rattle.stn_refusal.specs.declared.failure.{Failure.Failure, Fault.Fault}
 
 -- ---- a new log
@@ -91,18 +91,31 @@ abbrev pub nameless : PlanSource → Result (Unit {0}) Failure
 nameless (bare steps) = Ok tt
 nameless (files domain plan) = Err no_such_word
 
--- a query is answered, or what is asked for is shown by the names of a plan's file
-abbrev pub SaysAsked : (Fault → Type 0) → Asked → Held → Effect Entries (List ℕ)
-SaysAsked Fails (query asked) held = Makes Fails (IsSaid asked held) (IsQueryRefusal asked held)
-SaysAsked Fails (named_by what plan) held =
-    Then (Settles Fails (nameless held.source)) (λ _.
-    Then (FindsText Fails plan) (λ names.
-    Makes Fails (IsNamed what names held) (λ cause. cause ≡ names_refusal what held names)))
+-- the plan text that a plan of files has itself; a bare one has none
+abbrev pub own_plan_text : PlanSource → Result (Option (List ℕ)) Failure
+own_plan_text (bare steps) = Err no_such_word
+own_plan_text (files domain plan) = Ok (Some plan)
 
-abbrev pub AnswersAsked : (Fault → Type 0) → SiteLog → Asked → Effect Entries (List ℕ)
-AnswersAsked Fails log asked =
+-- the text of a plan whose steps name those of a site's plan, if they are to have names: that of a file, or the plan's own, but not both
+abbrev pub FindsNames : (Fault → Type 0) → Option (List ℕ) → Bool → PlanSource → Effect Entries (Option (List ℕ))
+FindsNames Fails None false source = Settles Fails (Ok None)
+FindsNames Fails None true source = Settles Fails (own_plan_text source)
+FindsNames Fails (Some plan) false source =
+    Then (Settles Fails (nameless source)) (λ _.
+    Then (FindsText Fails plan) (λ text.
+    Gives (Some text)))
+FindsNames Fails (Some plan) true source = Settles Fails (Err no_such_word)
+
+-- a query is answered, by these names of steps
+abbrev pub SaysAsked : (Fault → Type 0) → Query → NameWords → Held → Effect Entries (List ℕ)
+SaysAsked Fails asked names held =
+    Then (FindsNames Fails (option_map (λ plan. plan.now) names.plan) names.own held.source) (λ plan.
+    Makes Fails (IsSaidBy plan asked held) (IsRefusedBy plan asked held))
+
+abbrev pub AnswersAsked : (Fault → Type 0) → SiteLog → Query → NameWords → Effect Entries (List ℕ)
+AnswersAsked Fails log asked names =
     Then (LoadsLog Fails log.name.now log.site) (λ held.
-    SaysAsked Fails asked held)
+    SaysAsked Fails asked names held)
 
 -- ---- a command
 -- why nothing is explained: the word is no refusal's and no fault's
@@ -130,9 +143,9 @@ DoesLine Fails (Make log (Loosen domain plan early late robust)) =
 DoesLine Fails (Change log words) =
     Then (Settles Fails (update_read words)) (λ asked.
     UpdatesLog Fails log asked)
-DoesLine Fails (Ask log words) =
+DoesLine Fails (Ask log words names) =
     Then (Settles Fails (question_read log words)) (λ asked.
-    AnswersAsked Fails log asked)
+    AnswersAsked Fails log asked names)
 DoesLine Fails (Explain word) = Explains Fails (option_map (λ one. one.now) word)
 DoesLine Fails Run = Settles Fails (Err no_such_word)
 DoesLine Fails (Shell log) = Settles Fails (Err no_such_word)

@@ -1,10 +1,11 @@
 -- The loosened plan of a source, or its robust plan, at a site; and why there is none.
-use Rattle.std.specs.Prelude.{◌≡◌, ◌⊎◌, ℕ, ℤ, Bool, true, false, List, Option, Some, None, Ok, Err}
+use Rattle.std.specs.Prelude.{◌≡◌, ◌⊎◌, ℕ, ℤ, Bool, true, false, List, Option, Some, None, Result, Ok, Err}
 use Rattle.stn_net.specs.{Difference.Difference, Schedule.IsSchedule}
-use Rattle.stn_lift.specs.{BaseBounds.KeepsOrder, PlanSource.{PlanSource, bare, base_of, base_bounds, steps_of, events_of, interfere_in_plan, planned_of}, Failures.base_failure, declared.fault.BaseFault.BaseFault}
+use Rattle.stn_lift.specs.{BaseBounds.KeepsOrder, PlanSource.{PlanSource, bare, files, base_of, base_bounds, steps_of, events_of, interfere_in_plan, planned_of}, Failures.base_failure, declared.fault.BaseFault.BaseFault}
 use Rattle.stn_records.specs.Content.{Content}
 use Rattle.stn_site.specs.Bounds.{all_bounds}
-use Rattle.stn_loosen.specs.{Slack.Slack, Loosened.{loose_durations, AreFewLoosened, AreTooMany}, Promise.Promises, Robust.{loose_bounds, HasPromise, AreFewRobust, AreTooManyRobust}, Numbered.HoldsSome, Failures.loosen_failure, declared.fault.LoosenFault.TheVariants.{Full, NotRobust}}
+use Rattle.stn_loosen.specs.{Slack.Slack, Loosened.{loose_durations, AreFewLoosened, AreTooMany}, Promise.Promises, Robust.{loose_bounds, HasPromise, AreFewRobust, AreTooManyRobust}, Fragile.TellsFragile, Numbered.HoldsSome, Failures.loosen_failure, declared.fault.LoosenFault.TheVariants.{Full, NotRobust}}
+use Rattle.stn_store.specs.{Steps.Entries, Store.Spells}
 use Rattle.stn_refusal.specs.declared.failure.Failure.{Failure}
 
 -- a site holds, over the bare plan of as many steps, the loosened plan of a source that has a base: its records. Each schedule of the
@@ -51,3 +52,13 @@ WithBase source Goes cause = ((fault : BaseFault) × (base_of source ≡ Err fau
 abbrev pub IsLooseningRefusal : Bool → PlanSource → Slack → Option Failure → Type 0
 IsLooseningRefusal false source slack cause = WithBase source (IsLoosenedRefusal source slack) cause
 IsLooseningRefusal true source slack cause = WithBase source (IsRobustRefusal source slack) cause
+
+-- what is told of the plan of the texts that stand under two names, with a tolerance: what of it is not robust
+pub record SaysFragile (entries : Entries) (domain plan : List ℕ) (tolerance : Result Slack Failure) (text : List ℕ) : Type 0 where
+  pub actions : List ℕ
+  pub domain_says : Spells entries domain actions
+  pub steps : List ℕ
+  pub plan_says : Spells entries plan steps
+  pub slack : Slack
+  pub varies : tolerance ≡ Ok slack
+  pub told : TellsFragile (files actions steps) slack text

@@ -1,15 +1,17 @@
 -- What the words of a command say, or why they can't be read: the first word that can't decides, in the order of the words.
 use Rattle.std.specs.{Prelude.{ℕ, ℤ, Bool, true, false, bytes_eq, codes, pos, neg_ℤ, int_lt, ◌||◌, if◌then◌else◌, List, map, Option, Some, None, Result, Ok, Err}, Borrow.Bor}
 use Rattle.stn_time.specs.Time.{horizon}
+use Rattle.stn_net.specs.Difference.{Difference}
 use Rattle.stn_loosen.specs.Slack.{Slack}
 use Rattle.stn_picture.specs.Chart.{Look}
 use Rattle.stn_questions.specs.declared.asked.Question.{Question, TheVariants.{Records as records, Steps as steps, Bounds as bounds, Why as why, WhyApart as why_apart}}
-use Rattle.stn_command.specs.{Words.{and_then, event_of, id_of, named, time_read, times_read, no_such_word}, Query.{Query, report, check, foresee, ask, repairs, draw}, Steps.{steps_read, all_owned}, declared.{queries.Outlook.Outlook, changes.{AskedBound.AskedBound, Change.Change}}, Named.{Shown, listed, pictured}}
+use Rattle.stn_command.specs.{Words.{and_then, event_of, id_of, named, time_read, times_read, no_such_word}, Query.{Query, report, check, foresee, ask, repairs, draw}, Steps.{steps_read, all_owned}, declared.queries.Outlook.Outlook}
 use Rattle.stn_command.specs.declared.queries.Outlook.TheVariants as outlook
 use Rattle.stn_logs.specs.declared.words.Update.{Update as UpdateOfCode}
 use Rattle.stn_guard.specs.declared.owners.OwnedSteps.{OwnedSteps}
 use Rattle.stn_line.specs.declared.words.{EventChoice.EventChoice, SiteLog.SiteLog, LogChange.{LogChange, TheVariants.{Add, Amend, Withdraw, Done, Merge, Guard}}, LogQuestion.{LogQuestion, TheVariants.{Report, Next, Ready, Rehearse, Why, Repairs, Records, Steps, Bounds, Check, Draw}}}
-use Rattle.stn_command.specs.declared.changes.Change.TheVariants as made
+use Rattle.stn_site.specs.declared.change.Change.{Change}
+use Rattle.stn_site.specs.declared.change.Change.TheVariants as made
 use Rattle.stn_refusal.specs.declared.failure.Failure.{Failure}
 use Rattle.stn_logs.specs.declared.words.Update.TheVariants as updating
 
@@ -26,11 +28,6 @@ seen_update (updating.Change asked) = change asked
 seen_update (updating.Merge other) = merge other.now
 seen_update (updating.Guard owned) = guard owned.items
 
--- what is asked of a log: a query, or to show its steps or its picture by the names of a plan's file
-pub data Asked : Type 0 where
-  query : (asked : Query) → Asked
-  named_by : (what : Shown) (plan : List ℕ) → Asked
-
 -- ---- single words
 -- what a word says, where it is given
 abbrev pub given_read : {X : Type 0} → (List ℕ → Result X Failure) → Option (Bor (List ℕ)) → Result (Option X) Failure
@@ -43,7 +40,7 @@ side_read open_side None = Ok open_side
 side_read open_side (Some word) = time_read word.now
 
 -- the bound of two events and two sides, which are open where they are not given
-unfoldable pub bound_read : List ℕ → List ℕ → Option (Bor (List ℕ)) → Option (Bor (List ℕ)) → Result AskedBound Failure
+unfoldable pub bound_read : List ℕ → List ℕ → Option (Bor (List ℕ)) → Option (Bor (List ℕ)) → Result Difference Failure
 bound_read from to lo hi =
     and_then (named (event_of from)) (λ first.
     and_then (named (event_of to)) (λ second.
@@ -68,11 +65,11 @@ why_read event None = and_then (named (event_of event)) (λ which. Ok (why which
 why_read from (Some to) = and_then (named (event_of from)) (λ first. and_then (named (event_of to.now)) (λ second. Ok (why_apart first second)))
 
 -- what is asked of the chosen events from a time on
-unfoldable pub among_read : Outlook → List ℕ → EventChoice → Result Asked Failure
+unfoldable pub among_read : Outlook → List ℕ → EventChoice → Result Query Failure
 among_read outlook now choice =
     and_then (given_read steps_read choice.steps) (λ steps.
     and_then (time_read now) (λ time.
-    Ok (query (foresee outlook time (record { steps = steps; starts = choice.starts })))))
+    Ok (foresee outlook time (record { steps = steps; starts = choice.starts }))))
 
 -- whether there are arrows: as a word says, and if there is none
 abbrev pub arrows_read : Option (Bor (List ℕ)) → Result Bool Failure
@@ -87,11 +84,6 @@ look_read log owned arrows now =
     and_then (given_read time_read now) (λ time.
     Ok (record { title = log.name.now; present = time; arrows = are; owned = all }))))
 
--- the picture, by the names of a plan's file where one is given
-abbrev pub drawn_by : Option (Bor (List ℕ)) → Look → Asked
-drawn_by None look = query (draw look)
-drawn_by (Some plan) look = named_by (pictured look) plan.now
-
 -- ---- the words of a command
 abbrev pub update_read : LogChange → Result Update Failure
 update_read (Add from to lo hi) = and_then (bound_read from.now to.now lo hi) (λ bound. Ok (change (made.Add bound)))
@@ -102,17 +94,16 @@ update_read (Done event time) = and_then (named (event_of event.now)) (λ which.
 update_read (Merge other) = Ok (merge other.now)
 update_read (Guard owned) = and_then (all_owned (map (λ word. word.now) owned.items)) (λ all. Ok (guard all))
 
-abbrev pub question_read : SiteLog → LogQuestion → Result Asked Failure
-question_read log Report = Ok (query report)
+abbrev pub question_read : SiteLog → LogQuestion → Result Query Failure
+question_read log Report = Ok report
 question_read log (Next now choice) = among_read outlook.Next now.now choice
 question_read log (Ready now choice) = among_read outlook.Ready now.now choice
 question_read log (Rehearse now choice) = among_read outlook.Rehearse now.now choice
-question_read log (Why event to) = and_then (why_read event.now to) (λ question. Ok (query (ask question)))
-question_read log Repairs = Ok (query repairs)
-question_read log Records = Ok (query (ask records))
-question_read log (Steps (Some plan)) = Ok (named_by listed plan.now)
-question_read log (Steps None) = Ok (query (ask steps))
-question_read log Bounds = Ok (query (ask bounds))
-question_read log (Check times) = and_then (times_read (map (λ word. word.now) times.items)) (λ all. Ok (query (check all)))
+question_read log (Why event to) = and_then (why_read event.now to) (λ question. Ok (ask question))
+question_read log Repairs = Ok repairs
+question_read log Records = Ok (ask records)
+question_read log Steps = Ok (ask steps)
+question_read log Bounds = Ok (ask bounds)
+question_read log (Check times) = and_then (times_read (map (λ word. word.now) times.items)) (λ all. Ok (check all))
 question_read log (Draw drawing) =
-    and_then (look_read log (map (λ word. word.now) drawing.owned.items) drawing.arrows drawing.now) (λ look. Ok (drawn_by drawing.plan look))
+    and_then (look_read log (map (λ word. word.now) drawing.owned.items) drawing.arrows drawing.now) (λ look. Ok (draw look))

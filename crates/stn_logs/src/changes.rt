@@ -2,10 +2,10 @@
 
 ghost use Rattle.std.specs.Prelude.{◌≡◌, ◌⊎◌, Some, None, option_map, Ok, Err, OnOk, IfOk, IfErr, MatchResult};
 ghost use Rattle.stn_effects.specs.Effects.{failing, seen};
-ghost use Rattle.stn_command.specs.{Change.change_refusal, Guarding.guard_text};
+ghost use Rattle.stn_command.specs.Guarding.{guard_text};
 ghost use Rattle.stn_lift.specs.{Failures.base_failure, PlanSource.{plan_source, base_of}};
 ghost use Rattle.stn_records.specs.Content.{no_content};
-ghost use Rattle.stn_site.specs.Failures.{replica_failure};
+ghost use Rattle.stn_site.specs.{Change.change_refusal, Failures.replica_failure};
 ghost use Rattle.stn_logs.specs.{Commands.{seen_outcome, IsChanged, IsGuarded, IsUnguarded, Updates}, Words.{merge, seen_update}};
 ghost use Rattle.stn_refusal.specs.declared.failure.Failure.TheVariants.{Failed};
 ghost use Rattle.stn_refusal.specs.declared.failure.Fault.TheVariants as lack;
@@ -13,12 +13,12 @@ ghost use Rattle.stn_refusal.specs.declared.failure.Fault.TheVariants as lack;
 use crate::words::Update;
 use std::alloc::Allocator;
 use std::rc::Rc;
-use stn_command::{Change, make_change, print_guard};
+use stn_command::{Made, print_guard};
 use stn_guard::{OwnedSteps, add_guard};
 use stn_lift::{Base, Source};
 use stn_records::{Id, Site};
 use stn_refusal::Failure;
-use stn_site::SitePlan;
+use stn_site::{Change, SitePlan};
 use stn_store::{Store, take_in};
 use stn_time::Memory;
 
@@ -72,9 +72,9 @@ fn change_plan<A: Allocator + Copy>(
     ensures { MatchResult result (λ outcome. IsChanged asked.now plan.old (seen_outcome plan.new outcome) × (change_refusal plan.old asked.now ≡ None))
         (λ failure. (failure ≡ Failed lack.Memory) ⊎ (Some failure ≡ option_map replica_failure (change_refusal plan.old asked.now))) }
 {
-    let made = make_change(plan, asked)?;
+    let id = plan.change(asked)?;
     let mut text = Vec::new(alloc);
-    made.print(&mut text)?;
+    Made::of(asked, id).print(&mut text)?;
     Ok(Outcome::Updated(text))
 }
 

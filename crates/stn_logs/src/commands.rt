@@ -1,11 +1,13 @@
 //! The commands on a log.
 
-ghost use Rattle.std.specs.Prelude.{◌≡◌, ◌⊎◌, IfOk, IfErr, option_map};
+ghost use Rattle.std.specs.Prelude.{◌≡◌, ◌⊎◌, Some, Ok, Err, false, IfOk, IfErr, MatchResult, option_map};
+ghost use Rattle.stn_refusal.specs.Refusals.{out_of_memory};
+ghost use Rattle.stn_logs.specs.Commands as named;
 ghost use Rattle.stn_effects.specs.Effects.{Settles, Then, seen};
 ghost use Rattle.stn_lift.specs.PlanSource.{plan_source};
-ghost use Rattle.stn_command.specs.{Query.{seen_query, seen_choice}, Named.seen_shown};
-ghost use Rattle.stn_line.specs.declared.words.{Line.TheVariants.{Make, Change, Ask}, LogQuestion.TheVariants.{Steps, Draw}};
-ghost use Rattle.stn_logs.specs.{Words.{query, named_by, among_read, seen_update}, Commands.{FindsSource, MakesLog, SavesMade, SaysAsked, AnswersAsked, UpdatesLog, DoesLine}};
+ghost use Rattle.stn_command.specs.Query.{seen_query, seen_choice};
+ghost use Rattle.stn_line.specs.declared.words.{Line.TheVariants.{Make, Change, Ask}, LogQuestion.TheVariants.Draw};
+ghost use Rattle.stn_logs.specs.{Words.{among_read, seen_update}, Commands.{FindsSource, FindsNames, MakesLog, SavesMade, AnswersAsked, UpdatesLog, DoesLine}};
 ghost use Rattle.stn_store.specs.{Log.log_held, Store.{IsMissing, IsLack}, Steps.{FindsFree, LoadsLog, SavesNew}};
 
 use crate::changes::{Outcome, copied, make_update, opened};
@@ -17,9 +19,11 @@ use crate::words::{
     read_why,
 };
 use std::alloc::Allocator;
-use stn_command::{Choice, Outlook, Query, Shown, no_such_word, read_owned, read_time, say_named};
+use stn_command::{Choice, Outlook, Query, no_such_word, read_owned, read_time, say_named};
 use stn_lift::Source;
-use stn_line::{DrawingWords, EventChoice, Line, LogChange, LogQuestion, NewLog, SiteLog};
+use stn_line::{
+    DrawingWords, EventChoice, Line, LogChange, LogQuestion, NameWords, NewLog, SiteLog,
+};
 use stn_picture::Look;
 use stn_questions::Question;
 use stn_refusal::{Code, Failure, Fault};
@@ -61,7 +65,7 @@ pub fn answer_with<S: Store<A>, A: Allocator + Copy>(
     match line {
         Line::Make(log, new) => make_log(alloc, store, log, new),
         Line::Change(log, change) => change_log(alloc, store, kept, log, change),
-        Line::Ask(log, question) => ask_log(alloc, store, kept, log, question),
+        Line::Ask(log, question, names) => ask_log(alloc, store, kept, log, question, names),
         Line::Explain { code } => explain(alloc, *code),
         Line::Run | Line::Shell { .. } | Line::Serve { .. } | Line::Send { .. } => {
             Err(no_such_word())
@@ -230,40 +234,50 @@ fn update_log<S: Store<A>, A: Allocator + Copy>(
     }
 }
 
-// Answers a question of a log that is there.
+// Answers a question of a log that is there, by such names of steps.
 fn ask_log<S: Store<A>, A: Allocator + Copy>(
     alloc: A,
     store: &mut S,
     kept: &mut Kept<A>,
     log: &SiteLog<'_>,
     question: &LogQuestion<'_>,
+    names: &NameWords<'_>,
 ) -> Result<Vec<u8, A>, Failure>
-    ensures { DoesLine S.fails (Ask log.now question.now) (S.entries store.old) (S.entries store.new) (seen (λ text. text.items) result) }
+    ensures { DoesLine S.fails (Ask log.now question.now names.now) (S.entries store.old) (S.entries store.new) (seen (λ text. text.items) result) }
 {
     match question {
-        LogQuestion::Report => say_of(store, kept, log, &Query::Report),
+        LogQuestion::Report => say_of(store, kept, log, names, &Query::Report),
         LogQuestion::Next { now, choice } => {
-            foresee(alloc, store, kept, log, Outlook::Next, *now, choice)
+            foresee(alloc, store, kept, log, names, Outlook::Next, *now, choice)
         }
         LogQuestion::Ready { now, choice } => {
-            foresee(alloc, store, kept, log, Outlook::Ready, *now, choice)
+            foresee(alloc, store, kept, log, names, Outlook::Ready, *now, choice)
         }
         LogQuestion::Rehearse { now, choice } => {
-            foresee(alloc, store, kept, log, Outlook::Rehearse, *now, choice)
+            foresee(
+                alloc,
+                store,
+                kept,
+                log,
+                names,
+                Outlook::Rehearse,
+                *now,
+                choice,
+            )
         }
         LogQuestion::Why { event, to } => {
             let why = read_why(*event, *to)?;
-            say_of(store, kept, log, &Query::Ask(why))
+            say_of(store, kept, log, names, &Query::Ask(why))
         }
-        LogQuestion::Repairs => say_of(store, kept, log, &Query::Repairs),
-        LogQuestion::Records => say_of(store, kept, log, &Query::Ask(Question::Records)),
-        LogQuestion::Steps { plan } => show_steps(store, kept, log, *plan),
-        LogQuestion::Bounds => say_of(store, kept, log, &Query::Ask(Question::Bounds)),
+        LogQuestion::Repairs => say_of(store, kept, log, names, &Query::Repairs),
+        LogQuestion::Records => say_of(store, kept, log, names, &Query::Ask(Question::Records)),
+        LogQuestion::Steps => say_of(store, kept, log, names, &Query::Ask(Question::Steps)),
+        LogQuestion::Bounds => say_of(store, kept, log, names, &Query::Ask(Question::Bounds)),
         LogQuestion::Check { times } => {
             let times = read_times(alloc, times)?;
-            say_of(store, kept, log, &Query::Check(&times))
+            say_of(store, kept, log, names, &Query::Check(&times))
         }
-        LogQuestion::Draw(drawing) => draw_log(alloc, store, kept, log, drawing),
+        LogQuestion::Draw(drawing) => draw_log(alloc, store, kept, log, names, drawing),
     }
 }
 
@@ -273,17 +287,24 @@ fn foresee<S: Store<A>, A: Allocator + Copy>(
     store: &mut S,
     kept: &mut Kept<A>,
     log: &SiteLog<'_>,
+    names: &NameWords<'_>,
     outlook: Outlook,
     now: &str,
     choice: &EventChoice<'_>,
 ) -> Result<Vec<u8, A>, Failure>
-    ensures { Then (Settles S.fails (among_read outlook now.now choice.now)) (AnswersAsked S.fails log.now)
+    ensures { Then (Settles S.fails (among_read outlook now.now choice.now)) (λ asked. AnswersAsked S.fails log.now asked names.now)
         (S.entries store.old) (S.entries store.new) (seen (λ text. text.items) result) }
 {
     let steps = read_chosen(alloc, choice.steps)?;
     let time = read_time(now.as_bytes())?;
     let chosen = choice_of(&steps, choice.starts);
-    say_of(store, kept, log, &Query::Foresee(outlook, time, chosen))
+    say_of(
+        store,
+        kept,
+        log,
+        names,
+        &Query::Foresee(outlook, time, chosen),
+    )
 }
 
 // The choice of events that was asked for.
@@ -302,43 +323,16 @@ fn choice_of<A: Allocator>(steps: &Option<Vec<StepRange, A>>, starts: bool) -> C
     }
 }
 
-// What is said of a log.
-fn say_of<S: Store<A>, A: Allocator + Copy>(
-    store: &mut S,
-    kept: &mut Kept<A>,
-    log: &SiteLog<'_>,
-    asked: &Query<'_>,
-) -> Result<Vec<u8, A>, Failure>
-    ensures { AnswersAsked S.fails log.now (query (seen_query asked.now)) (S.entries store.old) (S.entries store.new) (seen (λ text. text.items) result) }
-{
-    let known = kept.caught_up(store, log)?;
-    kept.say(known, asked)
-}
-
-// The steps of a log, by the names of a plan's file where one is given.
-fn show_steps<S: Store<A>, A: Allocator + Copy>(
-    store: &mut S,
-    kept: &mut Kept<A>,
-    log: &SiteLog<'_>,
-    plan: Option<&str>,
-) -> Result<Vec<u8, A>, Failure>
-    ensures { DoesLine S.fails (Ask log.now (Steps plan.entry)) (S.entries store.old) (S.entries store.new) (seen (λ text. text.items) result) }
-{
-    match plan {
-        Some(plan) => show_named(store, kept, log, &Shown::Steps, plan),
-        None => say_of(store, kept, log, &Query::Ask(Question::Steps)),
-    }
-}
-
 // The picture of a log, with its name as the title.
 fn draw_log<S: Store<A>, A: Allocator + Copy>(
     alloc: A,
     store: &mut S,
     kept: &mut Kept<A>,
     log: &SiteLog<'_>,
+    names: &NameWords<'_>,
     drawing: &DrawingWords<'_>,
 ) -> Result<Vec<u8, A>, Failure>
-    ensures { DoesLine S.fails (Ask log.now (Draw drawing.entry.now)) (S.entries store.old) (S.entries store.new) (seen (λ text. text.items) result) }
+    ensures { DoesLine S.fails (Ask log.now (Draw drawing.entry.now) names.now) (S.entries store.old) (S.entries store.new) (seen (λ text. text.items) result) }
 {
     let owned = read_owned(alloc, &drawing.owned)?;
     let arrows = read_arrows(drawing.arrows)?;
@@ -349,42 +343,79 @@ fn draw_log<S: Store<A>, A: Allocator + Copy>(
         arrows,
         owned: &owned,
     };
-    match drawing.plan {
-        Some(plan) => show_named(store, kept, log, &Shown::Picture(look), plan),
-        None => say_of(store, kept, log, &Query::Draw(look)),
+    say_of(store, kept, log, names, &Query::Draw(look))
+}
+
+// What is said of a log, by such names of steps. Only an answer without names is kept.
+fn say_of<S: Store<A>, A: Allocator + Copy>(
+    store: &mut S,
+    kept: &mut Kept<A>,
+    log: &SiteLog<'_>,
+    names: &NameWords<'_>,
+    asked: &Query<'_>,
+) -> Result<Vec<u8, A>, Failure>
+    ensures { AnswersAsked S.fails log.now (seen_query asked.now) names.now (S.entries store.old) (S.entries store.new) (seen (λ text. text.items) result) }
+{
+    let known = kept.caught_up(store, log)?;
+    match find_names(store, names, known.plan()) {
+        Ok(Some(plan)) => {
+            let text = say_named(known.plan(), asked, &plan);
+            kept.keep(known);
+            text
+        }
+        Ok(None) => kept.say(known, asked),
+        Err(failure) => {
+            kept.keep(known);
+            Err(failure)
+        }
     }
 }
 
-// What is shown of a log whose plan is bare, by the names of a plan's file.
-fn show_named<'x, S: Store<A>, A: Allocator + Copy>(
+// The text of a plan whose steps name those of a site's plan, where they are to have names.
+fn find_names<S: Store<A>, A: Allocator + Copy>(
     store: &S,
-    kept: &mut Kept<A>,
-    log: &SiteLog<'_>,
-    shown: &'x Shown<'x>,
-    plan: &str,
-) -> Result<Vec<u8, A>, Failure>
-    ensures { AnswersAsked S.fails log.now (named_by (seen_shown shown.now) plan.now) (S.entries store.now) (S.entries store.now) (seen (λ text. text.items) result) }
+    names: &NameWords<'_>,
+    ours: &SitePlan<A>,
+) -> Result<Option<Vec<u8, A>>, Failure>
+    ensures { FindsNames S.fails (option_map (λ plan. plan.now) names.now.plan) names.now.own ours.now.source (S.entries store.now) (S.entries store.now)
+        (seen (λ found. option_map (λ text. text.items) found) result) }
 {
-    let known = kept.caught_up(store, log)?;
-    let text = show_by_names(store, known.plan(), shown, plan);
-    kept.keep(known);
-    text
+    match (names.plan, names.own) {
+        (None, false) => Ok(None),
+        (None, true) => own_plan_text(ours),
+        (Some(plan), false) => text_of_file(store, plan, ours),
+        (Some(_), true) => Err(no_such_word()),
+    }
 }
 
-// What is shown of a site's copy of a plan, which is bare, by the names of a plan's file.
-fn show_by_names<'x, S: Store<A>, A: Allocator + Copy>(
+// The plan text that a plan of files has itself.
+fn own_plan_text<A: Allocator + Copy>(ours: &SitePlan<A>) -> Result<Option<Vec<u8, A>>, Failure>
+    ensures { MatchResult result (λ found. named.own_plan_text ours.now.source ≡ Ok (option_map (λ text. text.items) found))
+        (λ failure. (failure ≡ out_of_memory) ⊎ (named.own_plan_text ours.now.source ≡ Err failure)) }
+{
+    match ours.base().source() {
+        Source::Bare(_) => Err(no_such_word()),
+        Source::Files(_, plan) => {
+            let text = copied(ours.alloc(), plan)?;
+            Ok(Some(text))
+        }
+    }
+}
+
+// The text of a plan's file, for a bare plan.
+fn text_of_file<S: Store<A>, A: Allocator + Copy>(
     store: &S,
-    ours: &SitePlan<A>,
-    shown: &'x Shown<'x>,
     plan: &str,
-) -> Result<Vec<u8, A>, Failure>
-    ensures { SaysAsked S.fails (named_by (seen_shown shown.now) plan.now) ours.now (S.entries store.now) (S.entries store.now) (seen (λ text. text.items) result) }
+    ours: &SitePlan<A>,
+) -> Result<Option<Vec<u8, A>>, Failure>
+    ensures { FindsNames S.fails (Some plan.now) false ours.now.source (S.entries store.now) (S.entries store.now)
+        (seen (λ found. option_map (λ text. text.items) found) result) }
 {
     match ours.base().source() {
         Source::Files(_, _) => Err(no_such_word()),
         Source::Bare(_) => {
-            let names = store.text(plan)?;
-            say_named(ours, shown, &names)
+            let text = store.text(plan)?;
+            Ok(Some(text))
         }
     }
 }

@@ -2,6 +2,7 @@
 #![tactic(auto)]
 
 pub use commands::{answer, answer_with};
+pub use fragile::fragile_text;
 pub use keeping::{Kept, Known, find_log};
 pub use laws::{no_answer_nothing_saved, one_ending};
 
@@ -9,6 +10,7 @@ mod answered;
 mod changes;
 mod commands;
 mod explaining;
+mod fragile;
 mod keeping;
 mod laws;
 mod loosening;

@@ -7,7 +7,7 @@ ghost use Rattle.stn_command.specs.{Words.{event_of, id_of, named, time_read, ti
 ghost use Rattle.stn_logs.specs.Words.{arrows_read, bound_read, given_read, seen_update, side_read, slack_of, slack_read, update_read, why_read};
 
 use std::alloc::Allocator;
-use stn_command::{AskedBound, Change, no_such_word, read_owned, read_steps, read_time};
+use stn_command::{no_such_word, read_owned, read_steps, read_time};
 use stn_guard::OwnedSteps;
 use stn_line::LogChange;
 use stn_loosen::Tolerance;
@@ -16,6 +16,7 @@ use stn_questions::Question;
 use stn_records::Id;
 use stn_refusal::Failure;
 use stn_replica::StepRange;
+use stn_site::{AskedBound, Change};
 use stn_time::{HORIZON, Ms};
 
 /// What updates a log.
@@ -170,7 +171,7 @@ fn read_bound(
     let to = read_event(to)?;
     let lo = read_side(lo, least)?;
     let hi = read_side(hi, greatest)?;
-    Ok(AskedBound { from, to, lo, hi })
+    Ok(AskedBound::new(from, to, lo, hi))
 }
 
 /// The tolerance that the words of two times spell; a time without a word is 0.

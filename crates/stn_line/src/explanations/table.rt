@@ -59,7 +59,7 @@ What to do: name two events; to bound the time of one event, count from z.\n",
         meaning: "lo is above hi",
         more: "\
 A bound has to leave at least one time: lo is at most hi.\n\
-Usual causes: the two sides are exchanged, or both events are, so that the signs are wrong.\n\
+Usual causes: the two sides are exchanged, or both events are.\n\
 What to do: exchange the sides; `s1 e1 5 6` says that e1 comes 5 to 6 seconds after s1.\n",
     },
     Entry {
@@ -83,7 +83,7 @@ What to do: give the domain alone; comments count too.\n",
         subject: Subject::Refusal(Code::DomainSyntax),
         meaning: "syntax of the domain",
         more: "\
-The domain's text has not the form that it should have here.\n\
+The text has not the form that it should have here.\n\
 The second word is the line of the domain's text, counted from 1.\n\
 Usual causes: a bracket missing or left over, a list without its first word, a file that begins with a byte order mark, or another file.\n\
 What to do: look at that line and at the brackets before it.\n",
@@ -93,7 +93,7 @@ What to do: look at that line and at the brackets before it.\n",
         meaning: "brackets of the domain are nested too deep",
         more: "\
 Too many brackets are open at once.\n\
-The second word is the line of the domain's text.\n\
+The second word is its line.\n\
 Usual cause: closing brackets that are missing in the actions before.\n\
 What to do: look for the first action whose brackets don't close.\n",
     },
@@ -101,8 +101,8 @@ What to do: look for the first action whose brackets don't close.\n",
         subject: Subject::Refusal(Code::DomainUnsupported),
         meaning: "the domain uses what is not supported",
         more: "\
-Durative actions with one constant duration are read, and conjunctions of atoms and negated atoms. All else is refused, and never guessed at.\n\
-The second word is the line of the domain's text.\n\
+Durative actions with one constant duration are read, and conjunctions of atoms and negated atoms. All else is refused.\n\
+The second word is its line.\n\
 Usual causes: `:action`, `:functions`, numeric conditions, `or`, `forall`, `when`, or a duration that is not one constant.\n\
 What to do: write these actions as durative actions in the form that is read.\n",
     },
@@ -111,7 +111,7 @@ What to do: write these actions as durative actions in the form that is read.\n"
         meaning: "a word of the domain should be a number",
         more: "\
 The duration of an action is a time in seconds: not negative, to the millisecond.\n\
-The second word is the line of the domain's text.\n\
+The second word is its line.\n\
 Usual causes: a duration that names a function or a parameter, or one that is finer than a millisecond.\n\
 What to do: write the duration as a number.\n",
     },
@@ -129,7 +129,7 @@ What to do: rename or remove one.\n",
         meaning: "an unknown variable in the domain",
         more: "\
 A condition or an effect uses a variable that is no parameter of its action.\n\
-The second word is the line of the domain's text.\n\
+The second word is its line.\n\
 Usual causes: a slip in the name, or a `?` too many.\n\
 What to do: add it to `:parameters`, or correct the name.\n",
     },
@@ -155,7 +155,7 @@ What to do: remove what is no step; comments begin with `;`.\n",
         meaning: "a time of the plan is not a number, or too fine",
         more: "\
 The time or the duration of a step should be a time in seconds, to the millisecond.\n\
-The second word is the line of the plan's text.\n\
+The second word is its line.\n\
 Usual cause: the planner separates events by less than a millisecond.\n\
 What to do: set the planner's separation to 0.001. Don't round: two events could get the same time.\n",
     },
@@ -164,8 +164,8 @@ What to do: set the planner's separation to 0.001. Don't round: two events could
         meaning: "a time of the plan is negative",
         more: "\
 A step starts at the origin or later, and its duration is not negative.\n\
-The second word is the line of the plan's text.\n\
-What to do: move the whole plan, so that its first step starts at 0.\n",
+The second word is its line.\n\
+What to do: move the plan, so that its first step starts at 0.\n",
     },
     Entry {
         subject: Subject::Refusal(Code::PlanTooManySteps),
@@ -263,6 +263,8 @@ What to do: look at what wrote it.\n",
         meaning: "no times of the starts hold for all durations",
         more: "\
 No times of the starts let the plan complete whatever each step's duration is within the tolerance.\n\
+The reason's lines are links of a cycle, as of a conflict, moved from ends to starts; after `by` stand the steps that moved them.\n\
+By `plan.10 lower e1 e2 3.500 by 1 2`, s2 comes at least 3.5 seconds after s1.\n\
 Usual causes: steps that interfere are planned at one time, or closer than the tolerance lets durations vary.\n\
 What to do: plan more time between such steps, give a smaller tolerance, or loosen without `--robust`.\n",
     },
@@ -353,7 +355,7 @@ What to do: use the same version of the program at both sites.\n",
 The second word is the line of the script, or of a shell's input, counted from 1; 0 is the command itself.\n\
 Usual causes: a word that is no event (events are z, s1, e1 ..), a word that is no id (as 1.2), a command that has one word too many or too few, a tolerance of `loosen` below 0, and in `check` not one time for each event.\n\
 `--steps` takes STEPS as `2,4-6`, counted from 1; `--own` takes SITE:STEPS, as `2:4-6`, and no step may be named by two of them.\n\
-`--plan` names the steps of a bare or loosened plan, by a file with as many steps.\n\
+`--plan` takes a file with as many steps, for a bare or loosened plan; `--names` is for a plan of files.\n\
 A script's heading is refused so if a block of it has no line `end`; a shell's line, if it is not a command on the log that is there.\n\
 What to do: `stn COMMAND --help` says which words a command takes.\n",
     },

@@ -8,4 +8,4 @@ pub returns-clause-refusal : goal.returns-clause-refusal
 returns-clause-refusal c = λ query held sound. some_refusal held sound query
 
 pub returns-clause-named : goal.returns-clause-named
-returns-clause-named c = λ shown plan held sound. some_named held sound shown plan
+returns-clause-named c = λ query steps held sound free. some_named held sound query steps free

@@ -5,7 +5,7 @@ pub returns-clause-text : goal.returns-clause-text
 returns-clause-text c = one_text c.one_report.ensures c.one_answer.ensures c.one_repairs_text.ensures c.one_picture.ensures
 
 pub returns-clause-named : goal.returns-clause-named
-returns-clause-named c = one_named c.one_picture.ensures
+returns-clause-named c = one_named (one_text c.one_report.ensures c.one_answer.ensures c.one_repairs_text.ensures c.one_picture.ensures) c.one_picture.ensures
 
 pub returns-clause-refusal : goal.returns-clause-refusal
 returns-clause-refusal c = one_refusal

@@ -1,7 +1,6 @@
 use Rattle.std.proofs.{Common.{◌≡◌, option_map, sym, ap, inl, inr, ⊎_elim}, lemmas.Result.MatchResult-weaker}
 use Rattle.stn_effects.proofs.Endings.{makes_of}
-use Rattle.stn_site.specs.Failures.{replica_failure}
-use Rattle.stn_command.specs.Change.{change_refusal}
+use Rattle.stn_site.specs.{Change.change_refusal, Failures.replica_failure}
 use Rattle.stn_logs.specs.Commands.{seen_outcome, IsChanged, IsGuarded, IsUnguarded}
 use Rattle.stn_logs.proofs.changes.make_update.Goals as goal
 

@@ -31,7 +31,7 @@ pub returns-in-Records : goal.returns-in-Records
 returns-in-Records g c = rw c.in-Records.is (went _ _ (refl, refl) c.say_of-in-Records.ensures)
 
 pub returns-in-Steps : goal.returns-in-Steps
-returns-in-Steps g c = rw c.in-Steps.is c.show_steps.ensures
+returns-in-Steps g c = rw c.in-Steps.is (went _ _ (refl, refl) c.say_of-in-Steps.ensures)
 
 pub returns-in-Bounds : goal.returns-in-Bounds
 returns-in-Bounds g c = rw c.in-Bounds.is (went _ _ (refl, refl) c.say_of-in-Bounds.ensures)

@@ -1,9 +1,7 @@
-use Rattle.std.proofs.{Common.{ℕ, Bor, List, Option, Result, Ok, refl, sym, ap, ◌∙◌, inl, inr, ⊎_elim}, lemmas.Result.err_from_is_err_and}
+use Rattle.std.proofs.{Common.{refl, sym, inl, inr, ⊎_elim}, lemmas.Result.err_from_is_err_and}
 use Rattle.stn_effects.specs.Effects.{stopped, went}
 use Rattle.stn_store.proofs.Lacks.{lack_of_memory}
 use Rattle.stn_picture.specs.Chart.{Look}
-use Rattle.stn_refusal.specs.declared.failure.Failure.{Failure}
-use Rattle.stn_logs.specs.Words.{Asked, drawn_by}
 use Rattle.stn_logs.proofs.Read.{right_first, wrong_first, owned_wrong, arrows_wrong, present_wrong, look_right}
 use Rattle.stn_logs.proofs.commands.draw_log.Goals as goal
 
@@ -25,22 +23,9 @@ returns-in_err-present g c =
     let read = rw c.deref.ensures.value at c.in_ok-owned.ensures in
     rw (p.1, p.2) (stopped _ (refl, inl (wrong_first _ _ _ (present_wrong _ _ _ _ _ _ _ read (sym c.in_ok-arrows.ensures) (sym c.in_err-present.ensures)))) refl)
 
-pub returns-in-Some : goal.returns-in-Some
-returns-in-Some g c =
-    let read = rw c.deref.ensures.value at c.in_ok-owned.ensures in
-    let look : Look = record { title = c.args.log.now.name.now; present = c.in_ok-present.present; arrows = c.in_ok-arrows.arrows; owned = c.in_ok-owned.owned.items } in
-    went _ _ (
-      refl,
-      right_first _ _ look (look_right c.args.log.now _ _ _ _ _ _ read (sym c.in_ok-arrows.ensures) (sym c.in_ok-present.ensures))
-          ∙ ap (λ (plan : Option (Bor (List ℕ))). let asked : Result Asked Failure = Ok (drawn_by plan look) in asked) c.in-Some.is,
-    ) (rw (c.as_bytes.ensures.value, c.deref-2.ensures.value) at c.show_named.ensures)
-
 pub returns : goal.returns
 returns g c =
     let read = rw c.deref.ensures.value at c.in_ok-owned.ensures in
     let look : Look = record { title = c.args.log.now.name.now; present = c.in_ok-present.present; arrows = c.in_ok-arrows.arrows; owned = c.in_ok-owned.owned.items } in
-    went _ _ (
-      refl,
-      right_first _ _ look (look_right c.args.log.now _ _ _ _ _ _ read (sym c.in_ok-arrows.ensures) (sym c.in_ok-present.ensures))
-          ∙ ap (λ (plan : Option (Bor (List ℕ))). let asked : Result Asked Failure = Ok (drawn_by plan look) in asked) c.in-None.is,
-    ) (rw (c.as_bytes.ensures.value, c.deref-2.ensures.value) at c.say_of.ensures)
+    went _ _ (refl, right_first _ _ look (look_right c.args.log.now _ _ _ _ _ _ read (sym c.in_ok-arrows.ensures) (sym c.in_ok-present.ensures)))
+    (rw (c.as_bytes.ensures.value, c.deref-2.ensures.value) at c.say_of.ensures)

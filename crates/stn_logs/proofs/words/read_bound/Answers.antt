@@ -34,4 +34,4 @@ unfolding bound_read
 returns c =
     let lo = rw c.open_sides-least.ensures.0 at c.in_ok-lo.ensures in
     let hi = rw c.open_sides-least.ensures.1 at c.in_ok-hi.ensures in
-    rw (← c.in_ok-from.ensures, ← c.in_ok-to.ensures, ← lo, ← hi) refl
+    rw (c.new.ensures, ← c.in_ok-from.ensures, ← c.in_ok-to.ensures, ← lo, ← hi) refl
