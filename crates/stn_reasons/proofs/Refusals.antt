@@ -2,18 +2,19 @@
 use Rattle.std.{proofs.Common.{◌≡◌, ◌∙◌, ◌++◌, ℕ, ℤ, Bor, Bool, true, false, List, [], ◌∷◌, Option, Some, None, Result, Ok, Err, refl, sym, ap, map, option_map, pos, neg_ℤ, int_lt, bytes_eq, codes, ◌||◌, cond}, specs.Option.option_or}
 use Rattle.stn_refusal.specs.declared.failure.Failure.{Failure}
 use Rattle.stn_time.specs.Time.{horizon}
+use Rattle.stn_net.specs.Difference.{Difference}
 use Rattle.stn_guard.specs.declared.owners.OwnedSteps.{OwnedSteps}
 use Rattle.stn_line.specs.declared.words.{EventChoice.EventChoice, SiteLog.SiteLog, LogChange.LogChange, LogQuestion.LogQuestion, Line.Line}
 use Rattle.stn_line.specs.declared.words.NewLog.TheVariants as new
 use Rattle.stn_line.specs.declared.words.LogChange.TheVariants as change
 use Rattle.stn_line.specs.declared.words.LogQuestion.TheVariants as question
 use Rattle.stn_line.specs.declared.words.Line.TheVariants as line
-use Rattle.stn_command.specs.{Words.{and_then, event_of, id_of, named, no_such_word, time_read, times_read}, Steps.{steps_read, all_owned, owned_after, owned_too}, declared.{queries.Outlook.Outlook, changes.AskedBound.AskedBound}}
+use Rattle.stn_command.specs.{Words.{and_then, event_of, id_of, named, no_such_word, time_read, times_read}, Steps.{steps_read, all_owned, owned_after, owned_too}, Query.draw, declared.queries.Outlook.Outlook}
 use Rattle.stn_command.specs.declared.queries.Outlook.TheVariants as outlook
 use Rattle.stn_questions.specs.declared.asked.Question.TheVariants.{Why as why, WhyApart as why_apart}
 use Rattle.stn_loosen.specs.Slack.{Slack}
 use Rattle.stn_picture.specs.Chart.{Look}
-use Rattle.stn_logs.specs.Words.{among_read, bound_read, side_read, slack_of, slack_read, given_read, why_read, arrows_read, look_read, drawn_by, question_read, update_read}
+use Rattle.stn_logs.specs.Words.{among_read, bound_read, side_read, slack_of, slack_read, given_read, why_read, arrows_read, look_read, question_read, update_read}
 use Rattle.stn_reasons.specs.{Refused.{RefusedWord, no_bound, no_choice, no_event, no_id, no_owned, no_steps, no_time, no_times, no_tolerance, no_tolerances, no_yes_or_no, unread_word, where_given, word_of_change, word_of_question, word_refused}, Refusing.{refusal_by, words_refusal}, declared.refused.Form.Form}
 use Rattle.stn_reasons.specs.declared.refused.Form.TheVariants as form
 
@@ -68,7 +69,7 @@ bound from to lo hi =
     word_then (no_event from) (named (event_of from)) _ _ (event from) (λ a.
     word_then (no_event to) (named (event_of to)) _ _ (event to) (λ b.
     word_then (where_given no_time lo) (side_read (neg_ℤ horizon) lo) _ _ (side (neg_ℤ horizon) lo) (λ c.
-    side horizon hi ∙ sym (made {Y = AskedBound} (side_read horizon hi) (λ d. record { from = a; to = b; lo = c; hi = d })))))
+    side horizon hi ∙ sym (made {Y = Difference} (side_read horizon hi) (λ d. record { from = a; to = b; lo = c; hi = d })))))
 
 chosen : (steps : Option (Bor (List ℕ))) → failure_of (where_given no_steps steps) ≡ refusal_by (given_read steps_read steps)
 chosen None = refl
@@ -204,7 +205,7 @@ told (line.Change log words) = told_of words
     told_of (change.Done which when) = word_then (no_event which.now) (named (event_of which.now)) _ _ (event which.now) (λ value. time when.now ∙ sym (made (time_read when.now) _))
     told_of (change.Merge other) = refl
     told_of (change.Guard words) = owned [] (map (λ word. word.now) words.items) [] refl ∙ sym (made (all_owned (map (λ word. word.now) words.items)) _)
-told (line.Ask log words) = told_of words
+told (line.Ask log words names) = told_of words
   where
     told_of : (words : LogQuestion) → failure_of (word_of_question words) ≡ refusal_by (question_read log words)
     told_of question.Report = refl
@@ -219,13 +220,12 @@ told (line.Ask log words) = told_of words
         ∙ sym (made (why_read which.now (Some to)) _)
     told_of question.Repairs = refl
     told_of question.Records = refl
-    told_of (question.Steps None) = refl
-    told_of (question.Steps (Some plan)) = refl
+    told_of question.Steps = refl
     told_of question.Bounds = refl
     told_of (question.Check words) = times (map (λ word. word.now) words.items) ∙ sym (made (times_read (map (λ word. word.now) words.items)) _)
     told_of (question.Draw words) =
         drawing log (map (λ word. word.now) words.owned.items) words.arrows words.now
-        ∙ sym (made (look_read log (map (λ word. word.now) words.owned.items) words.arrows words.now) (drawn_by words.plan))
+        ∙ sym (made (look_read log (map (λ word. word.now) words.owned.items) words.arrows words.now) draw)
 told (line.Explain code) = refl
 told (line.Shell log) = refl
 told (line.Serve log address count seconds) = refl

@@ -24,5 +24,5 @@ abbrev pub absent_event : ℕ → Line → Option (List ℕ)
 absent_event steps (Change log (Add from to lo hi)) = option_or (absent 0 steps from.now) (absent 0 steps to.now)
 absent_event steps (Change log (Amend id from to lo hi)) = option_or (absent 0 steps from.now) (absent 0 steps to.now)
 absent_event steps (Change log (Done event time)) = absent 1 steps event.now
-absent_event steps (Ask log (Why event to)) = option_or (absent 0 steps event.now) (absent_second steps to)
+absent_event steps (Ask log (Why event to) names) = option_or (absent 0 steps event.now) (absent_second steps to)
 absent_event steps other = None

@@ -5,10 +5,11 @@ use Rattle.stn_cause.specs.declared.cause.Cause.TheVariants as cause
 use Rattle.stn_text.specs.Bytes.{line_feed}
 use Rattle.stn_lift.specs.PlanSource.{steps_of}
 use Rattle.stn_site.specs.Held.{Held}
-use Rattle.stn_line.specs.{Explanations.Explained.IsMeant, declared.words.{SiteLog.SiteLog, NewLog.TheVariants.{Bare, Init, Loosen}, LogChange.TheVariants.Merge, LogQuestion.TheVariants.{Steps, Check, Draw}, Line.{Line, TheVariants.{Run, Make, Change, Ask, Explain, Shell, Serve, Send}}}}
+use Rattle.stn_line.specs.{Explanations.Explained.IsMeant, declared.words.{SiteLog.SiteLog, NewLog.TheVariants.{Bare, Init, Loosen}, LogChange.TheVariants.Merge, LogQuestion.TheVariants.Check, Line.{Line, TheVariants.{Run, Make, Change, Ask, Explain, Shell, Serve, Send}}}}
 use Rattle.stn_refusal.specs.{Codes.number_of, declared.{failure.{Failure.{Failure, TheVariants.{Refused, Failed}}, Fault.Fault}, refusal.{Place.{Place, TheVariants.Number}, Refusal.Refusal}}}
 use Rattle.stn_refusal.specs.declared.code.Code.TheVariants as code
 use Rattle.stn_refusal.specs.declared.failure.Fault.TheVariants as fault
+use Rattle.stn_logs.specs.{Loosening.SaysFragile, Words.slack_read}
 use Rattle.stn_store.specs.{Steps.Entries, Store.{IsUnopened, Opens}, declared.trouble.Trouble.Trouble}
 use Rattle.stn_reasons.specs.{Absent.absent_event, Refused.{RefusedWord, word_refused}, Told.{events_text, times_count_text, word_text}}
 
@@ -18,7 +19,7 @@ abbrev pub log_of : Line → Option SiteLog
 log_of Run = None
 log_of (Make log made) = Some log
 log_of (Change log made) = Some log
-log_of (Ask log asked) = Some log
+log_of (Ask log asked names) = Some log
 log_of (Explain code) = None
 log_of (Shell log) = Some log
 log_of (Serve log address count seconds) = Some log
@@ -31,7 +32,7 @@ other_of line = None
 
 -- how many times `check` is given
 abbrev pub times_given : Line → Option ℕ
-times_given (Ask log (Check times)) = Some (length times.items)
+times_given (Ask log (Check times) names) = Some (length times.items)
 times_given line = None
 
 -- the plan of a command's log has so many steps; None where that is not known
@@ -55,8 +56,7 @@ file_refused (Make log (Bare steps)) number = if number == number_of code.LogThe
 file_refused (Make log (Init domain plan)) number = text_refused log.name.now domain.now plan.now number
 file_refused (Make log (Loosen domain plan early late robust)) number = text_refused log.name.now domain.now plan.now number
 file_refused (Change log (Merge other)) number = if number == number_of code.OtherPlan then Some other.now else None
-file_refused (Ask log (Steps (Some plan))) number = if refuses_plan number then Some plan.now else None
-file_refused (Ask log (Draw drawing)) number = if refuses_plan number then option_map (λ plan. plan.now) drawing.plan else None
+file_refused (Ask log asked names) number = if refuses_plan number then option_map (λ plan. plan.now) names.plan else None
 file_refused line number = None
 
 -- ---- what is told of it
@@ -95,7 +95,13 @@ pub record TellsEvent (steps : ℕ) (line : Line) (refusal : Refusal) (text : Li
   pub absent : absent_event steps line ≡ Some word
   pub told : text ≡ absent_text steps word
 
--- a refusal of a command whose words are well: a log that has a fault, an event that the plan lacks, or times, one for each event
+-- what is not robust of the plan that a command loosens
+abbrev pub TellsPromise : Entries → Line → List ℕ → Type 0
+TellsPromise entries (Make log (Loosen domain plan early late robust)) text = SaysFragile entries domain.now plan.now (slack_read early late) text
+TellsPromise entries line text = ⊥
+
+-- a refusal of a command whose words are well: a log that has a fault, an event that the plan lacks, times, one for each event, or what
+-- is not robust
 pub data TellsLog (entries : Entries) (line : Line) (refusal : Refusal) (text : List ℕ) : Type 0 where
   of_log : (log : SiteLog) → log_of line ≡ Some log → IsUnopened entries log.name.now (Refused refusal)
       → text ≡ file_text log.name.now refusal → TellsLog entries line refusal text
@@ -104,6 +110,7 @@ pub data TellsLog (entries : Entries) (line : Line) (refusal : Refusal) (text : 
   of_event : (steps : ℕ) → HasSteps entries line (Some steps) → TellsEvent steps line refusal text → TellsLog entries line refusal text
   of_times : (steps times : ℕ) → HasSteps entries line (Some steps) → refusal.code ≡ number_of code.Line
       → times_given line ≡ Some times → text ≡ times_count_text times (2 * steps) → TellsLog entries line refusal text
+  of_promise : refusal.code ≡ number_of code.NotRobust → TellsPromise entries line text → TellsLog entries line refusal text
 
 abbrev pub TellsFile : Option (List ℕ) → Entries → Line → Refusal → List ℕ → Type 0
 TellsFile (Some name) entries line refusal text = text ≡ file_text name refusal

@@ -95,5 +95,5 @@ word_of_question other = None
 abbrev pub word_refused : Line → Option RefusedWord
 word_refused (Make log (Loosen domain plan early late robust)) = no_tolerances early late
 word_refused (Change log made) = word_of_change made
-word_refused (Ask log asked) = word_of_question asked
+word_refused (Ask log asked names) = word_of_question asked
 word_refused other = None

@@ -12,5 +12,5 @@ refusal_by (Err failure) = Some failure
 abbrev pub words_refusal : Line → Option Failure
 words_refusal (Make log (Loosen domain plan early late robust)) = refusal_by (slack_read early late)
 words_refusal (Change log made) = refusal_by (update_read made)
-words_refusal (Ask log asked) = refusal_by (question_read log asked)
+words_refusal (Ask log asked names) = refusal_by (question_read log asked)
 words_refusal other = None

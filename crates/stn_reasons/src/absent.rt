@@ -14,7 +14,7 @@ pub fn absent_event<'a>(line: &Line<'a>, steps: u16) -> Option<&'a str>
             absent(*from, 0, steps).or(absent(*to, 0, steps))
         }
         Line::Change(_, LogChange::Done { event, .. }) => absent(*event, 1, steps),
-        Line::Ask(_, LogQuestion::Why { event, to }) => {
+        Line::Ask(_, LogQuestion::Why { event, to }, _) => {
             absent(*event, 0, steps).or(absent_second(*to, steps))
         }
         _ => None,

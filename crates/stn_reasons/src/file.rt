@@ -5,7 +5,7 @@ ghost use Rattle.stn_reasons.specs.Reasons as spec;
 
 use itoa::Buffer;
 use std::alloc::Allocator;
-use stn_line::{Line, LogChange, LogQuestion, NewLog, SiteLog};
+use stn_line::{Line, LogChange, NewLog, SiteLog};
 use stn_refusal::{Code, Place, Refusal};
 use stn_time::Memory;
 
@@ -17,7 +17,7 @@ pub fn log_of<'l, 'a>(line: &'l Line<'a>) -> Option<&'l SiteLog<'a>>
         Line::Run | Line::Explain { .. } => None,
         Line::Make(log, _)
         | Line::Change(log, _)
-        | Line::Ask(log, _)
+        | Line::Ask(log, ..)
         | Line::Shell { log }
         | Line::Serve { log, .. }
         | Line::Send { log, .. } => Some(log),
@@ -42,16 +42,7 @@ pub fn refused_file<'a>(line: &Line<'a>, number: u8) -> Option<&'a str>
         Line::Change(_, LogChange::Merge { other }) => {
             (number == Code::OtherPlan.number()).then_some(*other)
         }
-        Line::Ask(_, LogQuestion::Steps { plan: Some(plan) }) => {
-            is_of_plan(number).then_some(*plan)
-        }
-        Line::Ask(_, LogQuestion::Draw(drawing)) => {
-            if is_of_plan(number) {
-                drawing.plan
-            } else {
-                None
-            }
-        }
+        Line::Ask(_, _, names) => { if is_of_plan(number) { names.plan } else { None } }
         _ => None,
     }
 }

@@ -3,7 +3,7 @@
 ghost use Rattle.std.specs.Prelude.{◌≡◌, ◌⊎◌, ◌*◌, ◌-◌, ◌++◌, [], Some, IfOk, IfSome, OnOk, codes, decimal, length, option_map, take};
 ghost use Rattle.stn_line.specs.Explanations.Explained.{IsMeant};
 ghost use Rattle.stn_reasons.specs.Reasons as spec;
-ghost use Rattle.stn_reasons.specs.{Reasons.{HasSteps, IsReason, IsReasonInLine, IsRefusalReason, TellsAbout, TellsEvent, TellsFile, TellsLog, TellsWord}, Refused.{seen_word, word_refused}};
+ghost use Rattle.stn_reasons.specs.{Reasons.{HasSteps, IsReason, IsReasonInLine, IsRefusalReason, TellsAbout, TellsEvent, TellsFile, TellsLog, TellsPromise, TellsWord}, Refused.{seen_word, word_refused}};
 ghost use Rattle.stn_reasons.specs.Told as told;
 ghost use Rattle.stn_refusal.specs.{Codes.number_of, declared.failure.Failure.TheVariants.Refused};
 ghost use Rattle.stn_refusal.specs.declared.code.Code.TheVariants as code;
@@ -18,7 +18,8 @@ use crate::telling::{append_absent, append_counts, append_refused_word};
 use itoa::Buffer;
 use std::alloc::Allocator;
 use stn_cause::{Cause, append_trouble};
-use stn_line::{Line, LogChange, LogQuestion, SiteLog, meaning_of};
+use stn_line::{Line, LogChange, LogQuestion, NewLog, SiteLog, meaning_of};
+use stn_logs::fragile_text;
 use stn_records::Site;
 use stn_refusal::{Code, Failure, Fault, Refusal};
 use stn_store::{Store, Trouble};
@@ -184,7 +185,7 @@ fn file_text<A: Allocator>(alloc: A, name: &str, refusal: Refusal) -> Result<Vec
     Ok(text)
 }
 
-// The log that is refused, or what a refusal by the log's plan is about.
+// What is not robust, or the log that is refused, or what a refusal by the log's plan is about.
 fn about_log<S: Store<A>, A: Allocator + Copy>(
     alloc: A,
     store: &S,
@@ -193,9 +194,38 @@ fn about_log<S: Store<A>, A: Allocator + Copy>(
 ) -> Result<Vec<u8, A>, Memory>
     ensures { IfOk result (λ text. TellsLog (S.entries store.now) line.now refusal text.items ⊎ (text.items ≡ [])) }
 {
+    if refusal.code == Code::NotRobust.number() {
+        return about_promise(alloc, store, line);
+    }
     match log_of(line) {
         Some(log) => about_opened(alloc, store, line, log, refusal),
         None => Ok(Vec::new(alloc)),
+    }
+}
+
+// What is not robust of the plan that a command loosens, where that can be found out.
+fn about_promise<S: Store<A>, A: Allocator + Copy>(
+    alloc: A,
+    store: &S,
+    line: &Line<'_>,
+) -> Result<Vec<u8, A>, Memory>
+    ensures { IfOk result (λ text. TellsPromise (S.entries store.now) line.now text.items ⊎ (text.items ≡ [])) }
+{
+    if let Line::Make(
+        _,
+        NewLog::Loosen {
+            domain,
+            plan,
+            early,
+            late,
+            ..
+        },
+    ) = line
+        && let Ok(text) = fragile_text(alloc, store, *domain, *plan, *early, *late)
+    {
+        Ok(text)
+    } else {
+        Ok(Vec::new(alloc))
     }
 }
 
@@ -272,7 +302,7 @@ fn times_given(line: &Line<'_>) -> Option<usize>
     ensures { result ≡ spec.times_given line.now }
 {
     match line {
-        Line::Ask(_, LogQuestion::Check { times }) => Some(times.len()),
+        Line::Ask(_, LogQuestion::Check { times }, _) => Some(times.len()),
         _ => None,
     }
 }

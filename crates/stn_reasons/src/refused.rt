@@ -47,7 +47,7 @@ pub fn refused_word<'a, A: Allocator + Copy>(
     match line {
         Line::Make(_, NewLog::Loosen { early, late, .. }) => Ok(no_tolerances(*early, *late)),
         Line::Change(_, change) => refused_in_change(alloc, change),
-        Line::Ask(_, question) => refused_in_question(alloc, question),
+        Line::Ask(_, question, _) => refused_in_question(alloc, question),
         _ => Ok(None),
     }
 }
@@ -95,7 +95,7 @@ fn refused_in_question<'a, A: Allocator + Copy>(
         LogQuestion::Report
         | LogQuestion::Repairs
         | LogQuestion::Records
-        | LogQuestion::Steps { .. }
+        | LogQuestion::Steps
         | LogQuestion::Bounds => Ok(None),
     }
 }
