@@ -1,9 +1,8 @@
 -- The lines of a shell: their words, how they are read, and how they come one after the other.
-use Rattle.std.{proofs.Common.{Bor, map, Bool, true, false, ◌≡◌, ◌∙◌, ap, sym, subst, refl, ℕ, ◌+◌, List, [], ◌∷◌, ◌++◌, append_assoc}, specs.{Prelude.{IsUtf8, if◌then◌else◌, IsErrOf, ◌≢◌, ◌-◌, ◌^◌, min, None, Some, Ok, Err, Vec, Result, Option}, Int.from_bool, List.AllByRecursion, Io.KnownBytes.IsAtEnd}}
-use Rattle.stn_device.specs.{Failures.read_failure, declared.whole.ReadFault.{ReadFault, TheVariants.{Read, Bound, Memory}}}
-use Rattle.stn_effects.specs.{Effects.{Effect, Then, stopped, went, Gives, seen}, Printing.Device}
+use Rattle.std.{proofs.Common.{Bor, map, Bool, true, false, ◌≡◌, ◌∙◌, ap, sym, subst, refl, ℕ, ◌+◌, List, [], ◌∷◌, ◌++◌, append_assoc}, specs.{Prelude.{IsUtf8, if◌then◌else◌, Ok, Err, Result}, Int.from_bool, List.AllByRecursion}}
+use Rattle.stn_effects.specs.Effects.{Effect, Then, stopped, went, Gives, seen}
 use Rattle.stn_refusal.specs.declared.failure.Failure.{Failure}
-use Rattle.stn_shell.specs.{Carried.{Succeeds, Answers, Does}, Coprocess.{Standing, StopsReading, ReadsLine, further}, Lines.{IsLineRead, Takes}, Outside.Outside}
+use Rattle.stn_shell.specs.{Carried.{Succeeds, Answers, Does}, Outside.Outside}
 
 -- one text more
 pub texts_more : (words : List (List ℕ)) (word : List ℕ) → AllByRecursion IsUtf8 words → IsUtf8 word → AllByRecursion IsUtf8 (words ++ word ∷ [])
@@ -37,26 +36,8 @@ one_further before words pushed word cut all rest later texts are text split nex
       ∙ append_assoc (map (λ one. one.now) before) texts (word.now ∷ []) ∙ ap (λ last. map (λ one. one.now) before ++ (texts ++ last ∷ [])) is,
 )
 
--- a line was not read to its end
-pub reading_stopped : {A : Type 0} (unread rest : Device) (room left : ℕ) (fault : ReadFault) → IsLineRead {A = A} unread.bytes rest.bytes room left (Err fault)
-    → (IsErrOf (let none : Result (Option (Vec ℕ A)) ReadFault = Err fault in none) Read → rest.failures ≡ min (unread.failures + 1) (2 ^ 64 - 1))
-    → ((let none : Result (Option (Vec ℕ A)) ReadFault = Err fault in none) ≢ Err Read → rest.failures ≡ unread.failures)
-    → StopsReading unread rest room (read_failure fault)
-reading_stopped unread rest room left Read is fails keeps = (is.0, is.1, is.2.0, fails refl)
-reading_stopped unread rest room left Bound is fails keeps = (is.0, is.1, is.2, is.3, is.4, keeps (λ e. cc))
-reading_stopped unread rest room left Memory is fails keeps = (is.0, is.1, is.2.0, keeps (λ e. cc))
-
 -- what was done has the status 0
 pub succeeded : (Does : Effect Outside (Unit {0})) (old new : Outside) (done : Result (Unit {0}) Failure) (told : Result ℕ Failure) → told ≡ seen (λ _. 0) done
     → Does old new done → Succeeds Does old new told
 succeeded Does old new (Ok done) told is does = went done new does (refl, is)
 succeeded Does old new (Err failure) told is does = stopped failure does is
-
--- the next line, and the end
-pub one_read : {A : Type 0} (old : Standing) (unread : Device) (room : ℕ) (line : Vec ℕ A) → IsLineRead {A = A} old.around.unread.bytes unread.bytes old.room room (Ok (Some line))
-    → unread.failures ≡ old.around.unread.failures → ReadsLine old (further old unread (old.lines + 1) room) (Ok (Some line.items))
-one_read old unread room line is kept = (is.0, unread, room, is.1, is.2, kept, refl)
-
-pub none_read : (old : Standing) (unread : Device) (room : ℕ) → IsAtEnd unread.bytes × Takes old.around.unread.bytes unread.bytes old.room room []
-    → unread.failures ≡ old.around.unread.failures → ReadsLine old (further old unread old.lines room) (Ok None)
-none_read old unread room is kept = (unread, room, is.0, is.1, kept, refl)

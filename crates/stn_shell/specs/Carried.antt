@@ -8,7 +8,7 @@ use Rattle.stn_exec.specs.Runs.{RunsScript}
 use Rattle.stn_logs.specs.Commands.{DoesLine}
 use Rattle.stn_reasons.specs.{Hints.IsHinted, Waiting.TellsWaiting}
 use Rattle.stn_exchanges.specs.{Connections.{meeting, ServesSites, SendsTo}, Joining.shared, Peer.strangers}
-use Rattle.stn_shell.specs.{Coprocess.RunsShell, Outside.{Outside, InStore, InStreams, OnOutput, Mentions}}
+use Rattle.stn_shell.specs.{Coprocess.RunsShell, Outside.{Outside, InStore, InStreams, OnStandardOutput, Mentions}}
 use Rattle.stn_store.specs.Steps.{LoadsLog}
 use Rattle.stn_line.specs.declared.words.{SiteLog.SiteLog, Line.{Line, TheVariants.{Run, Make, Change, Ask, Explain, Shell, Serve, Send}}}
 use Rattle.stn_refusal.specs.declared.failure.{Failure.TheVariants.{Failed}, Fault.{Fault, TheVariants.Net}}
@@ -42,7 +42,7 @@ SendsHeld Fails log found old new ended = ((left : Content) × (gone : PartnerSt
 abbrev pub Listens : Effect Outside (Unit {0})
 Listens =
     Then Connects (λ _.
-    OnOutput (Writes (codes "listening" ++ 10 ∷ [])))
+    OnStandardOutput (Writes (codes "listening" ++ 10 ∷ [])))
 
 -- what a log says is served. Before that a store may find that it can't save the log; that it finds none promises nothing
 abbrev pub ServesLog : (Fault → Type 0) → SiteLog → ℕ → Effect Outside (Unit {0})
@@ -65,7 +65,7 @@ abbrev pub Answers : (Fault → Type 0) → Line → Effect Outside (Unit {0})
 Answers Fails line =
     Then (Mentions (λ _. TellsWaiting line)) (λ _.
     Then (InStore (DoesLine Fails line)) (λ text.
-    Then (OnOutput (Writes text)) (λ _.
+    Then (OnStandardOutput (Writes text)) (λ _.
     Mentions (λ entries. IsHinted entries line))))
 
 -- what is done has the status 0
@@ -77,7 +77,7 @@ abbrev pub Does : (Fault → Type 0) → Line → Effect Outside ℕ
 Does Fails Run = RunsInput
 Does Fails (Make log made) = Succeeds (Answers Fails (Make log made))
 Does Fails (Change log made) = Succeeds (Answers Fails (Change log made))
-Does Fails (Ask log asked) = Succeeds (Answers Fails (Ask log asked))
+Does Fails (Ask log asked names) = Succeeds (Answers Fails (Ask log asked names))
 Does Fails (Explain code) = Succeeds (Answers Fails (Explain code))
 Does Fails (Shell log) = RunsShell Fails log
 Does Fails (Serve log address count seconds) = Succeeds (ServesLog Fails log count)

@@ -1,5 +1,5 @@
 -- A shell on a log: each line of an input is done as the command on the log, and answered, before more is read.
-use Rattle.std.specs.{Prelude.{◌≡◌, ◌≢◌, ◌⊎◌, ℕ, ◌+◌, ◌-◌, ◌^◌, min, length, Bool, true, false, ◌||◌, if◌then◌else◌, bytes_eq, IsUtf8, List, [], ◌∷◌, ◌++◌, codes, decimal, Option, None, Some, Result, Ok, Err}, List.AllByRecursion, Result.is_err, Io.KnownBytes.{Consumes, IsAtEnd}}
+use Rattle.std.specs.{Prelude.{◌≡◌, ◌≢◌, ◌⊎◌, ℕ, ◌+◌, Bool, true, false, ◌||◌, if◌then◌else◌, bytes_eq, IsUtf8, List, [], ◌∷◌, ◌++◌, codes, Option, None, Some, Result, Ok, Err}, List.AllByRecursion, Result.is_err}
 use Rattle.clap.specs.{Words.{IsAmong, Text, fault_of}, declared.error.kind.ErrorKind.ErrorKind}
 use Rattle.stn_text.specs.{Bytes.line_feed, Lines.words_of}
 use Rattle.stn_device.specs.Bytes.{most_bytes}
@@ -8,47 +8,47 @@ use Rattle.stn_exec.specs.Script.{is_skipped}
 use Rattle.stn_line.specs.{Commands.stn, declared.words.{SiteLog.SiteLog, Line.{Line, TheVariants.{Run, Make, Change, Ask, Explain, Shell, Serve, Send}}}}
 use Rattle.stn_logs.specs.Commands.{DoesLine}
 use Rattle.stn_reasons.specs.{Hints.IsHinted, Reasons.IsReasonInLine, Waiting.TellsWaiting}
-use Rattle.stn_shell.specs.{Asking.{AskFor, no_text, not_of_shell}, Lines.{AreWithinLine, AreOfLine, Takes}, Outside.{Outside, outside, InStore, Mentions, OnOutput, OnError, TellsOnly}, declared.coprocess.Progress.Progress}
+use Rattle.stn_shell.specs.{Asking.{AskFor, no_text, not_of_shell}, Lines.TakesLine, Outside.{Outside, outside, InStore, Mentions, OnStandardOutput, OnError, TellsOnly}, declared.coprocess.Progress.Progress}
 use Rattle.stn_store.specs.Steps.{LoadsLog}
 use Rattle.stn_refusal.specs.{Printed.refusal_text, Refusals.{refused_at, out_of_memory}, declared.{failure.{Failure.{Failure, TheVariants.{Refused, Failed}}, Fault.Fault}, refusal.Refusal.Refusal}}
 use Rattle.stn_refusal.specs.declared.code.Code.TheVariants as code
-use Rattle.stn_refusal.specs.declared.failure.Fault.TheVariants as fault
 
 -- ---- the command that a line asks for
--- the words of a command line, by those of a line of the shell: LOG and SITE stand after the command, but for the one of no log
-abbrev pub line_words : Text → Text → List Text → List Text
-line_words log site [] = codes "stn" ∷ []
-line_words log site (command ∷ words) =
+-- the words of a command line, by those of a line of the shell: after the command, but for the one of no log, stand words in place of
+-- LOG and SITE
+abbrev pub line_words : List Text → List Text
+line_words [] = codes "stn" ∷ []
+line_words (command ∷ words) =
     if bytes_eq command (codes "explain") then codes "stn" ∷ command ∷ words
-    else codes "stn" ∷ command ∷ log ∷ site ∷ words
+    else codes "stn" ∷ command ∷ codes "LOG" ∷ codes "1" ∷ words
 
--- a shell does commands on a log that is there, and explanations
-abbrev pub is_of_shell : Line → Bool
-is_of_shell Run = false
-is_of_shell (Make log made) = false
-is_of_shell (Change log made) = true
-is_of_shell (Ask log asked) = true
-is_of_shell (Explain code) = true
-is_of_shell (Shell log) = false
-is_of_shell (Serve log address count seconds) = false
-is_of_shell (Send log address seconds) = false
+-- a shell does commands on a log that is there, which is its own, and explanations
+abbrev pub of_shell : SiteLog → Line → Option Line
+of_shell log Run = None
+of_shell log (Make other made) = None
+of_shell log (Change other made) = Some (Change log made)
+of_shell log (Ask other asked names) = Some (Ask log asked names)
+of_shell log (Explain code) = Some (Explain code)
+of_shell log (Shell other) = None
+of_shell log (Serve other address count seconds) = None
+of_shell log (Send other address seconds) = None
 
 -- words are no command of a shell, and why is told: clap refuses them, or they are another command line
-abbrev pub IsNoCommand : List Text → Device → Device → Type 0
-IsNoCommand words err told =
+abbrev pub IsNoCommand : SiteLog → List Text → Device → Device → Type 0
+IsNoCommand log words err told =
     ((kind : ErrorKind) × (text : List ℕ) × IsAmong kind (fault_of stn words) × (text ≢ []) × TellsText text err told)
-    ⊎ ((line : Line) × AskFor words line × (is_of_shell line ≡ false) × TellsText not_of_shell err told)
+    ⊎ ((line : Line) × AskFor words line × (of_shell log line ≡ None) × TellsText not_of_shell err told)
 
--- a command of a shell in the words of a command line; words that are none are refused by the number of their line
-abbrev pub ReadsCommand : ℕ → List Text → Effect Device Line
-ReadsCommand number words err told (Ok line) = (AskFor words line × (is_of_shell line ≡ true)) × (told ≡ err)
-ReadsCommand number words err told (Err failure) =
-    (IsNoCommand words err told × (failure ≡ refused_at code.Line number)) ⊎ ((failure ≡ out_of_memory) × (told ≡ err))
+-- a command of a shell on the log, in the words of a command line; words that are none are refused by the number of their line
+abbrev pub ReadsCommand : SiteLog → ℕ → List Text → Effect Device Line
+ReadsCommand log number words err told (Ok line) = ((asked : Line) × AskFor words asked × (of_shell log asked ≡ Some line)) × (told ≡ err)
+ReadsCommand log number words err told (Err failure) =
+    (IsNoCommand log words err told × (failure ≡ refused_at code.Line number)) ⊎ ((failure ≡ out_of_memory) × (told ≡ err))
 
--- the words of a line on a log are texts; a word that is none is told
-abbrev pub ReadsTexts : SiteLog → ℕ → List Text → Effect Device (List Text)
-ReadsTexts log number words err told (Ok all) = AllByRecursion IsUtf8 words × (all ≡ line_words log.name.now (decimal log.site) words) × (told ≡ err)
-ReadsTexts log number words err told (Err failure) =
+-- the words of a line are texts; a word that is none is told
+abbrev pub ReadsTexts : ℕ → List Text → Effect Device (List Text)
+ReadsTexts number words err told (Ok all) = AllByRecursion IsUtf8 words × (all ≡ line_words words) × (told ≡ err)
+ReadsTexts number words err told (Err failure) =
     ((¬ (AllByRecursion IsUtf8 words)) × TellsText no_text err told × (failure ≡ refused_at code.Line number)) ⊎ ((failure ≡ out_of_memory) × (told ≡ err))
 
 -- what a command does; its hints are told, or, where it is refused, its reason: either on one line
@@ -58,9 +58,9 @@ SaysWhy line Does old new (Err (Refused refusal)) = (between : Outside) × Does 
 SaysWhy line Does old new (Err (Failed fault)) = Does old new (Err (Failed fault))
 
 -- the command of such words is done
-abbrev pub DoesWords : (Fault → Type 0) → ℕ → List Text → Effect Outside (List ℕ)
-DoesWords Fails number words =
-    Then (OnError (ReadsCommand number words)) (λ line.
+abbrev pub DoesWords : (Fault → Type 0) → SiteLog → ℕ → List Text → Effect Outside (List ℕ)
+DoesWords Fails log number words =
+    Then (OnError (ReadsCommand log number words)) (λ line.
     Then (Mentions (λ _. TellsWaiting line)) (λ _.
     SaysWhy line (InStore (DoesLine Fails line))))
 
@@ -74,8 +74,8 @@ reply_text (Err refusal) = refusal_text refusal
 -- the line is refused
 abbrev pub AnswersWords : (Fault → Type 0) → SiteLog → ℕ → List Text → Effect Outside Bool
 AnswersWords Fails log number words =
-    Then (Catches (Then (OnError (ReadsTexts log number words)) (λ all. DoesWords Fails number all))) (λ reply.
-    Then (OnOutput (Writes (reply_text reply ++ line_feed ∷ []))) (λ _.
+    Then (Catches (Then (OnError (ReadsTexts number words)) (λ all. DoesWords Fails log number all))) (λ reply.
+    Then (OnStandardOutput (Writes (reply_text reply ++ line_feed ∷ []))) (λ _.
     Gives (is_err reply)))
 
 -- of a comment, or of a line without words, nothing is done
@@ -115,25 +115,15 @@ further old unread lines room = record {
   refused = old.refused;
 }
 
--- a line was not read to its end: a read failed, too much was read, or memory ran out
-abbrev pub StopsReading : Device → Device → ℕ → Failure → Type 0
-StopsReading unread rest room (Failed fault.Read) = (part : List ℕ) × AreWithinLine part × Consumes unread.bytes rest.bytes part
-    × (rest.failures ≡ min (unread.failures + 1) (2 ^ 64 - 1))
-StopsReading unread rest room (Failed fault.Bound) = (part : List ℕ) × (byte : ℕ) × AreWithinLine part × Consumes unread.bytes rest.bytes (part ++ byte ∷ [])
-    × (length part ≡ room) × (rest.failures ≡ unread.failures)
-StopsReading unread rest room (Failed fault.Memory) = (part : List ℕ) × AreWithinLine part × Consumes unread.bytes rest.bytes part
-    × (rest.failures ≡ unread.failures)
-StopsReading unread rest room other = ⊥
+-- how many lines were read then
+abbrev pub lines_by : Result (Option (List ℕ)) Failure → ℕ → ℕ
+lines_by (Ok (Some line)) lines = lines + 1
+lines_by other lines = lines
 
--- the next line is read, and nothing after it; there is none at the end
+-- the next line is read, if there is one
 abbrev pub ReadsLine : Effect Standing (Option (List ℕ))
-ReadsLine old new (Ok (Some line)) = (bytes : List ℕ) × (unread : Device) × (room : ℕ) × AreOfLine line unread.bytes bytes
-    × Takes old.around.unread.bytes unread.bytes old.room room bytes × (unread.failures ≡ old.around.unread.failures)
-    × (new ≡ further old unread (old.lines + 1) room)
-ReadsLine old new (Ok None) = (unread : Device) × (room : ℕ) × IsAtEnd unread.bytes × Takes old.around.unread.bytes unread.bytes old.room room []
-    × (unread.failures ≡ old.around.unread.failures) × (new ≡ further old unread old.lines room)
-ReadsLine old new (Err failure) = (unread : Device) × (room : ℕ) × StopsReading old.around.unread unread old.room failure
-    × (new ≡ further old unread old.lines room)
+ReadsLine old new ended = (unread : Device) × (room : ℕ) × TakesLine old.room room old.around.unread unread ended
+    × (new ≡ further old unread (lines_by ended old.lines) room)
 
 -- whether a line was refused is kept
 abbrev pub Notes : Bool → Effect Standing Bool

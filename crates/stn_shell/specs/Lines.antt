@@ -1,7 +1,8 @@
 -- What is read of an input for one line.
-use Rattle.std.specs.{Prelude.{◌≡◌, ◌≢◌, ◌⊎◌, ℕ, ◌+◌, List, [], ◌∷◌, ◌++◌, length, Option, Some, None, Result, Ok, Err, Vec}, List.AllByRecursion, Io.KnownBytes.{Consumes, IsAtEnd}}
+use Rattle.std.specs.{Prelude.{◌≡◌, ◌≢◌, ◌⊎◌, ℕ, ◌+◌, ◌-◌, ◌^◌, min, List, [], ◌∷◌, ◌++◌, length, Option, Some, None, Ok, Err}, List.AllByRecursion, Io.KnownBytes.{Consumes, IsAtEnd}}
 use Rattle.stn_text.specs.Bytes.{line_feed}
-use Rattle.stn_device.specs.declared.whole.ReadFault.{ReadFault, TheVariants.Bound}
+use Rattle.stn_effects.specs.{Effects.Effect, Printing.Device}
+use Rattle.stn_refusal.specs.declared.failure.{Failure.TheVariants.Failed, Fault.TheVariants.{Read, Bound, Memory}}
 
 -- none of the bytes ends a line
 abbrev pub AreWithinLine : List ℕ → Type 0
@@ -12,14 +13,18 @@ abbrev pub AreOfLine : List ℕ → Option (List ℕ) → List ℕ → Type 0
 AreOfLine line after bytes = AreWithinLine line
     × ((bytes ≡ line ++ line_feed ∷ []) ⊎ ((bytes ≡ line) × (line ≢ []) × IsAtEnd after))
 
--- these bytes were read, and so many may still be
-abbrev pub Takes : Option (List ℕ) → Option (List ℕ) → ℕ → ℕ → List ℕ → Type 0
-Takes before after room left bytes = Consumes before after bytes × (left + length bytes ≡ room)
+-- these bytes were read, of which no read failed, and so many may still be
+abbrev pub Takes : ℕ → ℕ → Device → Device → List ℕ → Type 0
+Takes room left unread rest bytes = Consumes unread.bytes rest.bytes bytes × (left + length bytes ≡ room) × (rest.failures ≡ unread.failures)
 
--- what was read for an answer: a line; nothing, at the end; a part of a line, where a read failed or memory ran out; or as much as may
--- be read, within a line, and one byte more
-abbrev pub IsLineRead : {A : Type 0} → Option (List ℕ) → Option (List ℕ) → ℕ → ℕ → Result (Option (Vec ℕ A)) ReadFault → Type 0
-IsLineRead before after room left (Ok (Some line)) = (bytes : List ℕ) × AreOfLine line.items after bytes × Takes before after room left bytes
-IsLineRead before after room left (Ok None) = IsAtEnd after × Takes before after room left []
-IsLineRead before after room left (Err Bound) = (part : List ℕ) × (byte : ℕ) × AreWithinLine part × Consumes before after (part ++ byte ∷ []) × (length part ≡ room)
-IsLineRead before after room left (Err other) = (part : List ℕ) × AreWithinLine part × Takes before after room left part
+-- the next line is read, and nothing after it; there is none at the end. Or a part of a line was read, and then a read failed, one byte more
+-- came than may be read, or memory ran out
+abbrev pub TakesLine : ℕ → ℕ → Effect Device (Option (List ℕ))
+TakesLine room left unread rest (Ok (Some line)) = (bytes : List ℕ) × AreOfLine line rest.bytes bytes × Takes room left unread rest bytes
+TakesLine room left unread rest (Ok None) = IsAtEnd rest.bytes × Takes room left unread rest []
+TakesLine room left unread rest (Err (Failed Read)) = (part : List ℕ) × AreWithinLine part × Consumes unread.bytes rest.bytes part
+    × (left + length part ≡ room) × (rest.failures ≡ min (unread.failures + 1) (2 ^ 64 - 1))
+TakesLine room left unread rest (Err (Failed Bound)) = (part : List ℕ) × (byte : ℕ) × AreWithinLine part × (length part ≡ room)
+    × Takes (room + 1) left unread rest (part ++ byte ∷ [])
+TakesLine room left unread rest (Err (Failed Memory)) = (part : List ℕ) × AreWithinLine part × Takes room left unread rest part
+TakesLine room left unread rest (Err other) = ⊥

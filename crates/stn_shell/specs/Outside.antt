@@ -21,9 +21,9 @@ outside entries unread out err = record { entries = entries; unread = unread; ou
 abbrev pub InStore : {X : Type 0} → Effect Entries X → Effect Outside X
 InStore Does old new ended = Does old.entries new.entries ended × (new.unread ≡ old.unread) × (new.out ≡ old.out) × (new.err ≡ old.err)
 
--- on the output alone
-abbrev pub OnOutput : {X : Type 0} → Effect Device X → Effect Outside X
-OnOutput Does old new ended = Does old.out new.out ended × (new.entries ≡ old.entries) × (new.unread ≡ old.unread) × (new.err ≡ old.err)
+-- on the standard output alone
+abbrev pub OnStandardOutput : {X : Type 0} → Effect Device X → Effect Outside X
+OnStandardOutput Does old new ended = Does old.out new.out ended × (new.entries ≡ old.entries) × (new.unread ≡ old.unread) × (new.err ≡ old.err)
 
 -- on the standard error alone
 abbrev pub OnError : {X : Type 0} → Effect Device X → Effect Outside X

@@ -1,20 +1,18 @@
 //! A shell on a log.
 
-ghost use Rattle.std.specs.{Prelude.{◌≡◌, ◌≢◌, ◌+◌, ◌<◌, ◌≤◌, ◌++◌, [], ◌∷◌, ℕ, List, true, Ok, map, IsUtf8, IfOk, IfErr, OnOk, OnErr, IfSome, IsNone}, List.AllByRecursion};
+ghost use Rattle.std.specs.{Prelude.{◌≡◌, ◌≢◌, ◌+◌, ◌<◌, ◌≤◌, ◌++◌, [], ◌∷◌, ℕ, List, true, false, None, Some, Ok, map, IsUtf8, IfOk, IfErr, OnOk, OnErr, IfSome, IsNone}, List.AllByRecursion};
 ghost use Rattle.stn_device.specs.Bytes.{most_bytes};
 ghost use Rattle.stn_effects.specs.{Effects.{seen, Then}, Printing.{Device, device_of, Prints, IsUnprinted, TellsText}};
 ghost use Rattle.stn_text.specs.{Bytes.line_feed, Lines.words_of};
 ghost use Rattle.stn_exec.specs.Script.{is_skipped as skips};
 ghost use Rattle.stn_logs.specs.Commands.{DoesLine};
 ghost use Rattle.stn_refusal.specs.Printed.{refusal_text};
-ghost use Rattle.stn_shell.specs.Coprocess as spec;
-ghost use Rattle.stn_shell.specs.{Coprocess.{standing, line_words, DoesText, DoesWords, ReadsTexts, DoesLines, RunsShell, SaysWhy, Turns}, Outside.{outside, InStore, Mentions, OnError}};
+ghost use Rattle.stn_shell.specs.{Coprocess.{standing, line_words, of_shell, DoesText, DoesWords, ReadsTexts, DoesLines, RunsShell, SaysWhy, Turns}, Outside.{outside, InStore, Mentions, OnError}};
 ghost use Rattle.stn_reasons.specs.Waiting.{TellsWaiting};
 
 use crate::lines::read_line;
 use crate::process::NO_TEXT;
 use crate::reasons::{tell_hints, tell_in_line, tell_waiting};
-use itoa::Buffer;
 use std::alloc::Global;
 use std::io::{Read, Write};
 use stn_device::{Counted, MOST_BYTES};
@@ -198,14 +196,12 @@ fn reply<S: Store<Global>, E: Write>(
     text: &[u8],
     err: &mut Counted<E>,
 ) -> Result<Vec<u8>, Failure>
-    ensures { (unread out : Device) → Then (OnError (ReadsTexts log.now number (words_of text.now))) (DoesWords S.fails number)
+    ensures { (unread out : Device) → Then (OnError (ReadsTexts number (words_of text.now))) (DoesWords S.fails log.now number)
         (outside (S.entries store.old) unread out (device_of E.contents err.old))
         (outside (S.entries store.new) unread out (device_of E.contents err.new)) (seen (λ answered. answered.items) result) }
 {
-    let mut digits = Buffer::new();
-    let site = digits.format(log.site.number());
-    match read_words(alloc, log.name, site, text)? {
-        Some(words) => reply_to(alloc, store, kept, number, &words, err),
+    match read_words(alloc, text)? {
+        Some(words) => reply_to(alloc, store, kept, log, number, &words, err),
         None => {
             tell(NO_TEXT, err);
             Err(Failure::refused_at(Code::Line, number))
@@ -213,16 +209,10 @@ fn reply<S: Store<Global>, E: Write>(
     }
 }
 
-// The words of the command line that a line asks for; none where one is no text. LOG and SITE stand after the command, but for the
-// one of no log.
-fn read_words<'a>(
-    alloc: Global,
-    log: &'a str,
-    site: &'a str,
-    text: &'a [u8],
-) -> Result<Option<Vec<&'a str>>, Memory>
-    ensures words { IfOk result (λ read. IfSome read (λ words. map (λ word. word.now) words.items
-        ≡ line_words log.entry.now site.entry.now (words_of text.entry.now))) }
+// The words of the command line that a line asks for; none where one is no text. After the command, but for the one of no log, stand
+// words in place of LOG and SITE.
+fn read_words<'a>(alloc: Global, text: &'a [u8]) -> Result<Option<Vec<&'a str>>, Memory>
+    ensures words { IfOk result (λ read. IfSome read (λ words. map (λ word. word.now) words.items ≡ line_words (words_of text.entry.now))) }
     ensures texts { IfOk result (λ read. IfSome read (λ _. AllByRecursion IsUtf8 (words_of text.entry.now))) }
     ensures none { IfOk result (λ read. IsNone read → ¬ (AllByRecursion IsUtf8 (words_of text.entry.now))) }
 {
@@ -233,8 +223,8 @@ fn read_words<'a>(
             Ok(command) => {
                 words.push(command)?;
                 if command != "explain" {
-                    words.push(log)?;
-                    words.push(site)?;
+                    words.push("LOG")?;
+                    words.push("1")?;
                 }
                 read_further(words, rest)
             }
@@ -263,22 +253,24 @@ fn read_further<'a>(before: Vec<&'a str>, text: &'a [u8]) -> Result<Option<Vec<&
     Ok(Some(words))
 }
 
-// Does the command that the words of a command line ask for.
+// Does the command on the log that the words of a command line ask for.
 fn reply_to<S: Store<Global>, E: Write>(
     alloc: Global,
     store: &mut S,
     kept: &mut Kept<Global>,
+    log: &SiteLog<'_>,
     number: u32,
     words: &[&str],
     err: &mut Counted<E>,
 ) -> Result<Vec<u8>, Failure>
-    ensures { (unread out : Device) → DoesWords S.fails number (map (λ word. word.now) words.now)
+    ensures { (unread out : Device) → DoesWords S.fails log.now number (map (λ word. word.now) words.now)
         (outside (S.entries store.old) unread out (device_of E.contents err.old))
         (outside (S.entries store.new) unread out (device_of E.contents err.new)) (seen (λ answered. answered.items) result) }
 {
     match line(alloc, words) {
-        Ok(asked) => {
-            if is_of_shell(&asked) {
+        Ok(read) => {
+            let mut asked = read;
+            if set_log(&mut asked, log) {
                 answer_line(alloc, store, kept, &asked, err)
             } else {
                 tell(NOT_OF_SHELL, err);
@@ -319,12 +311,23 @@ fn answer_line<S: Store<Global>, E: Write>(
     }
 }
 
-// Whether a command line is a command on a log that is there, or an explanation.
-fn is_of_shell(line: &Line<'_>) -> bool
-    ensures { result ≡ spec.is_of_shell line.now }
+// Sets the log of a command line; whether it is a command on a log that is there, or an explanation.
+fn set_log<'a>(line: &mut Line<'a>, log: &SiteLog<'a>) -> bool
+    ensures own { result ≡ true → of_shell log.now line.old ≡ Some line.new }
+    ensures none { result ≡ false → of_shell log.now line.old ≡ None }
 {
     match line {
-        Line::Change(..) | Line::Ask(..) | Line::Explain { .. } => true,
+        Line::Change(other, _) => {
+            other.name = log.name;
+            other.site = log.site;
+            true
+        }
+        Line::Ask(other, _, _) => {
+            other.name = log.name;
+            other.site = log.site;
+            true
+        }
+        Line::Explain { .. } => true,
         Line::Run | Line::Make(..) | Line::Shell { .. } | Line::Serve { .. } | Line::Send { .. } =>
             false,
     }

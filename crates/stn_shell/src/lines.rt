@@ -1,8 +1,9 @@
 //! The lines of an input, each read when it is asked for.
 
-ghost use Rattle.std.specs.Prelude.{◌≡◌, ◌≢◌, [], Err, IsErrOf, IsNone, IfSome};
-ghost use Rattle.stn_device.specs.{Counted.{counted_device, CountsFailure, KeepsCount}, declared.whole.ReadFault.TheVariants.Read};
-ghost use Rattle.stn_shell.specs.Lines.{IsLineRead};
+ghost use Rattle.std.specs.Prelude.{◌≡◌, ◌≢◌, [], IsNone, IfSome, option_map};
+ghost use Rattle.stn_device.specs.Failures.{read_failure};
+ghost use Rattle.stn_effects.specs.{Effects.{failing, seen}, Printing.device_of};
+ghost use Rattle.stn_shell.specs.Lines.{TakesLine};
 
 use std::alloc::Allocator;
 use std::io::Read;
@@ -16,9 +17,8 @@ pub fn read_line<R: Read, A: Allocator>(
     reader: &mut Counted<R>,
     room: &mut usize,
 ) -> Result<Option<Vec<u8, A>>, ReadFault>
-    ensures line { IsLineRead (R.remaining (counted_device reader.old)) (R.remaining (counted_device reader.new)) room.old room.new result }
-    ensures read { IsErrOf result ReadFault.Read → CountsFailure reader.old reader.new }
-    ensures kept { result ≢ Err ReadFault.Read → KeepsCount reader.old reader.new }
+    ensures { TakesLine room.old room.new (device_of R.remaining reader.old) (device_of R.remaining reader.new)
+        (seen (λ line. option_map (λ text. text.items) line) (failing read_failure result)) }
 {
     let mut line = Vec::new(alloc);
     let mut byte = [0u8; 1];

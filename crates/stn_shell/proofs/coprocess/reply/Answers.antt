@@ -1,7 +1,6 @@
-use Rattle.std.{proofs.{Common.{ℕ, List, map, refl, ap, ◌∙◌, inl, inr}, lemmas.Result.err_from_is_err_and}, specs.Prelude.decimal}
+use Rattle.std.proofs.{Common.{map, refl, inl, inr}, lemmas.Result.err_from_is_err_and}
 use Rattle.stn_effects.specs.{Effects.{stopped, went}, Printing.device_of}
-use Rattle.stn_text.specs.Lines.{words_of}
-use Rattle.stn_shell.specs.{Coprocess.line_words, Outside.outside}
+use Rattle.stn_shell.specs.Outside.{outside}
 use Rattle.stn_shell.proofs.coprocess.reply.Goals as goal
 
 pub returns-in_err-words : goal.returns-in_err-words
@@ -13,10 +12,8 @@ pub returns-in-Some : goal.returns-in-Some
 returns-in-Some g c =
     let words = rw c.in-Some.is at c.in_ok-words.ensures.words in
     let texts = rw c.in-Some.is at c.in_ok-words.ensures.texts in
-    let spelled = c.format-site.ensures.text ∙ ap decimal c.number.ensures.value in
-    let all = words ∙ ap (λ (site : List ℕ). line_words c.args.log.now.name.now site (words_of c.args.text.now)) spelled in
     λ unread out. went (map (λ word. word.now) c.in-Some.words.items)
-    (outside (g.S.Store.entries c.args.store.now) unread out (device_of g.E.Write.contents c.args.err.now)) ((texts, all, refl), refl, refl, refl)
+    (outside (g.S.Store.entries c.args.store.now) unread out (device_of g.E.Write.contents c.args.err.now)) ((texts, words, refl), refl, refl, refl)
     (rw c.deref.ensures.value at (c.reply_to.ensures unread out))
 
 pub returns-in-None : goal.returns-in-None

@@ -1,19 +1,19 @@
-use Rattle.std.proofs.{Common.{refl, sym, inl, inr, ◌∙◌}, lemmas.Result.err_from_is_err_and}
+use Rattle.std.proofs.{Common.{refl, inl, inr}, lemmas.Result.err_from_is_err_and}
 use Rattle.stn_effects.specs.{Effects.{stopped, went}, Printing.device_of}
 use Rattle.clap.specs.Words.{kind_of}
 use Rattle.stn_shell.specs.Outside.{outside}
 use Rattle.stn_shell.proofs.coprocess.reply_to.Goals as goal
 
-pub returns-then-is_of_shell : goal.returns-then-is_of_shell
-returns-then-is_of_shell g c =
-    λ unread out. went c.in-Ok.asked (outside (g.S.Store.entries c.args.store.now) unread out (device_of g.E.Write.contents c.args.err.now)) ((((c.in-Ok.ensures.taken, c.in-Ok.ensures.found), sym c.is_of_shell.ensures ∙ c.if-is_of_shell.true), refl), refl, refl, refl)
+pub returns-then-set_log : goal.returns-then-set_log
+returns-then-set_log g c =
+    λ unread out. went c.set_log.new.line (outside (g.S.Store.entries c.args.store.now) unread out (device_of g.E.Write.contents c.args.err.now)) (((c.in-Ok.read, (c.in-Ok.ensures.taken, c.in-Ok.ensures.found), c.set_log.ensures.own c.if-set_log.true), refl), refl, refl, refl)
     (c.answer_line.ensures unread out)
 
 pub returns-in-Ok : goal.returns-in-Ok
 returns-in-Ok g c =
     λ unread out. stopped _ (
       inl (
-        inr (c.in-Ok.asked, (c.in-Ok.ensures.taken, c.in-Ok.ensures.found), sym c.is_of_shell.ensures ∙ c.if-is_of_shell.false, c.tell.ensures),
+        inr (c.in-Ok.read, (c.in-Ok.ensures.taken, c.in-Ok.ensures.found), c.set_log.ensures.none c.if-set_log.false, c.tell.ensures),
         c.refused_at.ensures,
       ),
       refl,

@@ -1,6 +1,6 @@
 use Rattle.std.{proofs.Common.{◌≡◌, ◌⊎◌, ℕ, List, Option, Result, refl, sym, subst, inl, inr}, specs.Borrow.Bor}
 use Rattle.stn_effects.specs.Printing.{device_of}
-use Rattle.stn_line.specs.declared.words.{SiteLog.SiteLog, NewLog.NewLog, LogChange.LogChange, LogQuestion.LogQuestion, Line.{Line, TheVariants.{Make, Change, Ask, Explain}}}
+use Rattle.stn_line.specs.declared.words.{SiteLog.SiteLog, NewLog.NewLog, LogChange.LogChange, LogQuestion.LogQuestion, NameWords.NameWords, Line.{Line, TheVariants.{Make, Change, Ask, Explain}}}
 use Rattle.stn_refusal.specs.declared.failure.{Failure.Failure, Fault.Fault}
 use Rattle.stn_shell.{specs.{Carried.{Answers, Does, Succeeds, ServesLog, SendsLog}, Outside.Outside}, proofs.Turns.succeeded}
 use Rattle.stn_shell.proofs.execution.do_line.Goals as goal
@@ -8,11 +8,11 @@ use Rattle.stn_shell.proofs.execution.do_line.Goals as goal
 -- a command on a log, or an explanation, is answered
 answered : (Fails : Fault → Type 0) (line : Line) (old new : Outside) (ended : Result ℕ Failure)
     → ((log : SiteLog) × (made : NewLog) × (line ≡ Make log made)) ⊎ ((log : SiteLog) × (made : LogChange) × (line ≡ Change log made))
-    ⊎ ((log : SiteLog) × (asked : LogQuestion) × (line ≡ Ask log asked)) ⊎ ((code : Option (Bor (List ℕ))) × (line ≡ Explain code))
+    ⊎ ((log : SiteLog) × (asked : LogQuestion) × (names : NameWords) × (line ≡ Ask log asked names)) ⊎ ((code : Option (Bor (List ℕ))) × (line ≡ Explain code))
     → Succeeds (Answers Fails line) old new ended → Does Fails line old new ended
 answered Fails line old new ended (inl is) = subst (λ one. Succeeds (Answers Fails one) old new ended → Does Fails one old new ended) (sym is.2) (λ does. does)
 answered Fails line old new ended (inr (inl is)) = subst (λ one. Succeeds (Answers Fails one) old new ended → Does Fails one old new ended) (sym is.2) (λ does. does)
-answered Fails line old new ended (inr (inr (inl is))) = subst (λ one. Succeeds (Answers Fails one) old new ended → Does Fails one old new ended) (sym is.2) (λ does. does)
+answered Fails line old new ended (inr (inr (inl is))) = subst (λ one. Succeeds (Answers Fails one) old new ended → Does Fails one old new ended) (sym is.3) (λ does. does)
 answered Fails line old new ended (inr (inr (inr is))) = subst (λ one. Succeeds (Answers Fails one) old new ended → Does Fails one old new ended) (sym is.1) (λ does. does)
 
 pub returns-in-Run : goal.returns-in-Run

@@ -1,4 +1,4 @@
-use Rattle.std.proofs.{Common.{◌≡◌, ◌≢◌, ◌+◌, ◌-◌, ◌^◌, ◌++◌, ◌∷◌, [], min, length, refl, ap, inl, ◌∙◌, arith}, KnownBytes.{Consumes-nil, Consumes-kept, Consumes-trans}, lemmas.{Grind.common_steps, Result.err_from_is_err_and}}
+use Rattle.std.proofs.{Common.{◌≡◌, ◌≢◌, ◌+◌, ◌-◌, ◌^◌, ◌++◌, ◌∷◌, [], min, length, refl, ap, inl, ◌∙◌, arith}, KnownBytes.{Consumes-nil, Consumes-kept}, lemmas.{Grind.common_steps, Result.err_from_is_err_and}}
 use Rattle.stn_text.specs.Bytes.{line_feed}
 use Rattle.stn_shell.proofs.Bytes.{within_more, one_taken, taken_more, at_end}
 use Rattle.stn_shell.proofs.lines.read_line.Goals as goal
@@ -7,41 +7,36 @@ pub bytes-init : goal.bytes-init
 bytes-init g c = record {
   byte_len = refl;
   within = rw c.new-line.ensures.items tt;
-  taken = rw c.new-line.ensures.items (Consumes-nil _, omega arith);
-  kept = refl;
+  taken = rw c.new-line.ensures.items (Consumes-nil _, omega arith, refl);
 }
 
-pub returns-in-Ok-eq0-clause-line : goal.returns-in-Ok-eq0-clause-line
-returns-in-Ok-eq0-clause-line g c =
+pub returns-in-Ok-eq0 : goal.returns-in-Ok-eq0
+returns-in-Ok-eq0 g c =
     let i = c.bytes.invariant in
     let last = c.in-Ok-eq0.ensures in
     at_end _ _ _ _ _ c.in-Ok-eq0.field-0 _ c.bytes.line c.last_line.result c.last_line.ensures.none c.last_line.ensures.some i.within i.taken
-    c.in-Ok-eq0.field-0-test last.bytes.0 (last.bytes.1 c.in-Ok-eq0.field-0-test (grind (arith, common_steps, c.read.auto.buf, i.byte_len)))
+    c.in-Ok-eq0.field-0-test last.bytes.0 (last.bytes.1 c.in-Ok-eq0.field-0-test (grind (arith, common_steps, c.read.auto.buf, i.byte_len))) last.passed
 
-pub returns-in-Ok-eq0-clause-kept : goal.returns-in-Ok-eq0-clause-kept
-returns-in-Ok-eq0-clause-kept g c = λ _. c.in-Ok-eq0.ensures.passed ∙ c.bytes.invariant.kept
-
-pub returns-then-room-eq0-clause-line : goal.returns-then-room-eq0-clause-line
-returns-then-room-eq0-clause-line g c =
+pub returns-then-room-eq0 : goal.returns-then-room-eq0
+returns-then-room-eq0 g c =
     let i = c.bytes.invariant in
-    let one = one_taken c.read.new.buf _ c.in-Ok.field-0 (grind (arith, common_steps, c.read.auto.buf, i.byte_len)) refl (omega (arith, c.in-Ok.field-0-test.1)) in
-    (c.bytes.line.items, one.0, i.within, Consumes-trans _ _ _ _ _ i.taken.0 (rw one.2 at c.in-Ok.ensures.bytes.0), omega (arith, i.taken.1, c.if-room-eq0.true))
+    let one = one_taken c.read.new.buf _ c.in-Ok.field-0 (grind (arith, common_steps, c.read.auto.buf, i.byte_len)) refl (omega (arith, c.in-Ok.field-0-test.1)) in (
+      c.bytes.line.items,
+      one.0,
+      i.within,
+      omega (arith, i.taken.1, c.if-room-eq0.true),
+      taken_more _ _ _ _ _ _ _ _ _ i.taken (rw one.2 at c.in-Ok.ensures.bytes.0) c.in-Ok.ensures.passed (omega arith),
+    )
 
-pub returns-then-room-eq0-clause-kept : goal.returns-then-room-eq0-clause-kept
-returns-then-room-eq0-clause-kept g c = λ _. c.in-Ok.ensures.passed ∙ c.bytes.invariant.kept
-
-pub returns-then-byte-eq-LINE_FEED-clause-line : goal.returns-then-byte-eq-LINE_FEED-clause-line
-returns-then-byte-eq-LINE_FEED-clause-line g c =
+pub returns-then-byte-eq-LINE_FEED : goal.returns-then-byte-eq-LINE_FEED
+returns-then-byte-eq-LINE_FEED g c =
     let i = c.bytes.invariant in
     let one = one_taken c.read.new.buf _ c.in-Ok.field-0 (grind (arith, common_steps, c.read.auto.buf, i.byte_len)) refl (omega (arith, c.in-Ok.field-0-test.1)) in
     let feed : one.0 ≡ line_feed = rw one.1 at c.if-byte-eq-LINE_FEED.true in (
       c.bytes.line.items ++ line_feed ∷ [],
       (i.within, inl refl),
-      taken_more _ _ _ _ _ _ _ _ i.taken (rw (one.2 ∙ ap (λ b. b ∷ []) feed) at c.in-Ok.ensures.bytes.0) (omega (arith, c.if-room-eq0.false)),
+      taken_more _ _ _ _ _ _ _ _ _ i.taken (rw (one.2 ∙ ap (λ b. b ∷ []) feed) at c.in-Ok.ensures.bytes.0) c.in-Ok.ensures.passed (omega (arith, c.if-room-eq0.false)),
     )
-
-pub returns-then-byte-eq-LINE_FEED-clause-kept : goal.returns-then-byte-eq-LINE_FEED-clause-kept
-returns-then-byte-eq-LINE_FEED-clause-kept g c = λ _. c.in-Ok.ensures.passed ∙ c.bytes.invariant.kept
 
 pub bytes-smaller : goal.bytes-smaller
 bytes-smaller g c = omega (arith, c.if-room-eq0.false)
@@ -57,13 +52,11 @@ bytes-preserved g c =
     record {
       byte_len = long;
       within = rw items (within_more _ _ i.within other);
-      taken = rw items (taken_more _ _ _ _ _ _ _ _ i.taken (rw one.2 at c.in-Ok.ensures.bytes.0) (omega (arith, c.if-room-eq0.false)));
-      kept = c.in-Ok.ensures.passed ∙ i.kept;
+      taken = rw items (taken_more _ _ _ _ _ _ _ _ _ i.taken (rw one.2 at c.in-Ok.ensures.bytes.0) c.in-Ok.ensures.passed (omega (arith, c.if-room-eq0.false)));
     }
 
-pub returns-in_err-extend_from_slice-in-Ok-clause-line :
-    goal.returns-in_err-extend_from_slice-in-Ok-clause-line
-returns-in_err-extend_from_slice-in-Ok-clause-line g c =
+pub returns-in_err-extend_from_slice-in-Ok : goal.returns-in_err-extend_from_slice-in-Ok
+returns-in_err-extend_from_slice-in-Ok g c =
     let p = err_from_is_err_and c.from_residual.result c.from_residual.ensures.1 in
     let i = c.bytes.invariant in
     let one = one_taken c.read.new.buf _ c.in-Ok.field-0 (grind (arith, common_steps, c.read.auto.buf, i.byte_len)) refl (omega (arith, c.in-Ok.field-0-test.1)) in
@@ -71,17 +64,15 @@ returns-in_err-extend_from_slice-in-Ok-clause-line g c =
     rw (p.1, p.2) (
       c.bytes.line.items ++ one.0 ∷ [],
       within_more _ _ i.within other,
-      taken_more _ _ _ _ _ _ _ _ i.taken (rw one.2 at c.in-Ok.ensures.bytes.0) (omega (arith, c.if-room-eq0.false)),
+      taken_more _ _ _ _ _ _ _ _ _ i.taken (rw one.2 at c.in-Ok.ensures.bytes.0) c.in-Ok.ensures.passed (omega (arith, c.if-room-eq0.false)),
     )
 
-pub returns-in_err-extend_from_slice-in-Ok-clause-kept :
-    goal.returns-in_err-extend_from_slice-in-Ok-clause-kept
-returns-in_err-extend_from_slice-in-Ok-clause-kept g c = λ _. c.in-Ok.ensures.passed ∙ c.bytes.invariant.kept
-
-pub returns-in-Err-clause-line : goal.returns-in-Err-clause-line
-returns-in-Err-clause-line g c =
-    let i = c.bytes.invariant in
-    (c.bytes.line.items, i.within, (Consumes-kept _ _ _ _ i.taken.0 c.in-Err.ensures.bytes, i.taken.1))
-
-pub returns-in-Err-clause-read : goal.returns-in-Err-clause-read
-returns-in-Err-clause-read g c = λ _. c.in-Err.ensures.failed ∙ ap (λ n. min (n + 1) (2 ^ 64 - 1)) c.bytes.invariant.kept
+pub returns-in-Err : goal.returns-in-Err
+returns-in-Err g c =
+    let i = c.bytes.invariant in (
+      c.bytes.line.items,
+      i.within,
+      Consumes-kept _ _ _ _ i.taken.0 c.in-Err.ensures.bytes,
+      i.taken.1,
+      c.in-Err.ensures.failed ∙ ap (λ n. min (n + 1) (2 ^ 64 - 1)) i.taken.2,
+    )
