@@ -57,31 +57,47 @@ complete -c stn -n '__fish_seen_subcommand_from guard' -F
 complete -c stn -n '__fish_seen_subcommand_from guard' -l own -x -d 'Steps of a site, as `2:4-6`; given once for each other site, and all other steps are SITE’s'
 complete -c stn -n '__fish_seen_subcommand_from guard' -l help -d 'Print help'
 complete -c stn -n '__fish_seen_subcommand_from report' -F
+complete -c stn -n '__fish_seen_subcommand_from report' -l plan -r -F -d 'The file of a plan whose actions name the steps; for a bare or loosened plan'
+complete -c stn -n '__fish_seen_subcommand_from report' -l names -d 'The log’s own plan names the steps; for a log of `init`'
 complete -c stn -n '__fish_seen_subcommand_from report' -l help -d 'Print help'
 complete -c stn -n '__fish_seen_subcommand_from next' -F
 complete -c stn -n '__fish_seen_subcommand_from next' -l steps -x -d 'Only events of these steps, as `2,4-6`, count as left; all, if not given'
 complete -c stn -n '__fish_seen_subcommand_from next' -l starts -d 'Only starts count as left'
+complete -c stn -n '__fish_seen_subcommand_from next' -l plan -r -F -d 'The file of a plan whose actions name the steps; for a bare or loosened plan'
+complete -c stn -n '__fish_seen_subcommand_from next' -l names -d 'The log’s own plan names the steps; for a log of `init`'
 complete -c stn -n '__fish_seen_subcommand_from next' -l help -d 'Print help'
 complete -c stn -n '__fish_seen_subcommand_from ready' -F
 complete -c stn -n '__fish_seen_subcommand_from ready' -l steps -x -d 'Only events of these steps, as `2,4-6`, count as left; all, if not given'
 complete -c stn -n '__fish_seen_subcommand_from ready' -l starts -d 'Only starts count as left'
+complete -c stn -n '__fish_seen_subcommand_from ready' -l plan -r -F -d 'The file of a plan whose actions name the steps; for a bare or loosened plan'
+complete -c stn -n '__fish_seen_subcommand_from ready' -l names -d 'The log’s own plan names the steps; for a log of `init`'
 complete -c stn -n '__fish_seen_subcommand_from ready' -l help -d 'Print help'
 complete -c stn -n '__fish_seen_subcommand_from why' -F
+complete -c stn -n '__fish_seen_subcommand_from why' -l plan -r -F -d 'The file of a plan whose actions name the steps; for a bare or loosened plan'
+complete -c stn -n '__fish_seen_subcommand_from why' -l names -d 'The log’s own plan names the steps; for a log of `init`'
 complete -c stn -n '__fish_seen_subcommand_from why' -l help -d 'Print help'
 complete -c stn -n '__fish_seen_subcommand_from repairs' -F
+complete -c stn -n '__fish_seen_subcommand_from repairs' -l plan -r -F -d 'The file of a plan whose actions name the steps; for a bare or loosened plan'
+complete -c stn -n '__fish_seen_subcommand_from repairs' -l names -d 'The log’s own plan names the steps; for a log of `init`'
 complete -c stn -n '__fish_seen_subcommand_from repairs' -l help -d 'Print help'
 complete -c stn -n '__fish_seen_subcommand_from records' -F
+complete -c stn -n '__fish_seen_subcommand_from records' -l plan -r -F -d 'The file of a plan whose actions name the steps; for a bare or loosened plan'
+complete -c stn -n '__fish_seen_subcommand_from records' -l names -d 'The log’s own plan names the steps; for a log of `init`'
 complete -c stn -n '__fish_seen_subcommand_from records' -l help -d 'Print help'
 complete -c stn -n '__fish_seen_subcommand_from steps' -F
 complete -c stn -n '__fish_seen_subcommand_from steps' -l plan -r -F -d 'The file of a plan whose actions name the steps; for a bare or loosened plan'
 complete -c stn -n '__fish_seen_subcommand_from steps' -l help -d 'Print help'
 complete -c stn -n '__fish_seen_subcommand_from bounds' -F
+complete -c stn -n '__fish_seen_subcommand_from bounds' -l plan -r -F -d 'The file of a plan whose actions name the steps; for a bare or loosened plan'
+complete -c stn -n '__fish_seen_subcommand_from bounds' -l names -d 'The log’s own plan names the steps; for a log of `init`'
 complete -c stn -n '__fish_seen_subcommand_from bounds' -l help -d 'Print help'
 complete -c stn -n '__fish_seen_subcommand_from check' -F
 complete -c stn -n '__fish_seen_subcommand_from check' -l help -d 'Print help'
 complete -c stn -n '__fish_seen_subcommand_from rehearse' -F
 complete -c stn -n '__fish_seen_subcommand_from rehearse' -l steps -x -d 'Only events of these steps, as `2,4-6`, count as left; all, if not given'
 complete -c stn -n '__fish_seen_subcommand_from rehearse' -l starts -d 'Only starts count as left'
+complete -c stn -n '__fish_seen_subcommand_from rehearse' -l plan -r -F -d 'The file of a plan whose actions name the steps; for a bare or loosened plan'
+complete -c stn -n '__fish_seen_subcommand_from rehearse' -l names -d 'The log’s own plan names the steps; for a log of `init`'
 complete -c stn -n '__fish_seen_subcommand_from rehearse' -l help -d 'Print help'
 complete -c stn -n '__fish_seen_subcommand_from draw' -F
 complete -c stn -n '__fish_seen_subcommand_from draw' -l now -x -d 'The time now: all that is left comes at T or later; not shown, if not given'
