@@ -211,7 +211,7 @@ MISTAKES = [
     ("domain and plan exchanged", exchanged, "see ", True),
     ("a misspelled action", other_action, "see typed.plan, step 1", True),
     ("a duration that is not the domain's", other_duration, "see long.plan, step 1", True),
-    ("a plan that can't be robust", not_robust, "45", False),
+    ("a plan that can't be robust", not_robust, "45", True),
     ("the log of another plan", other_plan, "see other.log", True),
     ("two sites with one number", same_number, "two different records", False),
     ("a port that is in use", port_in_use, "is in use", True),
