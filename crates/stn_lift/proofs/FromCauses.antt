@@ -1,8 +1,8 @@
 -- The cause of a fault gives the fault: of the text of a plan, and of the steps of a plan in a domain.
-use Rattle.std.{proofs.{Common.{◌≡◌, ◌<◌, ◌≤◌, ◌+◌, ℕ, Bool, true, false, cond, nat_lt, List, [], ◌∷◌, ◌++◌, length, Option, Result, Ok, Err, IsOk, refl, sym, ap, subst, ◌∙◌, arith, All}, lemmas.{Bool.{lt-ltb, le-ltb, ltb-true, ltb-false}, List.Elements.{All-head, All-tail}}}, specs.Option.option_to_list}
+use Rattle.std.{proofs.{Common.{◌≡◌, ◌<◌, ◌≤◌, ◌+◌, ℕ, true, false, nat_lt, List, [], ◌∷◌, ◌++◌, length, Option, Result, Ok, Err, IsOk, refl, sym, ap, subst, ◌∙◌, arith, All}, lemmas.{Bool.{lt-ltb, le-ltb}, List.Elements.{All-head, All-tail}}}, specs.Option.option_to_list}
 use Rattle.stn_text.specs.Faults.{◌>>=◌, Unless}
 use Rattle.stn_pddl.specs.Schemas.{ActionSchema}
-use Rattle.stn_lift.{specs.{declared.{plan.fault.PlanFault.PlanFault, fault.LiftFault.LiftFault}, Plan.{Lines.lines_of, Steps.{PlannedStep, most_text, most_steps, line_step, steps_of, limited, plan_of}, Faults.{IsFirstLineFault, IsPlanCause as IsPlanCause}}, Activities.{Activity, activity_of, activities, IsFirstRefusedStep, IsLiftCause as IsLiftCause}}, proofs.{StepFacts.plan_of-many, plan.FaultFacts.lines_fault, Steps.cause_of}}
+use Rattle.stn_lift.{specs.{declared.{plan.fault.PlanFault.PlanFault, fault.LiftFault.LiftFault}, Plan.{Lines.lines_of, Steps.{PlannedStep, most_text, most_steps, line_step, steps_of, limited, plan_of}, Faults.{IsFirstLineFault, IsPlanCause as IsPlanCause}}, Activities.{Activity, activity_of, activities, IsFirstRefusedStep, IsLiftCause as IsLiftCause}}, proofs.{plan.PlanFacts.plan_of-many, Steps.cause_of}}
 use Rattle.stn_lift.specs.declared.plan.fault.PlanFault.TheVariants as plan
 use Rattle.stn_lift.specs.declared.fault.LiftFault.TheVariants as lifting
 use Rattle.stn_lift.specs.Plan.Steps as read
@@ -40,34 +40,9 @@ module _ (text : List ℕ) where
 
   pub plan_fault_of : (fault : PlanFault) → read.is_plan_memory fault ≡ false → IsPlanCause text fault → plan_of text ≡ Err fault
   plan_fault_of plan.TooLong some is = by_length is
-  plan_fault_of plan.TooManySteps some (short, is) = plan_of-many text is.steps (le-ltb _ _ short) is.many is.found
+  plan_fault_of plan.TooManySteps some (short, is) = plan_of-many text is.steps short is.many is.found
   plan_fault_of plan.Memory some is = cc
   plan_fault_of fault some is = by_line _ is
-
-  -- of lines without a fault
-  many_steps : (fault : PlanFault) → length text ≤ most_text → (steps : List PlannedStep) → steps_of (lines_of text) ≡ Ok steps
-      → (many : Bool) → nat_lt most_steps (length steps) ≡ many → cond many (Err plan.TooManySteps) (Ok steps) ≡ Err fault → IsPlanCause text fault
-  many_steps fault short steps found true many is =
-      let same : plan.TooManySteps ≡ fault = cc in
-      subst (IsPlanCause text) same (short, record { steps = steps; found = found; many = ltb-true _ _ many })
-  many_steps fault short steps found false many is = cc
-
-  -- of a text that is short enough
-  of_lines : (fault : PlanFault) → read.is_plan_memory fault ≡ false → length text ≤ most_text → (found : Result (List PlannedStep) PlanFault) → steps_of (lines_of text) ≡ found
-      → (found >>= limited) ≡ Err fault → IsPlanCause text fault
-  unfolding limited
-  of_lines fault some short (Ok steps) found is = many_steps fault short steps found (nat_lt most_steps (length steps)) refl is
-  of_lines fault some short (Err given) found is =
-      let same : given ≡ fault = cc in
-      lines_fault fault text short (subst (λ memory. Unless memory (steps_of (lines_of text) ≡ Err fault)) (sym some) (found ∙ ap Err same))
-
-  pub plan_cause_for : (fault : PlanFault) → read.is_plan_memory fault ≡ false → plan_of text ≡ Err fault → IsPlanCause text fault
-  unfolding plan_of
-  plan_cause_for fault some is = by (nat_lt most_text (length text)) refl is
-    where
-      by : (long : Bool) → nat_lt most_text (length text) ≡ long → cond long (Err plan.TooLong) (steps_of (lines_of text) >>= limited) ≡ Err fault → IsPlanCause text fault
-      by true long is = let same : plan.TooLong ≡ fault = cc in subst (IsPlanCause text) same (ltb-true _ _ long)
-      by false long is = of_lines fault some (ltb-false _ _ long) (steps_of (lines_of text)) refl is
 
 -- after steps that are not refused
 steps_then : (actions : List ActionSchema) (before : ℕ) (earlier later : List PlannedStep) (fault : LiftFault) → IsOk (activities actions before earlier)

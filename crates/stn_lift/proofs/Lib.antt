@@ -14,3 +14,4 @@ pub mod PlannedTimes
 pub mod StepFacts
 pub mod FromCauses
 pub mod SoundSource
+pub mod PlanHorizon

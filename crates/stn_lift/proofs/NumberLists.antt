@@ -10,10 +10,6 @@ zip_weaker R S each [] (b ∷ ys) all = absurd all
 zip_weaker R S each (a ∷ xs) [] all = absurd all
 zip_weaker R S each (a ∷ xs) (b ∷ ys) all = (each a b all.0, zip_weaker R S each xs ys all.1)
 
--- what has a number keeps it
-pub kept_itself : (numbering : Numbering) → KeepsNumbers numbering numbering
-kept_itself numbering = record { names = λ number name there. there; spellings = λ number spelling there. there }
-
 pub kept_along : (first second third : Numbering) → KeepsNumbers first second → KeepsNumbers second third → KeepsNumbers first third
 kept_along first second third one two = record {
   names = λ number name there. two.names number name (one.names number name there);

@@ -1,8 +1,8 @@
 -- When a plan made from texts has its steps.
 use Rattle.std.{specs.Prelude.slice_index_or, proofs.Common.{◌≡◌, ℕ, ◌+◌, ◌-◌, ◌*◌, pos, ◌+ℤ◌, suc, Bool, true, false, cond, List, [], ◌∷◌, ◌++◌, length, Some, Result, Ok, Err, refl, sym, ap, ◌∙◌, arith}}
-use Rattle.stn_text.specs.Faults.{◌>>=◌}
+use Rattle.stn_text.{specs.Faults.{◌>>=◌}, proofs.Readings.bind_ok}
 use Rattle.stn_pddl.specs.{Schemas.ActionSchema, Domains.action_named}
-use Rattle.stn_lift.{specs.{Plan.Steps.PlannedStep, declared.fault.LiftFault.{LiftFault, TheVariants.{Arity, DurationDiffers, PastHorizon}}, BaseBounds.times_behind, PlannedTimes.{IsStepOf, IsPlannedAt}, Activities.{Activity, activity, with_action, with_found, activity_of, activities}, PlanSource.{files, of_lift, source_with, base_of, planned_of}}, proofs.{Steps.bind_ok, Texts.{lifted-Ok, texts_lifted}}}
+use Rattle.stn_lift.{specs.{Plan.Steps.PlannedStep, declared.fault.LiftFault.{LiftFault, TheVariants.{Arity, DurationDiffers, PastHorizon}}, BaseBounds.times_behind, PlannedTimes.{IsStepOf, IsPlannedAt}, Activities.{Activity, activity, with_action, with_found, activity_of, activities}, PlanSource.{files, of_lift, source_with, base_of, planned_of}}, proofs.Texts.{lifted-Ok, texts_lifted}}
 
 -- a step that is not refused does what its action says
 module _ (number : ℕ) (made one : Activity) where

@@ -186,14 +186,3 @@ more_durations durations before duration first old new within read was is =
     ap (λ d. duration_bounds of_step before ++ duration_bound before d ∷ []) (read ∙ get_or_default durations before duration (pos 0) within)
     ∙ ap (duration_bounds of_step) next in
     is ∙ ap (λ l. l ++ duration_bound before duration ∷ []) was ∙ append_assoc first (duration_bounds of_step before) (duration_bound before duration ∷ []) ∙ ap (λ l. first ++ l) more
-
--- the orders of one event more
-pub more_orders : (interferes : ℕ → ℕ → Bool) (planned : ℕ → ℤ) (count before : ℕ) (first old new : List Difference) → old ≡ first ++ orders interferes planned count before
-    → new ≡ old ++ event_orders interferes planned (before + 1) count → new ≡ first ++ orders interferes planned count (before + 1)
-unfolding orders
-more_orders interferes planned count before first old new was is =
-    let next : suc before ≡ before + 1 = omega arith in
-    let more : orders interferes planned count (before + 1) ≡ orders interferes planned count before ++ event_orders interferes planned (before + 1) count =
-    subst (λ n. orders interferes planned count n ≡ orders interferes planned count before ++ event_orders interferes planned n count) next refl in
-    is ∙ ap (λ l. l ++ event_orders interferes planned (before + 1) count) was
-    ∙ append_assoc first (orders interferes planned count before) (event_orders interferes planned (before + 1) count) ∙ ap (λ l. first ++ l) (sym more)

@@ -1,29 +1,10 @@
 -- A source that has a base is sound.
-use Rattle.std.{proofs.{Common.{◌≡◌, ℕ, ℤ, ◌+◌, ◌+ℤ◌, ◌≤ℤ◌, ◌≤◌, Bool, true, false, not, ◌==◌, cond, nat_lt, int_lt, List, [], ◌∷◌, length, find, Option, Some, None, Result, Ok, Err, All, refl, ap, subst, ◌∙◌, arith}, lemmas.{Bool.Decides.nat_tests, Int.ints, List.Elements.{All-head, All-tail}}}, specs.List.AllByRecursion}
-use Rattle.stn_text.specs.Faults.{◌>>=◌}
+use Rattle.std.{proofs.{Common.{◌≡◌, ℕ, ℤ, ◌+◌, ◌+ℤ◌, ◌≤ℤ◌, Bool, true, false, not, ◌==◌, cond, nat_lt, int_lt, List, [], ◌∷◌, length, find, Option, Some, None, Result, Ok, Err, All, refl, ap, subst, ◌∙◌, arith}, lemmas.{Bool.Decides.nat_tests, Int.ints, List.Elements.{All-head, All-tail}}}, specs.List.AllByRecursion}
+use Rattle.stn_text.{specs.Faults.{◌>>=◌}, proofs.Readings.bind_ok}
 use Rattle.stn_time.specs.Time.{horizon}
 use Rattle.stn_pddl.{specs.{Tree.Names.is_same_word, declared.fault.DomainFault.DomainFault, Schemas.ActionSchema, Domains.{domain_of, action_named}, Sound.IsSound}, proofs.SoundActions.{domain-sound, domain-short, found-sound}}
 use Rattle.stn_net.specs.Event.{most_steps}
-use Rattle.stn_lift.{specs.{declared.{plan.fault.PlanFault.{PlanFault, TheVariants.{TooLong, TooManySteps}}, fault.{LiftFault.{LiftFault, TheVariants.{Arity, DurationDiffers, PastHorizon}}, BaseFault.{BaseFault, TheVariants.TooManySteps as TooMany}}}, Plan.{Lines.lines_of, Steps.{most_text, PlannedStep, IsTimely, IsPlan, steps_of, limited, plan_of}}, Timelines.IsTimed, Activities.{Activity, differs, activity, with_action, with_found, activity_of, activities}, PlanSource.{PlanSource, bare, files, of_lift, steps_in, lifted, source_with, base_of, IsSoundSource}}, proofs.{StepFacts.{is_plan, plan_of-few}, BareSource.sound_bare_source, LiftedBase.{sound_steps, few_found}, Steps.bind_ok, Texts.{lifted-Ok, texts_lifted}}}
-
--- ---- the steps of a plan text
-plan_read : (text : List ℕ) (steps : List PlannedStep) → plan_of text ≡ Ok steps → IsPlan (record { text = text; steps = steps })
-unfolding plan_of limited
-plan_read text steps given = by (nat_lt most_text (length text)) refl given
-  where
-    same : (found : List PlannedStep) (many : Bool) → cond many (Err TooManySteps) (Ok found) ≡ Ok steps → found ≡ steps
-    same found true h = cc
-    same found false h = cc
-
-    read : (lines : Result (List PlannedStep) PlanFault) → steps_of (lines_of text) ≡ lines → (lines >>= limited) ≡ Ok steps → length text ≤ most_text
-        → IsPlan (record { text = text; steps = steps })
-    read (Ok found) is h short = is_plan text steps short (plan_of-few text steps given) (is ∙ ap Ok (same found (nat_lt most_steps (length found)) h))
-    read (Err fault) is h short = cc
-
-    by : (long : Bool) → nat_lt most_text (length text) ≡ long → cond long (Err TooLong) (steps_of (lines_of text) >>= limited) ≡ Ok steps
-        → IsPlan (record { text = text; steps = steps })
-    by true e h = cc
-    by false e h = read (steps_of (lines_of text)) refl h (grind (arith, nat_tests))
+use Rattle.stn_lift.{specs.{declared.{plan.fault.PlanFault.PlanFault, fault.{LiftFault.{LiftFault, TheVariants.{Arity, DurationDiffers, PastHorizon}}, BaseFault.TheVariants.TooManySteps as TooMany}}, Plan.Steps.{PlannedStep, IsTimely, plan_of}, Timelines.IsTimed, Activities.{Activity, differs, activity, with_action, with_found, activity_of, activities}, PlanSource.{PlanSource, bare, files, of_lift, steps_in, lifted, source_with, base_of, IsSoundSource}}, proofs.{plan.PlanFacts.plan_read, BareSource.sound_bare_source, LiftedBase.{sound_steps, few_found}, Texts.{lifted-Ok, texts_lifted}}}
 
 -- ---- the steps in a domain
 not_past : (time : ℤ) → int_lt horizon time ≡ false → time ≤ℤ horizon

@@ -4,23 +4,10 @@ use Rattle.stn_text.specs.Faults.{Fails}
 use Rattle.stn_pddl.specs.{declared.fault.DomainFault.DomainFault, Schemas.ActionSchema, Domains.domain_of}
 use Rattle.stn_pddl.specs.declared.fault.DomainFault.TheVariants as domain_fault
 use Rattle.stn_pddl.specs.Faults as pddl
-use Rattle.stn_lift.specs.{declared.{plan.fault.PlanFault.PlanFault, fault.{LiftFault.{LiftFault, TheVariants.Memory}, BaseFault.TheVariants.{Domain, Plan, Lift, TooManySteps}}}, Plan.Steps.{PlannedStep, plan_of}, Faults.{of_domain, of_plan, of_lifting}, Activities.{Activity, activities}, PlanSource.{PlanSource, files, of_lift, steps_in, lifted, activities_of, source_with, source_with_lifted, base_of, is_base_memory}}
+use Rattle.stn_lift.specs.{declared.{plan.fault.PlanFault.PlanFault, fault.{LiftFault.{LiftFault, TheVariants.Memory}, BaseFault.TheVariants.{Domain, Plan, Lift}}}, Plan.Steps.{PlannedStep, plan_of}, Faults.{of_domain, of_plan, of_lifting}, Activities.{Activity, activities}, PlanSource.{PlanSource, files, of_lift, steps_in, lifted, activities_of, source_with, source_with_lifted, base_of, is_base_memory}}
 use Rattle.stn_lift.specs.declared.plan.fault.PlanFault.TheVariants as plan_fault
 use Rattle.stn_lift.specs.Plan.Steps as timed
 use Rattle.stn_lift.specs.Activities as lifting
-
--- a fault of a text or of a step is not that a bare plan has too many steps
-pub domain_not_many : (fault : DomainFault) → of_domain fault ≡ TooManySteps → ⊥
-domain_not_many domain_fault.Memory e = cc
-domain_not_many fault e = cc
-
-pub plan_not_many : (fault : PlanFault) → of_plan fault ≡ TooManySteps → ⊥
-plan_not_many plan_fault.Memory e = cc
-plan_not_many fault e = cc
-
-pub lifting_not_many : (fault : LiftFault) → of_lifting fault ≡ TooManySteps → ⊥
-lifting_not_many Memory e = cc
-lifting_not_many fault e = cc
 
 module _ (domain plan : List ℕ) where
   -- a domain without a fault, and a plan without one
@@ -70,8 +57,3 @@ module _ (domain plan : List ℕ) where
             → Fails is_base_memory (of_lifting fault) (source_with (files domain plan) (of_lift found))
         by Memory found h = tt
         by fault found h = refused _ found h
-
-    -- no step with a fault
-    pub base_given : (steps : List PlannedStep) (found : List Activity) → plan_of plan ≡ Ok steps → activities actions 0 steps ≡ Ok found
-        → base_of (files domain plan) ≡ Ok (files domain plan)
-    base_given steps found plan_is is = ap (source_with (files domain plan)) (lifted-Ok actions steps domain_is plan_is ∙ ap of_lift is)

@@ -87,10 +87,6 @@ module _ (actions : List ActionSchema) where
   abbrev pub behind : List Activity → Result (List Activity) LiftFault → Result (List Activity) LiftFault
   behind found meaning = meaning >>= λ others. Ok (found ++ others)
 
-  pub behind_none : (meaning : Result (List Activity) LiftFault) → behind [] meaning ≡ meaning
-  behind_none (Ok found) = refl
-  behind_none (Err fault) = refl
-
   -- one step more is found
   pub behind_more : (before : ℕ) (found : List Activity) (step : PlannedStep) (steps : List PlannedStep) (one : Activity) → activity_of actions (before + 1) step ≡ Ok one
       → behind found (activities actions before (step ∷ steps)) ≡ behind (found ++ one ∷ []) (activities actions (before + 1) steps)

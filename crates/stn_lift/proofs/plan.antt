@@ -1,3 +1,3 @@
 pub mod LineFacts
 pub mod TokenFacts
-pub mod FaultFacts
+pub mod PlanFacts

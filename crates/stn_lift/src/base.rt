@@ -89,7 +89,9 @@ impl<A: Allocator + Copy> Base<A> {
         if steps > MOST_STEPS {
             return Err(BaseFault::TooManySteps);
         }
-        let bounds = horizon_bounds(alloc, 2 * steps)?;
+        let Ok(bounds) = horizon_bounds(alloc, 2 * steps) else {
+            return Err(BaseFault::Memory);
+        };
         Ok(Base {
             source: Source::Bare(steps),
             steps,

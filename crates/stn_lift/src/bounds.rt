@@ -25,6 +25,13 @@ pub fn horizon_bounds<A: Allocator>(alloc: A, events: u16) -> Result<Vec<Bound, 
     Ok(bounds)
 }
 
+/// The step that an event starts or ends, counted from 1; 0 for the origin.
+pub fn step_of(event: Event) -> u16
+    ensures { result ≡ step_of event }
+{
+    (event.number() + 1) / 2
+}
+
 // The bound by which one event comes so long after another.
 fn between(one: u16, other: u16, least: i64, most: i64) -> Bound
     requires one { one ≤ most_events }

@@ -2,7 +2,6 @@
 
 ghost use Rattle.std.specs.Prelude.{◌≡◌};
 ghost use Rattle.stn_lift.specs.{Faults.{of_domain, of_plan, of_lifting}, Failures.{lift_failure, base_failure}};
-ghost use Rattle.stn_lift.specs.declared.fault.BaseFault.TheVariants as base;
 ghost use Rattle.stn_lift.specs.declared.fault.LiftFault.TheVariants as lifting;
 
 use crate::plan::PlanFault;
@@ -79,14 +78,6 @@ pub enum BaseFault {
     /// Memory ran out.
     #[error("out of memory")]
     Memory,
-}
-
-impl From<AllocError> for BaseFault {
-    ghost from_gives = { λ _ fault. fault ≡ base.Memory };
-
-    fn from(_refused: AllocError) -> BaseFault {
-        BaseFault::Memory
-    }
 }
 
 impl From<DomainFault> for BaseFault {

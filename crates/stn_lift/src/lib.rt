@@ -2,6 +2,7 @@
 #![tactic(auto)]
 
 pub use base::{Base, lift};
+pub use bounds::step_of;
 pub use fault::{BaseFault, LiftFault};
 pub use laws::{interference_by_atoms, lift_faults_by_cause, plan_faults_by_cause, planned_times};
 pub use plan::{Plan, PlanFault, Step};

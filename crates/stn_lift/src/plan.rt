@@ -12,7 +12,7 @@ mod tokens;
 use crate::plan::lines::Lines;
 use crate::plan::step::read_step;
 pub use fault::PlanFault;
-use std::alloc::{AllocError, Allocator};
+use std::alloc::Allocator;
 use std::marker::Model;
 pub use step::Step;
 use stn_net::MOST_STEPS;
@@ -48,7 +48,7 @@ fn read_steps<'a, A: Allocator + Copy>(
     let mut steps = Vec::new(alloc);
     while let Some((number, line)) = lines.next_line() {
         if let Some(step) = read_step(alloc, number, line)? {
-            steps.push(step).map_err(AllocError::from)?;
+            steps.push(step).map_err(|_| PlanFault::Memory)?;
         }
     }
     Ok(steps)

@@ -1,9 +1,7 @@
 pub mod Terms
 pub mod ActionMaps
-pub mod Kept
+pub mod Forms
 pub mod SoundActions
-pub mod Steps
-pub mod FaultFacts
 pub mod Causes
 pub mod SmallWords
 pub mod SmallActions

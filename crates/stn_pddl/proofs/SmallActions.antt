@@ -1,7 +1,7 @@
 -- Conditions and effects in small letters.
-use Rattle.std.proofs.{Common.{arith, ◌≡◌, ℕ, Bool, true, false, cond, List, [], ◌∷◌, ◌++◌, map, Option, Some, None, Result, Ok, Err, refl, sym, ap, ◌∙◌, position, codes}, lemmas.{Grind.common_steps, List.map-append}}
+use Rattle.std.proofs.{Common.{arith, ◌≡◌, ℕ, Bool, true, false, cond, List, [], ◌∷◌, ◌++◌, map, Option, Some, None, Result, Ok, Err, refl, sym, ap, ◌∙◌, position, codes, ◌==◌}, lemmas.{Grind.common_steps, List.map-append}}
 use Rattle.stn_text.specs.Faults.{◌>>=◌}
-use Rattle.stn_pddl.{specs.{Tree.{Names.{folded, is_same_word}, Trees.{Trees, End, Word, Group, how_many}, Case.in_small}, declared.{fault.DomainFault.{DomainFault, TheVariants.Syntax}, action.{Label.{Label, TheVariants.{StartCondition, OverAll, EndCondition, StartEffect, EndEffect}}, Side.{Side, TheVariants.{Condition}}}, word.Head.Head}, Words.{is_variable, is_key, head_of}, Atoms.{parameter_at, term, terms, atom, equality}, Case.{term_in_small, atom_in_small, action_in_small}, Schemas.{TermSchema, AtomSchema, ActionSchema, Constant, with_literal}, Conditions.{Meaning, row, tree, equal_tree, negated_head, negated_tree, negated_first, negation, plain_head, label_of, one_labelled, labelled, timed_head}}, proofs.SmallWords.{same_first, same_variable, same_key, same_position, same_head}}
+use Rattle.stn_pddl.{specs.{Tree.{Names.{folded, is_same_word}, Trees.{Trees, End, Word, Group, how_many}, Case.in_small}, declared.{fault.DomainFault.{DomainFault, TheVariants.Syntax}, action.{Label.{Label, TheVariants.{StartCondition, OverAll, EndCondition, StartEffect, EndEffect}}, Side.{Side, TheVariants.{Condition}}, Form.{Form, TheVariants.{Plain, Timed}}}, word.Head.Head}, Words.{is_variable, is_key, head_of}, Atoms.{parameter_at, term, terms, atom, equality}, Case.{term_in_small, atom_in_small, action_in_small}, Schemas.{TermSchema, AtomSchema, ActionSchema, Constant, with_literal}, Conditions.{row, tree, equal_tree, literal, negated_tree, negated_first, negation, label_of, labelled}}, proofs.SmallWords.{same_first, same_variable, same_key, same_position, same_head}}
 use Rattle.stn_pddl.specs.declared.word.Head.TheVariants as head
 
 -- the same fault, or what a function makes of the value
@@ -72,19 +72,20 @@ module _ (label : Label) (a : ActionSchema) where
   unfolding equality action_in_small
   small_equal line rest = grind (arith, common_steps, mapped-either, same_many, mapped-then, small_terms)
 
-  small_negated_by : (line : ℕ) (word : List ℕ) (rest : Trees) (k : Head) → negated_head label line (folded word) (in_small rest) (action_in_small a) k ≡ mapped action_in_small (negated_head label line word rest a k)
-  small_negated_by line word rest head.Equal = small_equal line rest
-  small_negated_by line word rest head.At = small_atom true word rest
-  small_negated_by line word rest head.Over = small_atom true word rest
-  small_negated_by line word rest head.Name = small_atom true word rest
-  small_negated_by line word rest other = refl
+  small_by_head : (negated : Bool) (line : ℕ) (word : List ℕ) (rest : Trees) (k : Head)
+      → literal label negated line (folded word) (in_small rest) (action_in_small a) k ≡ mapped action_in_small (literal label negated line word rest a k)
+  small_by_head negated line word rest head.Equal = small_equal line rest
+  small_by_head negated line word rest head.At = small_atom negated word rest
+  small_by_head negated line word rest head.Over = small_atom negated word rest
+  small_by_head negated line word rest head.Name = small_atom negated word rest
+  small_by_head negated line word rest other = refl
 
   small_negated : (line : ℕ) (children : Trees) → negated_tree label line (in_small children) (action_in_small a) ≡ mapped action_in_small (negated_tree label line children a)
   unfolding negated_tree in_small
   small_negated line End = refl
   small_negated line (Group at children next) = refl
   small_negated line (Word at word rest) =
-      ap (negated_head label line (folded word) (in_small rest) (action_in_small a)) (same_head word) ∙ small_negated_by line word rest (head_of word)
+      ap (literal label true line (folded word) (in_small rest) (action_in_small a)) (same_head word) ∙ small_by_head true line word rest (head_of word)
 
   small_first : (line : ℕ) (trees : Trees) → negated_first label line (in_small trees) (action_in_small a) ≡ mapped action_in_small (negated_first label line trees a)
   unfolding in_small
@@ -96,57 +97,59 @@ module _ (label : Label) (a : ActionSchema) where
   unfolding negation
   small_negation line rest = grind (arith, common_steps, mapped-either, same_many, small_first)
 
--- a meaning says of the small letters what it says of the letters, in small letters, where the conjunction does
-abbrev SmallEach : Meaning → Type 0
-SmallEach meaning = (one other : Result ActionSchema DomainFault) (line : ℕ) (word : List ℕ) (rest : Trees) (a : ActionSchema) → other ≡ mapped action_in_small one
-    → (k : Head) → meaning other line (folded word) (in_small rest) (action_in_small a) k ≡ mapped action_in_small (meaning one line word rest a k)
-
-mutual
-  unfolding row tree in_small
-
-  small_row : (meaning : Meaning) → SmallEach meaning → (trees : Trees) (a : ActionSchema) → row meaning (in_small trees) (action_in_small a) ≡ mapped action_in_small (row meaning trees a)
-  small_row meaning each End a = refl
-  small_row meaning each (Word line word next) a = refl
-  small_row meaning each (Group line children next) a =
-      mapped-then action_in_small action_in_small (tree meaning line (in_small children) (action_in_small a)) (tree meaning line children a) (λ found. row meaning (in_small next) found) (λ found. row meaning next found)
-      (small_tree meaning each line children a) (λ found. small_row meaning each next found)
-
-  small_tree : (meaning : Meaning) → SmallEach meaning → (line : ℕ) (trees : Trees) (a : ActionSchema) → tree meaning line (in_small trees) (action_in_small a) ≡ mapped action_in_small (tree meaning line trees a)
-  small_tree meaning each line End a = refl
-  small_tree meaning each line (Group at children next) a = refl
-  small_tree meaning each line (Word at word rest) a =
-      ap (meaning (row meaning (in_small rest) (action_in_small a)) line (folded word) (in_small rest) (action_in_small a)) (same_head word)
-      ∙ each (row meaning rest a) (row meaning (in_small rest) (action_in_small a)) line word rest a (small_row meaning each rest a) (head_of word)
-
-small_plain : (label : Label) → SmallEach (plain_head label)
-small_plain label one other line word rest a all head.And = all
-small_plain label one other line word rest a all head.Not = small_negation label a line rest
-small_plain label one other line word rest a all head.Equal = small_equal label a line rest
-small_plain label one other line word rest a all head.OtherLogic = refl
-small_plain label one other line word rest a all head.NoName = refl
-small_plain label one other line word rest a all kind = small_atom label a false word rest
-
 small_label : (side : Side) (time : Head) (word : List ℕ) → label_of side time (folded word) ≡ label_of side time word
 small_label side head.At word = grind (arith, common_steps, same_first)
 small_label Condition head.Over word = ap (λ t. cond t (Some OverAll) None) (same_first word (codes "all"))
 small_label side other word = refl
 
-small_one : (found : Option Label) (line : ℕ) (rest : Trees) (a : ActionSchema) → one_labelled found line (in_small rest) (action_in_small a) ≡ mapped action_in_small (one_labelled found line rest a)
-small_one None line rest a = refl
-small_one (Some label) line rest a = grind (arith, common_steps, mapped-either, same_many, small_row, small_plain)
+-- a list by its head
+module _ (line at : ℕ) (word : List ℕ) (rest : Trees) (a : ActionSchema) where
+  small_plain : (label : Label) → row (Plain label) (in_small rest) (action_in_small a) ≡ mapped action_in_small (row (Plain label) rest a)
+      → (k : Head) → head_of word ≡ k → tree (Plain label) line (in_small (Word at word rest)) (action_in_small a) ≡ mapped action_in_small (tree (Plain label) line (Word at word rest) a)
+  unfolding tree in_small
+  small_plain label all head.And e = rw (same_head word, e, tree) all
+  small_plain label all head.Not e = rw (same_head word, e, tree) (small_negation label a line rest)
+  small_plain label all head.Equal e = rw (same_head word, e, tree) (small_equal label a line rest)
+  small_plain label all head.At e = rw (same_head word, e, tree) (small_atom label a false word rest)
+  small_plain label all head.Over e = rw (same_head word, e, tree) (small_atom label a false word rest)
+  small_plain label all head.Name e = rw (same_head word, e, tree) (small_atom label a false word rest)
+  small_plain label all other e = rw (same_head word, e, tree) refl
 
-small_labelled : (side : Side) (time : Head) (line : ℕ) (rest : Trees) (a : ActionSchema) → labelled side time line (in_small rest) (action_in_small a) ≡ mapped action_in_small (labelled side time line rest a)
-unfolding labelled in_small
-small_labelled side time line End a = refl
-small_labelled side time line (Group at children next) a = refl
-small_labelled side time line (Word at word rest) a =
-    ap (λ found. one_labelled found line (in_small rest) (action_in_small a)) (small_label side time word) ∙ small_one (label_of side time word) line rest a
+  small_timed : (side : Side) → row (Timed side) (in_small rest) (action_in_small a) ≡ mapped action_in_small (row (Timed side) rest a)
+      → ((time : Head) → labelled side time line (in_small rest) (action_in_small a) ≡ mapped action_in_small (labelled side time line rest a))
+      → (k : Head) → head_of word ≡ k → tree (Timed side) line (in_small (Word at word rest)) (action_in_small a) ≡ mapped action_in_small (tree (Timed side) line (Word at word rest) a)
+  unfolding tree in_small
+  small_timed side all behind head.And e = rw (same_head word, e, tree) all
+  small_timed side all behind head.At e = rw (same_head word, e, tree) (behind head.At)
+  small_timed side all behind head.Over e = rw (same_head word, e, tree) (behind head.Over)
+  small_timed side all behind other e = rw (same_head word, e, tree) refl
 
-small_timed : (side : Side) → SmallEach (timed_head side)
-small_timed side one other line word rest a all head.And = all
-small_timed side one other line word rest a all head.At = small_labelled side head.At line rest a
-small_timed side one other line word rest a all head.Over = small_labelled side head.Over line rest a
-small_timed side one other line word rest a all kind = refl
+  small_one : (side : Side) (time : Head) → ((label : Label) → row (Plain label) (in_small rest) (action_in_small a) ≡ mapped action_in_small (row (Plain label) rest a))
+      → (found : Option Label) → label_of side time word ≡ found
+      → labelled side time line (in_small (Word at word rest)) (action_in_small a) ≡ mapped action_in_small (labelled side time line (Word at word rest) a)
+  unfolding labelled in_small
+  small_one side time all None e = rw (small_label side time word, e, labelled) refl
+  small_one side time all (Some label) e =
+      rw (small_label side time word, e, labelled) (mapped-either action_in_small (how_many rest == 1) (how_many (in_small rest) == 1) (row (Plain label) rest a) (Err (Syntax line))
+      (row (Plain label) (in_small rest) (action_in_small a)) (Err (Syntax line)) (ap (λ n. n == 1) (same_many rest)) (all label) refl)
 
-pub small_timed_tree : (side : Side) (line : ℕ) (trees : Trees) (a : ActionSchema) → tree (timed_head side) line (in_small trees) (action_in_small a) ≡ mapped action_in_small (tree (timed_head side) line trees a)
-small_timed_tree side = small_tree (timed_head side) (small_timed side)
+mutual
+  unfolding row tree labelled in_small
+
+  small_row : (form : Form) (trees : Trees) (a : ActionSchema) → row form (in_small trees) (action_in_small a) ≡ mapped action_in_small (row form trees a)
+  small_row form End a = refl
+  small_row form (Word line word next) a = refl
+  small_row form (Group line children next) a =
+      mapped-then action_in_small action_in_small (tree form line (in_small children) (action_in_small a)) (tree form line children a) (λ found. row form (in_small next) found) (λ found. row form next found)
+      (small_list form line children a) (λ found. small_row form next found)
+
+  pub small_list : (form : Form) (line : ℕ) (trees : Trees) (a : ActionSchema) → tree form line (in_small trees) (action_in_small a) ≡ mapped action_in_small (tree form line trees a)
+  small_list form line End a = refl
+  small_list form line (Group at children next) a = refl
+  small_list (Plain label) line (Word at word rest) a = small_plain line at word rest a label (small_row (Plain label) rest a) (head_of word) refl
+  small_list (Timed side) line (Word at word rest) a = small_timed line at word rest a side (small_row (Timed side) rest a) (λ time. small_labelled side time line rest a) (head_of word) refl
+
+  small_labelled : (side : Side) (time : Head) (line : ℕ) (trees : Trees) (a : ActionSchema) → labelled side time line (in_small trees) (action_in_small a) ≡ mapped action_in_small (labelled side time line trees a)
+  small_labelled side time line End a = refl
+  small_labelled side time line (Group at children next) a = refl
+  small_labelled side time line (Word at word rest) a = small_one line at word rest a side time (λ label. small_row (Plain label) rest a) (label_of side time word) refl

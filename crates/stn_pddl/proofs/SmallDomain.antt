@@ -1,31 +1,24 @@
 -- A domain in small letters has the actions of the domain in small letters.
-use Rattle.std.{proofs.{Common.{◌≡◌, ℕ, cond, ◌||◌, ◌&&◌, List, [], ◌∷◌, ◌++◌, map, is_some, Option, Some, None, Result, Ok, Err, ℤ, refl, sym, ap, ◌∙◌, codes}, lemmas.List.map-append}, specs.{List.list_any, Option.option_map}}
-use Rattle.stn_time.specs.TimeOf.{time_of}
+use Rattle.std.{proofs.{Common.{◌≡◌, ℕ, cond, ◌&&◌, List, [], ◌∷◌, ◌++◌, map, is_some, Option, Some, None, Result, Ok, Err, ℤ, refl, sym, ap, ◌∙◌, codes}, lemmas.List.map-append}, specs.{List.list_any, Option.option_map}}
 use Rattle.stn_text.specs.Faults.{◌>>=◌}
-use Rattle.stn_pddl.{specs.{declared.{tree.scan.TreeFault.TreeFault, fault.DomainFault.{DomainFault, TheVariants.{Syntax, Unsupported, Twice}}, action.Side.{Side, TheVariants.{Condition, Effect}}, word.{Item.Item, Field.Field, Key.Key, Section.Section}}, Tree.{Names.{folded, is_same_word}, Trees.{Trees, End, Word, Group}, Scan.tree_of, Case.{in_small, tree_in_small}}, Words.{is_name, item_of, key_of, section_of}, Schemas.{ActionSchema, bare_action}, Case.{action_in_small, domain_in_small}, Fields.{Listing, Values, no_values, parameters, parameters_behind_type, not_negative, constant, duration, value_of, with_value, fields, field_value}, Actions.{timed_value, action_of_lists, action_of_values, named_action, is_taken, action}, Domains.{part, parts, is_title, root, domain_of_tree, domain_of_bytes, domain_of}}, proofs.{tree.Case.tree_of-folded, SmallWords.{same_first, same_both, same_listed, same_name, same_item, same_key_of, same_section, same_time}, SmallActions.{mapped, mapped-then, mapped-either, small_timed_tree}}}
+use Rattle.stn_pddl.{specs.{declared.{tree.scan.TreeFault.TreeFault, fault.DomainFault.{DomainFault, TheVariants.{Syntax, Twice}}, action.{Side.{Side, TheVariants.{Condition, Effect}}, Form.TheVariants.Timed}, word.{Item.Item, Field.Field, Key.Key, Section.Section}}, Tree.{Names.{folded, is_same_word}, Trees.{Trees, End, Word, Group}, Scan.tree_of, Case.{in_small, tree_in_small}}, Words.{is_name, item_of, key_of, section_of}, Schemas.{ActionSchema, bare_action}, Case.{action_in_small, domain_in_small}, Fields.{Listing, Values, no_values, parameters, parameters_behind_type, constant, duration, value_of, with_value, fields, field_value}, Actions.{timed_value, action_of_lists, action_of_values, named_action, is_taken, action}, Domains.{part, parts, is_title, root, domain_of_tree, domain_of_bytes, domain_of}}, proofs.{tree.Case.tree_of-folded, SmallWords.{same_first, same_both, same_listed, same_name, same_item, same_key_of, same_section, same_time}, SmallActions.{mapped, mapped-then, mapped-either, small_list}}}
 use Rattle.stn_pddl.specs.declared.word.Item.TheVariants as item
 use Rattle.stn_pddl.specs.declared.word.Field.TheVariants as field
 use Rattle.stn_pddl.specs.declared.word.Key.TheVariants as key
 use Rattle.stn_pddl.specs.declared.word.Section.TheVariants as section
 
 -- parameters
-abbrev parameter_by : ℕ → List ℕ → Trees → List (List ℕ) → Item → Result (List (List ℕ)) DomainFault
-parameter_by line word next before k = elim k as (λ _. Result (List (List ℕ)) DomainFault) [
-  | item.Parameter ↦ cond (list_any (is_same_word word) before) (Err (Twice line)) (parameters next (before ++ word ∷ []))
-  | item.Dash ↦ parameters_behind_type line next before
-  | item.Other ↦ Err (Syntax line)
-]
-
-small_parameter_by : (line : ℕ) (word : List ℕ) (next : Trees) (before : List (List ℕ))
+small_parameter : (line : ℕ) (word : List ℕ) (next : Trees) (before : List (List ℕ))
     → ((names : List (List ℕ)) → parameters (in_small next) (map folded names) ≡ mapped (map folded) (parameters next names))
     → parameters_behind_type line (in_small next) (map folded before) ≡ mapped (map folded) (parameters_behind_type line next before)
-    → (k : Item) → parameter_by line (folded word) (in_small next) (map folded before) k ≡ mapped (map folded) (parameter_by line word next before k)
-small_parameter_by line word next before more typed item.Parameter =
-    mapped-either (map folded) (list_any (is_same_word word) before) (list_any (is_same_word (folded word)) (map folded before)) (Err (Twice line)) (parameters next (before ++ word ∷ []))
+    → (k : Item) → item_of word ≡ k → parameters (in_small (Word line word next)) (map folded before) ≡ mapped (map folded) (parameters (Word line word next) before)
+unfolding parameters in_small
+small_parameter line word next before more typed item.Parameter e =
+    rw (same_item word, e, parameters) (mapped-either (map folded) (list_any (is_same_word word) before) (list_any (is_same_word (folded word)) (map folded before)) (Err (Twice line)) (parameters next (before ++ word ∷ []))
     (Err (Twice line)) (parameters (in_small next) (map folded before ++ folded word ∷ [])) (same_listed word before) refl
-    (ap (parameters (in_small next)) (sym (map-append folded before (word ∷ []))) ∙ more (before ++ word ∷ []))
-small_parameter_by line word next before more typed item.Dash = typed
-small_parameter_by line word next before more typed item.Other = refl
+    (ap (parameters (in_small next)) (sym (map-append folded before (word ∷ []))) ∙ more (before ++ word ∷ [])))
+small_parameter line word next before more typed item.Dash e = rw (same_item word, e, parameters) typed
+small_parameter line word next before more typed item.Other e = rw (same_item word, e, parameters) refl
 
 mutual
   unfolding parameters parameters_behind_type in_small
@@ -33,9 +26,7 @@ mutual
   small_parameters : (trees : Trees) (before : List (List ℕ)) → parameters (in_small trees) (map folded before) ≡ mapped (map folded) (parameters trees before)
   small_parameters End before = refl
   small_parameters (Group line children next) before = refl
-  small_parameters (Word line word next) before =
-      ap (parameter_by line (folded word) (in_small next) (map folded before)) (same_item word)
-      ∙ small_parameter_by line word next before (λ names. small_parameters next names) (small_behind line next before) (item_of word)
+  small_parameters (Word line word next) before = small_parameter line word next before (λ names. small_parameters next names) (small_behind line next before) (item_of word) refl
 
   small_behind : (line : ℕ) (trees : Trees) (before : List (List ℕ)) → parameters_behind_type line (in_small trees) (map folded before) ≡ mapped (map folded) (parameters_behind_type line trees before)
   small_behind line End before = refl
@@ -45,10 +36,7 @@ mutual
 -- the duration
 same_duration : (line : ℕ) (children : Trees) → duration line (in_small children) ≡ duration line children
 unfolding duration constant in_small
-same_duration line (Word a equal (Word b variable (Word at time End))) =
-    ap (λ t. cond (t && is_same_word (folded variable) (codes "?duration")) (not_negative at (time_of (folded time))) (Err (Unsupported line))) (same_first equal (codes "="))
-    ∙ ap (λ t. cond (is_same_word equal (codes "=") && t) (not_negative at (time_of (folded time))) (Err (Unsupported line))) (same_first variable (codes "?duration"))
-    ∙ ap (λ r. cond (is_same_word equal (codes "=") && is_same_word variable (codes "?duration")) (not_negative at r) (Err (Unsupported line))) (same_time time)
+same_duration line (Word a equal (Word b variable (Word at time End))) = rw (same_first equal (codes "="), same_first variable (codes "?duration"), same_time time) refl
 same_duration line children = refl
 
 -- the values of the keys
@@ -79,21 +67,15 @@ unfolding small_values
 small_with field.Parameters listing values = refl
 small_with name listing values = refl
 
-abbrev field_by : ℕ → Trees → Values → Key → Result Values DomainFault
-field_by line next before k = elim k as (λ _. Result Values DomainFault) [
-  | key.Known name ↦ cond (is_some (value_of name before)) (Err (Twice line)) (field_value line name next before)
-  | key.Unknown ↦ Err (Unsupported line)
-  | key.NoKey ↦ Err (Syntax line)
-]
-
-small_field_by : (line : ℕ) (next : Trees) (before : Values)
+small_key : (line : ℕ) (word : List ℕ) (next : Trees) (before : Values)
     → ((name : Field) → field_value line name (in_small next) (small_values before) ≡ mapped small_values (field_value line name next before))
-    → (k : Key) → field_by line (in_small next) (small_values before) k ≡ mapped small_values (field_by line next before k)
-small_field_by line next before more (key.Known name) =
-    mapped-either small_values (is_some (value_of name before)) (is_some (value_of name (small_values before))) (Err (Twice line)) (field_value line name next before)
-    (Err (Twice line)) (field_value line name (in_small next) (small_values before)) (same_value name before) refl (more name)
-small_field_by line next before more key.Unknown = refl
-small_field_by line next before more key.NoKey = refl
+    → (k : Key) → key_of word ≡ k → fields (in_small (Word line word next)) (small_values before) ≡ mapped small_values (fields (Word line word next) before)
+unfolding fields in_small
+small_key line word next before more (key.Known name) e =
+    rw (same_key_of word, e, fields) (mapped-either small_values (is_some (value_of name before)) (is_some (value_of name (small_values before))) (Err (Twice line)) (field_value line name next before)
+    (Err (Twice line)) (field_value line name (in_small next) (small_values before)) (same_value name before) refl (more name))
+small_key line word next before more key.Unknown e = rw (same_key_of word, e, fields) refl
+small_key line word next before more key.NoKey e = rw (same_key_of word, e, fields) refl
 
 mutual
   unfolding fields field_value in_small small_listing
@@ -101,9 +83,7 @@ mutual
   small_fields : (trees : Trees) (before : Values) → fields (in_small trees) (small_values before) ≡ mapped small_values (fields trees before)
   small_fields End before = refl
   small_fields (Group line children next) before = refl
-  small_fields (Word line word next) before =
-      ap (field_by line (in_small next) (small_values before)) (same_key_of word)
-      ∙ small_field_by line next before (λ name. small_field line name next before) (key_of word)
+  small_fields (Word line word next) before = small_key line word next before (λ name. small_field line name next before) (key_of word) refl
 
   small_field : (line : ℕ) (name : Field) (trees : Trees) (before : Values) → field_value line name (in_small trees) (small_values before) ≡ mapped small_values (field_value line name trees before)
   small_field line name End before = refl
@@ -116,7 +96,7 @@ mutual
 small_value : (side : Side) (value : Option Listing) (a : ActionSchema) → timed_value side (option_map small_listing value) (action_in_small a) ≡ mapped action_in_small (timed_value side value a)
 unfolding timed_value small_listing
 small_value side None a = refl
-small_value side (Some listing) a = small_timed_tree side listing.line listing.children a
+small_value side (Some listing) a = small_list (Timed side) listing.line listing.children a
 
 small_bare : (name : List ℕ) (names : List (List ℕ)) (millis : ℤ) → bare_action (folded name) (map folded names) millis ≡ action_in_small (bare_action name names millis)
 unfolding action_in_small
@@ -169,9 +149,7 @@ small_named line name rest =
 same_taken : (name : List ℕ) (actions : List ActionSchema) → is_taken (folded name) (map action_in_small actions) ≡ is_taken name actions
 unfolding is_taken action_in_small
 same_taken name [] = refl
-same_taken name (a ∷ actions) =
-    ap (λ t. t || list_any (λ (other : ActionSchema). is_same_word (folded name) other.name) (map action_in_small actions)) (same_both name a.name)
-    ∙ ap (λ t. is_same_word name a.name || t) (same_taken name actions)
+same_taken name (a ∷ actions) = rw (same_both name a.name, same_taken name actions) refl
 
 small_action : (line : ℕ) (rest : Trees) (earlier : List ActionSchema) → action line (in_small rest) (map action_in_small earlier) ≡ mapped action_in_small (action line rest earlier)
 unfolding action in_small
@@ -186,30 +164,18 @@ small_action line (Word at name rest) earlier =
     refl
 
 -- the parts of a domain
-abbrev part_by : ℕ → Trees → List ActionSchema → Section → Result (List ActionSchema) DomainFault
-part_by line rest before k = elim k as (λ _. Result (List ActionSchema) DomainFault) [
-  | section.Skipped ↦ Ok before
-  | section.Action ↦ (action line rest before >>= λ found. Ok (before ++ found ∷ []))
-  | section.Unknown ↦ Err (Unsupported line)
-  | section.NoSection ↦ Err (Syntax line)
-]
-
-small_part_by : (line : ℕ) (rest : Trees) (before : List ActionSchema) (k : Section)
-    → part_by line (in_small rest) (map action_in_small before) k ≡ mapped (map action_in_small) (part_by line rest before k)
-small_part_by line rest before section.Skipped = refl
-small_part_by line rest before section.Action =
-    mapped-then action_in_small (map action_in_small) (action line (in_small rest) (map action_in_small before)) (action line rest before)
-    (λ found. Ok (map action_in_small before ++ found ∷ [])) (λ found. Ok (before ++ found ∷ []))
-    (small_action line rest before) (λ found. ap Ok (sym (map-append action_in_small before (found ∷ []))))
-small_part_by line rest before section.Unknown = refl
-small_part_by line rest before section.NoSection = refl
-
 small_part : (line : ℕ) (children : Trees) (before : List ActionSchema) → part line (in_small children) (map action_in_small before) ≡ mapped (map action_in_small) (part line children before)
 unfolding part in_small
 small_part line End before = refl
 small_part line (Group at children next) before = refl
-small_part line (Word at word rest) before =
-    ap (part_by line (in_small rest) (map action_in_small before)) (same_section word) ∙ small_part_by line rest before (section_of word)
+small_part line (Word at word rest) before = by (section_of word) refl
+  where
+    by : (k : Section) → section_of word ≡ k → part line (in_small (Word at word rest)) (map action_in_small before) ≡ mapped (map action_in_small) (part line (Word at word rest) before)
+    by section.Action e =
+        rw (same_section word, e, part) (mapped-then action_in_small (map action_in_small) (action line (in_small rest) (map action_in_small before)) (action line rest before)
+        (λ found. Ok (map action_in_small before ++ found ∷ [])) (λ found. Ok (before ++ found ∷ []))
+        (small_action line rest before) (λ found. ap Ok (sym (map-append action_in_small before (found ∷ [])))))
+    by other e = rw (same_section word, e, part) refl
 
 small_parts : (trees : Trees) (before : List ActionSchema) → parts (in_small trees) (map action_in_small before) ≡ mapped (map action_in_small) (parts trees before)
 unfolding parts in_small
@@ -221,8 +187,7 @@ small_parts (Group line children next) before =
 
 same_title : (children : Trees) → is_title (in_small children) ≡ is_title children
 unfolding is_title in_small
-same_title (Word a domain (Word b name End)) =
-    ap (λ t. t && is_name (folded name)) (same_first domain (codes "domain")) ∙ ap (λ t. is_same_word domain (codes "domain") && t) (same_name name)
+same_title (Word a domain (Word b name End)) = rw (same_first domain (codes "domain"), same_name name) refl
 same_title children = refl
 
 small_root : (line : ℕ) (children : Trees) → root line (in_small children) ≡ mapped (map action_in_small) (root line children)

@@ -1,5 +1,5 @@
 -- Words in small letters stand for what the words stand for.
-use Rattle.std.{proofs.{lemmas.{Grind.common_steps, Bool.and_right, List.length-map, Str.Ascii.lowercase-lowercase}, Common.{◌≡◌, ℕ, zero, suc, ◌+◌, ◌<◌, Bool, true, false, cond, not, ◌||◌, ◌&&◌, eqb, List, [], ◌∷◌, map, take, drop, Some, None, refl, ap, ◌∙◌, arith, position, codes}}, specs.{Char.{to_ascii_lowercase, is_ascii_digit}, List.{list_any, prefix_len, position_or_len}, Str.{bytes_eq, all_ascii_digits, Parse.starts_with_minus}}}
+use Rattle.std.{proofs.{lemmas.{Grind.common_steps, Bool.and_right, List.length-map, Str.Ascii.lowercase-lowercase}, Common.{◌≡◌, ℕ, zero, suc, ◌+◌, ◌<◌, Bool, true, false, cond, ◌&&◌, eqb, List, [], ◌∷◌, map, take, drop, Some, None, refl, ap, ◌∙◌, arith, position, codes}}, specs.{Char.{to_ascii_lowercase, is_ascii_digit}, List.{list_any, prefix_len, position_or_len}, Str.{bytes_eq, all_ascii_digits, Parse.starts_with_minus}}}
 use Rattle.stn_time.specs.TimeOf.{is_numeral, fraction_of, parts_with, time_of}
 use Rattle.stn_pddl.{specs.{Tree.Names.{folded, is_same_word}, Words.{begins_with_byte, is_variable, is_key, is_name, connectives, comparisons, assignments, is_other_logic, head_of, item_of, key_of, skipped, section_of}}, proofs.tree.Case.{small_by, same_test}}
 
@@ -17,12 +17,11 @@ same_both a b = ap (λ w. bytes_eq w (folded (folded b))) (folded-folded a) ∙ 
 
 same_any : (word : List ℕ) (words : List (List ℕ)) → list_any (is_same_word (folded word)) words ≡ list_any (is_same_word word) words
 same_any word [] = refl
-same_any word (other ∷ words) = ap (λ t. t || list_any (is_same_word (folded word)) words) (same_first word other) ∙ ap (λ t. is_same_word word other || t) (same_any word words)
+same_any word (other ∷ words) = rw (same_first word other, same_any word words) refl
 
 pub same_listed : (word : List ℕ) (words : List (List ℕ)) → list_any (is_same_word (folded word)) (map folded words) ≡ list_any (is_same_word word) words
 same_listed word [] = refl
-same_listed word (other ∷ words) =
-    ap (λ t. t || list_any (is_same_word (folded word)) (map folded words)) (same_both word other) ∙ ap (λ t. is_same_word word other || t) (same_listed word words)
+same_listed word (other ∷ words) = rw (same_both word other, same_listed word words) refl
 
 -- the place of a word
 same_prefix : (word : List ℕ) (words : List (List ℕ)) → position_or_len (is_same_word (folded word)) (map folded words) ≡ position_or_len (is_same_word word) words
@@ -46,7 +45,7 @@ same_key word = same_begins 58 word (omega arith)
 
 pub same_name : (word : List ℕ) → is_name (folded word) ≡ is_name word
 unfolding is_name
-same_name word = ap (λ t. not t && not (is_key (folded word))) (same_variable word) ∙ ap (λ t. not (is_variable word) && not t) (same_key word)
+same_name word = rw (same_variable word, same_key word) refl
 
 same_logic : (word : List ℕ) → is_other_logic (folded word) ≡ is_other_logic word
 unfolding is_other_logic
@@ -78,7 +77,7 @@ small_digit b is = grind (arith, common_steps, small_by)
 
 same_digits : (bytes : List ℕ) → all_ascii_digits (folded bytes) ≡ all_ascii_digits bytes
 same_digits [] = refl
-same_digits (b ∷ bytes) = ap (λ t. t && all_ascii_digits (folded bytes)) (same_digit b) ∙ ap (λ t. is_ascii_digit b && t) (same_digits bytes)
+same_digits (b ∷ bytes) = rw (same_digit b, same_digits bytes) refl
 
 small_digits : (bytes : List ℕ) → all_ascii_digits bytes ≡ true → folded bytes ≡ bytes
 small_digits [] is = refl
@@ -91,8 +90,7 @@ small_digits (b ∷ bytes) is = by (is_ascii_digit b) refl is (λ rest. small_di
 
 same_len : (bytes : List ℕ) → prefix_len is_ascii_digit (folded bytes) ≡ prefix_len is_ascii_digit bytes
 same_len [] = refl
-same_len (b ∷ bytes) =
-    ap (λ t. cond t (1 + prefix_len is_ascii_digit (folded bytes)) 0) (same_digit b) ∙ ap (λ n. cond (is_ascii_digit b) (1 + n) 0) (same_len bytes)
+same_len (b ∷ bytes) = rw (same_digit b, same_len bytes) refl
 
 -- the digits at the front, and what comes after so many bytes
 same_front : (bytes : List ℕ) → take (prefix_len is_ascii_digit bytes) (folded bytes) ≡ take (prefix_len is_ascii_digit bytes) bytes

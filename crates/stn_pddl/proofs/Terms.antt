@@ -1,6 +1,6 @@
 -- Terms, as the code finds them.
-use Rattle.std.{proofs.{Common.{arith, ◌≡◌, ℕ, Bool, true, false, cond, List, [], ◌∷◌, ◌++◌, Option, Result, Err, refl, ◌∙◌, ap, position}, lemmas.{Grind.common_steps, List.length-map}}, specs.List.{position_or_len, list_any}}
-use Rattle.stn_pddl.specs.{Tree.{Trees.{Trees, Word}, Names.is_same_word}, declared.{tree.name.Name.Name, word.Item.Item, fault.DomainFault.{DomainFault, TheVariants.{Twice, Syntax}}}, Fields.{parameters, parameters_behind_type}, Words.{is_variable, item_of}, Atoms.{term, parameter_at}, Views.{bytes_of_name, words_of}}
+use Rattle.std.{proofs.{Common.{arith, ◌≡◌, ℕ, Bool, true, false, cond, List, [], ◌∷◌, ◌++◌, Option, Err, refl, ◌∙◌, ap, position}, lemmas.{Grind.common_steps, List.{length-map, map-append}}}, specs.List.{position_or_len, list_any}}
+use Rattle.stn_pddl.specs.{Tree.{Trees.{Trees, Word}, Names.is_same_word}, declared.{tree.name.Name.Name, fault.DomainFault.{TheVariants.{Twice}}}, Fields.{parameters}, Words.{is_variable, item_of}, Atoms.{term, parameter_at}, Views.{bytes_of_name, words_of}}
 use Rattle.stn_pddl.specs.declared.word.Item.TheVariants as item
 
 position_or_len-map : (test : List ℕ → Bool) (names : List Name) → position_or_len test (words_of names) ≡ position_or_len (λ (name : Name). test (bytes_of_name name)) names
@@ -21,22 +21,11 @@ pub list_any-names : (test : List ℕ → Bool) (names : List Name) → list_any
 list_any-names test [] = refl
 list_any-names test (name ∷ names) = rw (list_any-names test names) refl
 
-pub words_of-push : (names : List Name) (name : Name) → words_of (names ++ name ∷ []) ≡ words_of names ++ bytes_of_name name ∷ []
-words_of-push [] name = refl
-words_of-push (first ∷ names) name = ap (λ words. bytes_of_name first ∷ words) (words_of-push names name)
-
 module _ (line : ℕ) (word : List ℕ) (row next : Trees) (names : List Name) (here : row ≡ Word line word next) (is : item_of word ≡ item.Parameter) where
   -- what a parameter gives
   at_parameter : (before : List (List ℕ)) → parameters row before ≡ cond (list_any (is_same_word word) before) (Err (Twice line)) (parameters next (before ++ word ∷ []))
   unfolding parameters
-  at_parameter before = ap (λ r. parameters r before) here ∙ ap by_item is
-    where
-      by_item : Item → Result (List (List ℕ)) DomainFault
-      by_item k = elim k [
-        | item.Parameter ↦ cond (list_any (is_same_word word) before) (Err (Twice line)) (parameters next (before ++ word ∷ []))
-        | item.Dash ↦ parameters_behind_type line next before
-        | item.Other ↦ Err (Syntax line)
-      ]
+  at_parameter before = ap (λ r. parameters r before) here ∙ rw (is, parameters) refl
 
   -- a parameter that stood before
   pub parameter-twice : list_any (λ (name : Name). is_same_word word (bytes_of_name name)) names ≡ true → parameters row (words_of names) ≡ Err (Twice line)
@@ -45,4 +34,4 @@ module _ (line : ℕ) (word : List ℕ) (row next : Trees) (names : List Name) (
   -- a parameter that is new
   pub parameter-new : (name : Name) (now : List Name) → bytes_of_name name ≡ word → list_any (λ (name : Name). is_same_word word (bytes_of_name name)) names ≡ false
       → now ≡ names ++ name ∷ [] → parameters next (words_of now) ≡ parameters row (words_of names)
-  parameter-new name now same new pushed = grind (arith, common_steps, at_parameter, list_any-names, words_of-push)
+  parameter-new name now same new pushed = grind (arith, common_steps, at_parameter, list_any-names, map-append)

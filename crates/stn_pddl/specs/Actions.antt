@@ -1,12 +1,12 @@
 -- A durative action.
 use Rattle.std.specs.{Prelude.{ℕ, Bool, List, [], Option, Some, None, Result, Ok, Err, if◌then◌else◌}, List.list_any}
-use Rattle.stn_pddl.specs.{Tree.{Names.is_same_word, Trees.{Trees, End, Word, Group}}, declared.{fault.DomainFault.{DomainFault, TheVariants.{Syntax, Twice}}, action.Side.{Side, TheVariants.{Condition, Effect}}}, Words.is_name, Schemas.{ActionSchema, bare_action}, Conditions.{tree, timed_head}, Fields.{Listing, Values, no_values, parameters, duration, fields}}
+use Rattle.stn_pddl.specs.{Tree.{Names.is_same_word, Trees.{Trees, End, Word, Group}}, declared.{fault.DomainFault.{DomainFault, TheVariants.{Syntax, Twice}}, action.{Side.{Side, TheVariants.{Condition, Effect}}, Form.TheVariants.Timed}}, Words.is_name, Schemas.{ActionSchema, bare_action}, Conditions.tree, Fields.{Listing, Values, no_values, parameters, duration, fields}}
 use Rattle.stn_text.specs.Faults.{◌>>=◌}
 
 -- a value of `:condition` or `:effect`; one that is missing is empty
 unfoldable pub timed_value : Side → Option Listing → ActionSchema → Result ActionSchema DomainFault
 timed_value side None action = Ok action
-timed_value side (Some listing) action = tree (timed_head side) listing.line listing.children action
+timed_value side (Some listing) action = tree (Timed side) listing.line listing.children action
 
 -- the values in their order: parameters, duration, condition, effect
 unfoldable pub action_of_lists : List ℕ → Listing → Listing → Values → Result ActionSchema DomainFault

@@ -1,5 +1,5 @@
 -- What the values of the code say.
-use Rattle.std.specs.Prelude.{◌≡◌, ℕ, List, [], ◌∷◌, map}
+use Rattle.std.specs.{Prelude.{◌≡◌, ℕ, List, map}, List.AllByRecursion}
 use Rattle.stn_pddl.specs.{declared.{tree.name.Name.Name, action.{Term.Term, Atom.Atom, Action.Action}}, Schemas.{TermSchema, AtomSchema, ActionSchema, Parameter, Constant}}
 use Rattle.stn_pddl.specs.declared.action.Term.TheVariants as code
 
@@ -42,5 +42,4 @@ entries_schema entries = map (λ e. action_schema e.1) entries
 
 -- each action stands under its own name
 abbrev pub AreNamed : {A : Type 0} → List (Name × Action A) → Type 0
-AreNamed [] = Unit {0}
-AreNamed (e ∷ entries) = (bytes_of_name e.0 ≡ (action_schema e.1).name) × AreNamed entries
+AreNamed entries = AllByRecursion (λ e. bytes_of_name e.0 ≡ (action_schema e.1).name) entries

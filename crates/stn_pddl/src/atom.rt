@@ -80,7 +80,7 @@ impl<'a, A: Allocator + Copy> Action<'a, A> {
     }
 
     /// Reads the terms of an equality on a line, and gives the place after them.
-    #[tactic(auto, using(crate::proofs::Steps::fails_first), unfolding(crate::specs::Atoms::equality, crate::specs::Views::action_schema))]
+    #[tactic(auto, using(stn_text::proofs::Readings::fails_first), unfolding(crate::specs::Atoms::equality, crate::specs::Views::action_schema))]
     pub(crate) fn read_equality(
         &self,
         line: u32,

@@ -2,7 +2,7 @@
 
 ghost use Rattle.std.specs.Prelude.{◌≡◌, IfOk, true};
 ghost use Rattle.stn_text.specs.Faults.{Returns};
-ghost use Rattle.stn_pddl.specs.{Tree.Cursors.{row_at, IsPast}, Faults.is_memory, Views.action_schema};
+ghost use Rattle.stn_pddl.specs.{Tree.{Cursors.{row_at, IsPast}, Trees.Word}, Faults.is_memory, Words.head_of, Views.action_schema, declared.action.Form.TheVariants.{Plain, Timed}};
 ghost use Rattle.stn_pddl.specs.Conditions as spec;
 
 use crate::action::{Action, Form, Label, Side};
@@ -77,6 +77,28 @@ impl<'a, A: Allocator + Copy> Action<'a, A> {
         self.read_equality(line, children)
     }
 
+    /// Takes up an atom or an equality, negated or not, in a list on a line, from the list's head on, and gives the place after
+    /// the list.
+    fn read_literal(
+        &mut self,
+        label: Label,
+        negated: bool,
+        line: u32,
+        word: &'a [u8],
+        rest: Cursor<'a>,
+    ) -> Result<Cursor<'a>, DomainFault>
+        ensures given { Returns is_memory (λ _. action_schema self.new) result
+            (spec.literal label negated line word.now (row_at rest.entry) (action_schema self.old) (head_of word.now)) }
+        ensures passed { IfOk result (IsPast rest.entry) }
+    {
+        match head_of(word) {
+            Head::And | Head::Not | Head::OtherLogic => Err(DomainFault::Unsupported(line)),
+            Head::Equal => self.read_equal_tree(label, line, rest),
+            Head::NoName => Err(DomainFault::Syntax(line)),
+            Head::At | Head::Over | Head::Name => self.read_atom(label, negated, word, rest),
+        }
+    }
+
     /// The list after `not`, on its own line.
     #[tactic(auto, using(crate::proofs::tree::Cursors::behind_rest), unfolding(crate::specs::Conditions::negated_tree))]
     fn read_negated_tree(
@@ -92,12 +114,7 @@ impl<'a, A: Allocator + Copy> Action<'a, A> {
         let Child::Word(_, word, rest) = children.next_child() else {
             return Err(DomainFault::Syntax(line));
         };
-        match head_of(word) {
-            Head::And | Head::Not | Head::OtherLogic => Err(DomainFault::Unsupported(line)),
-            Head::Equal => self.read_equal_tree(label, line, rest),
-            Head::NoName => Err(DomainFault::Syntax(line)),
-            Head::At | Head::Over | Head::Name => self.read_atom(label, true, word, rest),
-        }
+        self.read_literal(label, true, line, word, rest)
     }
 
     /// What stands after `not`, in a list on a line.
@@ -127,6 +144,7 @@ impl<'a, A: Allocator + Copy> Action<'a, A> {
 
     /// Takes up a list on a line whose literals have one label, from its head on, and gives the place after the list.
     #[cycle(conditions)]
+    #[tactic(auto, unfolding(crate::specs::Conditions::tree))]
     fn read_plain(
         &mut self,
         label: Label,
@@ -135,16 +153,14 @@ impl<'a, A: Allocator + Copy> Action<'a, A> {
         rest: Cursor<'a>,
     ) -> Result<Cursor<'a>, DomainFault>
         ensures given { Returns is_memory (λ _. action_schema self.new) result
-            (spec.headed (spec.plain_head label) line word.now (row_at rest.entry) (action_schema self.old)) }
+            (spec.tree (Plain label) line (Word line word.now (row_at rest.entry)) (action_schema self.old)) }
         ensures passed { IfOk result (IsPast rest.entry) }
     {
         match head_of(word) {
             Head::And => self.read_row(Form::Plain(label), rest),
             Head::Not => self.read_negation(label, line, rest),
-            Head::Equal => self.read_equal_tree(label, line, rest),
-            Head::OtherLogic => Err(DomainFault::Unsupported(line)),
-            Head::NoName => Err(DomainFault::Syntax(line)),
-            Head::At | Head::Over | Head::Name => self.read_atom(label, false, word, rest),
+            Head::Equal | Head::At | Head::Over | Head::OtherLogic | Head::Name | Head::NoName =>
+                self.read_literal(label, false, line, word, rest),
         }
     }
 
@@ -173,6 +189,7 @@ impl<'a, A: Allocator + Copy> Action<'a, A> {
 
     /// Takes up a list on a line whose literals have each its time, from its head on, and gives the place after the list.
     #[cycle(conditions)]
+    #[tactic(auto, unfolding(crate::specs::Conditions::tree))]
     fn read_timed(
         &mut self,
         side: Side,
@@ -181,7 +198,7 @@ impl<'a, A: Allocator + Copy> Action<'a, A> {
         rest: Cursor<'a>,
     ) -> Result<Cursor<'a>, DomainFault>
         ensures given { Returns is_memory (λ _. action_schema self.new) result
-            (spec.headed (spec.timed_head side) line word.now (row_at rest.entry) (action_schema self.old)) }
+            (spec.tree (Timed side) line (Word line word.now (row_at rest.entry)) (action_schema self.old)) }
         ensures passed { IfOk result (IsPast rest.entry) }
     {
         match head_of(word) {
@@ -196,10 +213,10 @@ impl<'a, A: Allocator + Copy> Action<'a, A> {
 
     /// Takes up the lists of a row, and gives the place after the row.
     #[cycle(conditions)]
-    #[tactic(auto, using(crate::proofs::Steps::fails_first), unfolding(crate::specs::Conditions::row))]
+    #[tactic(auto, using(stn_text::proofs::Readings::fails_first), unfolding(crate::specs::Conditions::row))]
     fn read_row(&mut self, form: Form, children: Cursor<'a>) -> Result<Cursor<'a>, DomainFault>
         ensures given { Returns is_memory (λ _. action_schema self.new) result
-            (spec.row (spec.form_meaning form) (row_at children.entry) (action_schema self.old)) }
+            (spec.row form (row_at children.entry) (action_schema self.old)) }
         ensures passed { IfOk result (IsPast children.entry) }
     {
         let mut cursor = children;
@@ -224,7 +241,7 @@ impl<'a, A: Allocator + Copy> Action<'a, A> {
         children: Cursor<'a>,
     ) -> Result<Cursor<'a>, DomainFault>
         ensures given { Returns is_memory (λ _. action_schema self.new) result
-            (spec.tree (spec.form_meaning form) line (row_at children.entry) (action_schema self.old)) }
+            (spec.tree form line (row_at children.entry) (action_schema self.old)) }
         ensures passed { IfOk result (IsPast children.entry) }
     {
         match children.next_child() {

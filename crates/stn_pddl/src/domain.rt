@@ -63,7 +63,7 @@ fn read_sides<'a, A: Allocator + Copy>(
 }
 
 /// Takes up the values of an action that has none, in their order.
-#[tactic(auto, using(crate::proofs::Steps::fails_first), unfolding(crate::specs::Views::action_schema, crate::specs::Actions::action_of_lists))]
+#[tactic(auto, using(stn_text::proofs::Readings::fails_first), unfolding(crate::specs::Views::action_schema, crate::specs::Actions::action_of_lists))]
 fn read_values<'a, A: Allocator + Copy>(
     parameters: Listing<'a>,
     duration: Listing<'a>,
@@ -126,7 +126,7 @@ fn read_name<'a, A: Allocator + Copy>(
 }
 
 /// An action on a line, from what stands after its head.
-#[tactic(auto, using(crate::proofs::Steps::fails_as_meant))]
+#[tactic(auto, using(stn_text::proofs::Readings::fails_as_meant))]
 fn read_action<'a, A: Allocator + Copy>(
     alloc: A,
     line: u32,
@@ -142,7 +142,7 @@ fn read_action<'a, A: Allocator + Copy>(
 }
 
 /// One part of a domain, a list on a line.
-#[tactic(auto, using(crate::proofs::Steps::fails_first), unfolding(crate::specs::Domains::part))]
+#[tactic(auto, using(stn_text::proofs::Readings::fails_first), unfolding(crate::specs::Domains::part))]
 fn read_part<'a, A: Allocator + Copy>(
     alloc: A,
     line: u32,

@@ -27,11 +27,6 @@ split_once (x ∷ xs) ys (u ∷ us) vs p q e =
     let both = split_once xs ys us vs (All-tail NotDot x xs p) (All-tail NotDot u us q) rest in
     (λ i. first i ∷ both.0 i, both.1)
 
--- a text with a dot has one
-pub dot_there : (xs ys : List ℕ) → All NotDot (xs ++ (46 ∷ ys)) → ⊥
-dot_there [] ys h = All-head NotDot 46 ys h refl
-dot_there (x ∷ xs) ys h = dot_there xs ys (All-tail NotDot x (xs ++ (46 ∷ ys)) h)
-
 -- the printed form, as what stands before its dot and after it
 pub text_split : (id : SiteCounter) → id_text id ≡ decimal id.site ++ (46 ∷ decimal id.counter)
 text_split id = append_assoc (decimal id.site) (46 ∷ []) (decimal id.counter)

@@ -1,5 +1,5 @@
 -- Lists of entries whose keys rise: what is found in them, and in their merge.
-use Rattle.std.{proofs.{Common.{◌≡◌, ℕ, zero, suc, ◌+◌, ◌<◌, ◌≤◌, Bool, true, false, cond, T, List, [], ◌∷◌, ◌++◌, length, get_or, drop, Option, Some, None, Ordering, Less, Equal, Greater, is_lt, is_eq, sym, refl, ap, ◌∙◌, ⊎_elim, arith, add-one, ◌⊎◌, append_assoc, append-nil}, lemmas.Bool.{false≢true, and_parts, and_from}}, specs.{Option.option_or, List.{insert, IsAllAdjacentAnswer, Sorted.IsSortedBy}, Prelude.{IsTrue, ◌↔◌}, Ordering.{eq_by_cmp, ordering_reverse}, Cmp.{IsTotalOrder, alike_right, tied_back, Equal-is}, FinMap.{FinMap, is_sorted, put, Entries.{below_all, by_order}}}}
+use Rattle.std.{proofs.{Common.{◌≡◌, ℕ, zero, suc, ◌+◌, ◌<◌, ◌≤◌, Bool, true, false, cond, T, List, [], ◌∷◌, ◌++◌, length, get_or, Option, Some, None, Ordering, Less, Equal, Greater, is_lt, is_eq, sym, refl, ap, ◌∙◌, ⊎_elim, arith, add-one, ◌⊎◌, append_assoc, append-nil}, lemmas.Bool.{false≢true, and_parts, and_from}}, specs.{Option.option_or, List.{insert, IsAllAdjacentAnswer, Sorted.IsSortedBy}, Prelude.{IsTrue, ◌↔◌}, Ordering.{eq_by_cmp, ordering_reverse}, Cmp.{IsTotalOrder, alike_right, tied_back, Equal-is}, FinMap.{FinMap, is_sorted, put, Entries.{below_all, by_order}}}}
 use Rattle.std.specs.FinMap as fin
 use Rattle.stn_records.specs.{MapLaws.or_after, Sorted.{merge, merge_from}}
 

@@ -1,5 +1,4 @@
 ghost use Rattle.std.specs.Prelude.{◌≡◌};
-ghost use Rattle.stn_records.specs.declared.faults.PartFault.TheVariants as part;
 ghost use Rattle.stn_records.specs.declared.faults.RecordsFault.TheVariants as records;
 ghost use Rattle.stn_records.specs.Failures.{records_failure};
 
@@ -62,14 +61,6 @@ pub enum PartFault {
     /// Memory ran out.
     #[error("out of memory")]
     Memory,
-}
-
-impl From<AllocError> for PartFault {
-    ghost from_gives = { λ _ fault. fault ≡ part.Memory };
-
-    fn from(_refused: AllocError) -> PartFault {
-        PartFault::Memory
-    }
 }
 
 /// The counter of a site would pass 65,535.

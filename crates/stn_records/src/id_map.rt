@@ -178,7 +178,7 @@ impl<X: MapValue, A: Allocator + Copy> Join for IdMap<X, A> {
     fn joined(&self, other: &Self) -> Result<Self, JoinFault> {
         match self.dispute(other) {
             Some(id) => Err(JoinFault::Clash(id)),
-            None => Ok(self.union(other)?),
+            None => self.union(other).map_err(|_| JoinFault::Memory),
         }
     }
 

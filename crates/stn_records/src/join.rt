@@ -1,8 +1,7 @@
 ghost use Rattle.std.specs.Prelude.{◌≡◌, true, Option, Some, Err, not, is_some, option_and_then, IfOk, OnOk, OnErr};
-ghost use Rattle.stn_records.specs.{Id.SiteCounter, declared.join.JoinFault.TheVariants.Memory};
+ghost use Rattle.stn_records.specs.Id.{SiteCounter};
 
 use crate::id::Id;
-use std::alloc::AllocError;
 use thiserror::Error;
 
 /// Why there is no join.
@@ -15,14 +14,6 @@ pub enum JoinFault {
     /// Memory ran out.
     #[error("out of memory")]
     Memory,
-}
-
-impl From<AllocError> for JoinFault {
-    ghost from_gives = { λ _ fault. fault ≡ Memory };
-
-    fn from(_refused: AllocError) -> JoinFault {
-        JoinFault::Memory
-    }
 }
 
 /// What two sites hold can be joined, in any order and grouping, and again, with one outcome.

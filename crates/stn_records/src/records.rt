@@ -299,9 +299,10 @@ impl<A: Allocator + Copy> Records<A> {
         {
             return Err(PartFault::Unknown);
         }
-        Ok(Records {
-            state: self.state.part(records, tombstones)?,
-        })
+        let Ok(state) = self.state.part(records, tombstones) else {
+            return Err(PartFault::Memory);
+        };
+        Ok(Records { state })
     }
 
     /// The same records, withdrawn ids and replaced ids again.

@@ -279,7 +279,7 @@ impl<A: Allocator + Copy> Join for State<A> {
     fn joined(&self, other: &Self) -> Result<Self, JoinFault> {
         match self.dispute(other) {
             Some(id) => Err(JoinFault::Clash(id)),
-            None => Ok(self.union(other)?),
+            None => self.union(other).map_err(|_| JoinFault::Memory),
         }
     }
 

@@ -1,3 +1,5 @@
 pub mod Splits
 pub mod Digits
 pub mod Whole
+pub mod Readings
+pub mod Growing

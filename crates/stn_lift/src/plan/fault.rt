@@ -1,9 +1,8 @@
 //! Why a text is no plan.
 
 ghost use Rattle.std.specs.Prelude.{◌≡◌};
-ghost use Rattle.stn_lift.specs.{declared.plan.fault.PlanFault.TheVariants.Memory, Plan.Failures.plan_failure};
+ghost use Rattle.stn_lift.specs.Plan.Failures.{plan_failure};
 
-use std::alloc::AllocError;
 use stn_refusal::{Code, Failure, Fault};
 use thiserror::Error;
 
@@ -29,14 +28,6 @@ pub enum PlanFault {
     /// Out of memory.
     #[error("out of memory")]
     Memory,
-}
-
-impl From<AllocError> for PlanFault {
-    ghost from_gives = { λ _ fault. fault ≡ Memory };
-
-    fn from(_refused: AllocError) -> PlanFault {
-        PlanFault::Memory
-    }
 }
 
 impl From<PlanFault> for Failure {

@@ -8,7 +8,7 @@ ghost use Rattle.stn_lift.specs.Plan.{Tokens.tokens_of, Steps.{is_plan_memory, a
 use crate::plan::bytes::Mark;
 use crate::plan::fault::PlanFault;
 use crate::plan::tokens::{Token, Tokens};
-use std::alloc::{AllocError, Allocator};
+use std::alloc::Allocator;
 use stn_time::Ms;
 
 /// One step of a plan: an action that starts at a time.
@@ -47,7 +47,7 @@ fn read_args<'a, A: Allocator + Copy>(
     let mut args = Vec::new(alloc);
     loop {
         match tokens.next_token() {
-            Some(Token::Word(word)) => args.push(word).map_err(AllocError::from)?,
+            Some(Token::Word(word)) => args.push(word).map_err(|_| PlanFault::Memory)?,
             Some(Token::Mark(Mark::Close)) => return Ok(args),
             _ => return Err(PlanFault::Syntax(line)),
         }

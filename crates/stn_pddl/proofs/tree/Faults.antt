@@ -1,41 +1,34 @@
 -- The faults of a text, and what a text without one is.
-use Rattle.std.proofs.{Common.{◌≡◌, ℕ, ◌+◌, ◌-◌, ◌<◌, ◌≤◌, Bool, true, false, cond, nat_lt, List, [], ◌∷◌, length, Result, Ok, Err, refl, ap, subst, arith}, lemmas.Bool.{ltb-true, Decides.nat_tests}}
-use Rattle.stn_pddl.{specs.{declared.tree.{bytes.Kind.{Kind, TheVariants.{Open, Close, Letter}}, scan.{TreeFault.{TreeFault, TheVariants.{TooLong, Syntax, TooDeep}}, Place.{Place, TheVariants.{Before, Inside, After}}}}, Tree.{Bytes.{kind_in, comment_after, line_after}, Trees.{Trees, rows_from}, Scan.{most_text, place_after, scanned, tree_of, IsOneList}}}, proofs.tree.Scanned.one-list}
-use Rattle.stn_text.specs.Faults.{◌>>=◌}
+use Rattle.std.{proofs.{Common.{◌≡◌, ℕ, ◌+◌, ◌-◌, ◌<◌, ◌≤◌, Bool, true, false, cond, nat_lt, List, [], ◌∷◌, length, Result, Ok, Err, refl, ap, subst, arith}, lemmas.{Bool.{ltb-true, Decides.nat_tests}, Result.{MatchResult-at_err, MatchResult-weaker}}}, specs.Result.MatchResult}
+use Rattle.stn_pddl.{specs.{declared.tree.{bytes.Kind.{Kind, TheVariants.{Blank, Open, Close, Letter}}, scan.{TreeFault.{TreeFault, TheVariants.{TooLong, TooDeep}}, Place.{Place, TheVariants.{Before, Inside, After}}}}, Tree.{Bytes.{kind_in, comment_after, line_after}, Trees.{Trees, rows_from}, Scan.{most_text, place_after, scanned, tree_of, IsOneList}, FirstFault.IsOnLine}}, proofs.tree.Scanned.one-list}
+use Rattle.stn_text.{specs.Faults.{◌>>=◌}, proofs.Readings.{bind_ok, both_give, either_gives}}
 
--- a fault of a byte, or of an end that comes too early
-abbrev IsByteFault : TreeFault → Type 0
-IsByteFault TooLong = ⊥
-IsByteFault (Syntax line) = Unit {0}
-IsByteFault (TooDeep line) = Unit {0}
-
-abbrev OfBytes : Result Place TreeFault → Type 0
-OfBytes (Ok place) = Unit {0}
-OfBytes (Err fault) = IsByteFault fault
-
-bytes-then : (first : Result Place TreeFault) (next : Place → Result Place TreeFault) → OfBytes first → ((place : Place) → OfBytes (next place)) → OfBytes (first >>= next)
-bytes-then (Ok place) next one other = other place
-bytes-then (Err fault) next one other = one
-
-bytes-either : (test : Bool) (one other : Result Place TreeFault) → OfBytes one → OfBytes other → OfBytes (cond test one other)
-bytes-either true one other first second = first
-bytes-either false one other first second = second
-
-place_after-bytes : (kind : Kind) (line : ℕ) (place : Place) → OfBytes (place_after kind line place)
+-- a fault of a byte is on the line of the byte
+on_its_line : (kind : Kind) (line : ℕ) (place : Place) → MatchResult (place_after kind line place) (λ _. Unit {0}) (IsOnLine line)
 unfolding place_after
-place_after-bytes Open line (Inside depth) = bytes-either (nat_lt depth 32) (Ok (Inside (depth + 1))) (Err (TooDeep line)) tt tt
-place_after-bytes Close line (Inside depth) = bytes-either (nat_lt 1 depth) (Ok (Inside (depth - 1))) (Ok After) tt tt
-place_after-bytes Letter line Before = tt
-place_after-bytes other line place = tt
+on_its_line Blank line place = tt
+on_its_line Open line Before = tt
+on_its_line Open line (Inside depth) = either_gives (λ _. Unit {0}) (IsOnLine line) (nat_lt depth 32) (Ok (Inside (depth + 1))) (Err (TooDeep line)) tt refl
+on_its_line Close line (Inside depth) = either_gives (λ _. Unit {0}) (IsOnLine line) (nat_lt 1 depth) (Ok (Inside (depth - 1))) (Ok After) tt tt
+on_its_line Letter line (Inside depth) = tt
+on_its_line kind line place = refl
 
-scanned-bytes : (comment : Bool) (line : ℕ) (place : Place) (text : List ℕ) → OfBytes (scanned comment line place text)
+pub place_after-line : (kind : Kind) (line : ℕ) (place : Place) (fault : TreeFault) → place_after kind line place ≡ Err fault → IsOnLine line fault
+place_after-line kind line place fault is = MatchResult-at_err (λ _. Unit {0}) (IsOnLine line) fault is (on_its_line kind line place)
+
+-- a fault on some line
+abbrev OnSomeLine : TreeFault → Type 0
+OnSomeLine fault = (line : ℕ) × IsOnLine line fault
+
+scanned-line : (comment : Bool) (line : ℕ) (place : Place) (text : List ℕ) → MatchResult (scanned comment line place text) (λ _. Unit {0}) OnSomeLine
 unfolding scanned
-scanned-bytes comment line Before [] = tt
-scanned-bytes comment line (Inside depth) [] = tt
-scanned-bytes comment line After [] = tt
-scanned-bytes comment line place (b ∷ bytes) =
-    bytes-then (place_after (kind_in comment b) line place) (λ next. scanned (comment_after comment b) (line_after line b) next bytes)
-    (place_after-bytes (kind_in comment b) line place) (λ next. scanned-bytes (comment_after comment b) (line_after line b) next bytes)
+scanned-line comment line Before [] = (line, refl)
+scanned-line comment line (Inside depth) [] = (line, refl)
+scanned-line comment line After [] = tt
+scanned-line comment line place (b ∷ bytes) =
+    both_give (λ _. Unit {0}) (λ _. Unit {0}) OnSomeLine (place_after (kind_in comment b) line place) (λ next. scanned (comment_after comment b) (line_after line b) next bytes)
+    (MatchResult-weaker (place_after (kind_in comment b) line place) (on_its_line (kind_in comment b) line place) (λ next _. tt) (λ fault here. (line, here)))
+    (λ next _. scanned-line (comment_after comment b) (line_after line b) next bytes)
 
 module _ (text : List ℕ) where
   -- a text that is refused as too long is
@@ -43,14 +36,13 @@ module _ (text : List ℕ) where
   unfolding tree_of
   tree_of-long is = by (nat_lt most_text (length text)) refl is
     where
-      found : (end : Result Place TreeFault) → OfBytes end → (end >>= λ place. Ok (rows_from false 1 text).row) ≡ Err TooLong → ⊥
-      found (Ok place) bytes e = cc
-      found (Err fault) bytes e = let same : fault ≡ TooLong = cc in subst IsByteFault same bytes
+      found : MatchResult (scanned false 1 Before text >>= λ end. Ok (rows_from false 1 text).row) (λ _. Unit {0}) OnSomeLine
+      found = both_give (λ _. Unit {0}) (λ _. Unit {0}) OnSomeLine (scanned false 1 Before text) (λ end. Ok (rows_from false 1 text).row) (scanned-line false 1 Before text) (λ end _. tt)
 
       by : (long : Bool) → nat_lt most_text (length text) ≡ long
           → cond long (Err TooLong) (scanned false 1 Before text >>= λ end. Ok (rows_from false 1 text).row) ≡ Err TooLong → most_text < length text
       by true many e = ltb-true _ _ many
-      by false few e = absurd (found (scanned false 1 Before text) (scanned-bytes false 1 Before text) e)
+      by false few e = absurd (MatchResult-at_err (λ _. Unit {0}) OnSomeLine TooLong e found).1
 
   -- a text that is short enough has the faults of its bytes
   short_test : length text ≤ most_text → nat_lt most_text (length text) ≡ false
@@ -77,15 +69,13 @@ module _ (text : List ℕ) where
   unfolding tree_of
   tree_of-rows row is = by (nat_lt most_text (length text)) is
     where
-      found : (end : Result Place TreeFault) → scanned false 1 Before text ≡ end → (end >>= λ place. Ok (rows_from false 1 text).row) ≡ Ok row
-          → (end : Place) × (scanned false 1 Before text ≡ Ok end) × ((rows_from false 1 text).row ≡ row)
-      found (Ok end) same e = let whole : (rows_from false 1 text).row ≡ row = cc in (end, same, whole)
-      found (Err fault) same e = cc
-
       by : (long : Bool) → cond long (Err TooLong) (scanned false 1 Before text >>= λ end. Ok (rows_from false 1 text).row) ≡ Ok row
           → (end : Place) × (scanned false 1 Before text ≡ Ok end) × ((rows_from false 1 text).row ≡ row)
       by true e = cc
-      by false e = found (scanned false 1 Before text) refl e
+      by false e =
+          let step = bind_ok (scanned false 1 Before text) (λ end. Ok (rows_from false 1 text).row) row e in
+          let whole : (rows_from false 1 text).row ≡ row = let given = step.2 in cc in
+          (step.0, step.1, whole)
 
   -- and is one list
   pub tree_of-list : (row : Trees) → tree_of text ≡ Ok row → IsOneList row

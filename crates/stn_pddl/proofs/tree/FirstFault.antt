@@ -1,6 +1,6 @@
 -- The first fault of a text lies at the first byte after which no text can go on, or at its end.
-use Rattle.std.proofs.{Common.{◌≡◌, ℕ, zero, suc, ◌+◌, ◌-◌, ◌≤◌, Bool, true, false, cond, nat_lt, List, [], ◌∷◌, ◌++◌, length, fold, Result, Ok, Err, IsOk, refl, sym, ap, subst, ◌∙◌, arith}, lemmas.Bool.Decides.nat_tests}
-use Rattle.stn_pddl.{specs.{declared.tree.{bytes.Kind.{Kind, TheVariants.{Blank, Open, Close, Letter}}, scan.{TreeFault.{TreeFault, TheVariants.{Syntax, TooDeep}}, Place.{Place, TheVariants.{Before, Inside, After}}}}, Tree.{Bytes.{kind_of, kind_in, comment_after, line_after}, Scan.{most_text, place_after, ends_at, scanned, tree_of}, FirstFault.{IsOnLine, IsFirstFault, at_byte, at_end}}}, proofs.tree.{Scanned.{scanned-next, scanned-fault}, Faults.{tree_of-refused, tree_of-scanned}}}
+use Rattle.std.proofs.{Common.{◌≡◌, ℕ, zero, suc, ◌+◌, ◌-◌, ◌≤◌, Bool, true, false, cond, nat_lt, List, [], ◌∷◌, ◌++◌, length, fold, Result, Ok, Err, IsOk, refl, sym, ap, ◌∙◌, arith}, lemmas.Bool.Decides.nat_tests}
+use Rattle.stn_pddl.{specs.{declared.tree.{scan.{TreeFault.{TreeFault, TheVariants.Syntax}, Place.{Place, TheVariants.{Before, Inside, After}}}}, Tree.{Bytes.{kind_of, kind_in, comment_after, line_after}, Scan.{most_text, place_after, ends_at, scanned, tree_of}, FirstFault.{IsOnLine, IsFirstFault, at_byte, at_end}}}, proofs.tree.{Scanned.{scanned-next, scanned-fault}, Faults.{place_after-line, tree_of-refused, tree_of-scanned}}}
 use Rattle.stn_text.specs.Faults.{◌>>=◌}
 
 -- the brackets that close so many lists
@@ -31,33 +31,6 @@ goes_on : (comment : Bool) (line : ℕ) (place : Place) → (rest : List ℕ) ×
 unfolding scanned place_after comment_after line_after
 goes_on true line place = let behind = goes_on_outside (line + 1) place in (10 ∷ behind.0, behind.1)
 goes_on false line place = goes_on_outside line place
-
--- a fault of a byte is on the line of the byte
-place_after-line : (kind : Kind) (line : ℕ) (place : Place) (fault : TreeFault) → place_after kind line place ≡ Err fault → IsOnLine line fault
-unfolding place_after
-place_after-line kind line place fault is = by kind place is
-  where
-    syntax_here : Syntax line ≡ fault → IsOnLine line fault
-    syntax_here same = subst (IsOnLine line) same refl
-
-    deep_here : TooDeep line ≡ fault → IsOnLine line fault
-    deep_here same = subst (IsOnLine line) same refl
-
-    opened : (depth : ℕ) (fits : Bool) → cond fits (Ok (Inside (depth + 1))) (Err (TooDeep line)) ≡ Err fault → IsOnLine line fault
-    opened depth true e = cc
-    opened depth false e = deep_here (cc)
-
-    ended : (depth : ℕ) (deep : Bool) → cond deep (Ok (Inside (depth - 1))) (Ok After) ≡ Err fault → IsOnLine line fault
-    ended depth true e = cc
-    ended depth false e = cc
-
-    by : (kind : Kind) (place : Place) → place_after kind line place ≡ Err fault → IsOnLine line fault
-    by Blank place e = cc
-    by Open Before e = cc
-    by Open (Inside depth) e = opened depth (nat_lt depth 32) e
-    by Close (Inside depth) e = ended depth (nat_lt 1 depth) e
-    by Letter (Inside depth) e = cc
-    by kind place e = syntax_here (cc)
 
 ends_at-line : (line : ℕ) (place : Place) (fault : TreeFault) → ends_at line place ≡ Err fault → fault ≡ Syntax line
 ends_at-line line Before fault is = let same : Syntax line ≡ fault = cc in sym same

@@ -56,11 +56,8 @@ before_byte Letter line b more rows = before_letter line b more rows
 before_byte Stray line b more rows = rows
 
 abbrev pub is_letter : Kind → Bool
-is_letter Blank = false
-is_letter Open = false
-is_letter Close = false
 is_letter Letter = true
-is_letter Stray = false
+is_letter kind = false
 
 unfoldable pub begins_word : List ℕ → Bool
 begins_word [] = false

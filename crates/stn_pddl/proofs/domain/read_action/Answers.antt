@@ -1,6 +1,6 @@
 use Rattle.std.proofs.Common.{ap}
-use Rattle.stn_text.specs.Faults.{Returns}
-use Rattle.stn_pddl.{specs.{Tree.Cursors.row_at, Faults.is_memory, Schemas.ActionSchema, Actions.named_action, Views.{action_schema, bytes_of_name}}, proofs.{SoundActions.new-name, Steps.filled}}
+use Rattle.stn_text.{specs.Faults.{Returns}, proofs.Readings.filled}
+use Rattle.stn_pddl.{specs.{Tree.Cursors.row_at, Faults.is_memory, Schemas.ActionSchema, Actions.named_action, Views.{action_schema, bytes_of_name}}, proofs.SoundActions.new-name}
 use Rattle.stn_pddl.proofs.domain.read_action.Goals as goal
 
 pub returns : goal.returns

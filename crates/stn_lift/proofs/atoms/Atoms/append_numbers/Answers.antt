@@ -1,10 +1,7 @@
-use Rattle.std.proofs.{Common.{◌≡◌, ◌<◌, ◌++◌, ◌∷◌, map, length, take, get_or, sym, ap, subst, ◌∙◌, []}, lemmas.List.{append-nil, get_or-map, length-map}}
+use Rattle.std.proofs.{Common.{◌≡◌, ◌<◌, ◌++◌, ◌∷◌, map, length, take, get_or, sym, ap, subst, ◌∙◌, []}, lemmas.List.{get_or-map, length-map}}
 use Rattle.stn_pddl.specs.{Sound.IsSoundAtom, Views.{atom_schema, atoms_schema}}
-use Rattle.stn_lift.{specs.{Plan.Views.word_of, Footprints.ground, Numbering.AreNumbersOf}, proofs.NumberLists.{kept_itself, kept_along, numbers_kept, numbers_push, grounded_more, all_said}}
+use Rattle.stn_lift.{specs.{Plan.Views.word_of, Footprints.ground, Numbering.AreNumbersOf}, proofs.NumberLists.{kept_along, numbers_kept, numbers_push, grounded_more, all_said}}
 use Rattle.stn_lift.proofs.atoms.Atoms.append_numbers.Goals as goal
-
-pub loop-atom-init : goal.loop-atom-init
-loop-atom-init g c = record { kept = kept_itself c.args.self.now; numbers = λ before are. rw append-nil are }
 
 pub number_atom-requires : goal.number_atom-requires
 number_atom-requires g c =

@@ -6,7 +6,7 @@ use Rattle.stn_lift.proofs.base.Base.bare.Goals as goal
 pub invariant_of-result : goal.invariant_of-result
 invariant_of-result g c = record {
   counted = refl;
-  listed = c.in_ok-bounds.ensures;
+  listed = c.in-Ok.ensures;
   timed = λ event. rw c.new.ensures.items refl;
   sound = let small : c.args.steps ≤ most_steps = omega arith in sound_bare_source c.args.steps small;
 }

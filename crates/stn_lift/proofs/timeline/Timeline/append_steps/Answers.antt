@@ -1,15 +1,7 @@
-use Rattle.std.proofs.{Common.{◌≡◌, ◌+◌, ◌<◌, ◌≤◌, ◌++◌, ◌∷◌, ◌∙◌, map, length, get_or, drop, sym, ap, refl, []}, lemmas.{List.{get_or-map, length-map, drop_all}, Result.err_from_is_err_and}}
+use Rattle.std.proofs.{Common.{◌≡◌, ◌+◌, ◌<◌, ◌≤◌, ◌++◌, ◌∷◌, ◌∙◌, map, length, get_or, drop, sym, ap, []}, lemmas.{List.{get_or-map, length-map, drop_all}, Result.err_from_is_err_and}}
 use Rattle.stn_pddl.specs.Views.{action_schema}
-use Rattle.stn_lift.{specs.{Plan.Views.planned_step, Activities.{activity, activities}}, proofs.TimelineFacts.{behind, behind_none, behind_all, fails_at, found_at, all_lifted}}
+use Rattle.stn_lift.{specs.{Plan.Views.planned_step, Activities.{activity, activities}}, proofs.TimelineFacts.{behind, behind_all, fails_at, found_at, all_lifted}}
 use Rattle.stn_lift.proofs.timeline.Timeline.append_steps.Goals as goal
-
-pub loop-step-init : goal.loop-step-init
-loop-step-init g c = record {
-  number = refl;
-  found = [];
-  whole = sym (behind_none c.args.domain.now.actions (activities c.args.domain.now.actions 0 (map planned_step c.args.steps.now)));
-  timeline = c.requires.empty;
-}
 
 pub returns-in_err-action : goal.returns-in_err-action
 returns-in_err-action g c =

@@ -1,5 +1,5 @@
 use Rattle.std.proofs.Common.{◌≡◌, ◌+◌, ◌≤◌}
-use Rattle.stn_pddl.specs.{Tree.Cursors.{row_at, behind_at, left_at}, Conditions.{row, form_meaning}, Views.action_schema}
+use Rattle.stn_pddl.specs.{Tree.Cursors.{row_at, behind_at, left_at}, Conditions.row, Views.action_schema}
 use Rattle.stn_pddl.proofs.action.Action.+conditions.Given as goal
 
 abbrev pub decreases-read_plain : goal.decreases-read_plain
@@ -19,7 +19,7 @@ decreases-read_tree g l = left_at l.children + left_at l.children
 
 abbrev pub invariant-read_row-trees : goal.invariant-read_row-trees
 invariant-read_row-trees g l = record {
-  given : row (form_meaning l.form) (row_at l.cursor) (action_schema l.self) ≡ row (form_meaning l.form) (row_at l.fn.children) (action_schema l.fn.self);
+  given : row l.form (row_at l.cursor) (action_schema l.self) ≡ row l.form (row_at l.fn.children) (action_schema l.fn.self);
   behind : behind_at l.cursor ≡ behind_at l.fn.children;
   shorter : left_at l.cursor ≤ left_at l.fn.children;
 }

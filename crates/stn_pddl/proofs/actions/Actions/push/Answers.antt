@@ -1,5 +1,5 @@
-use Rattle.std.proofs.{Common.{◌∙◌, ap, refl, ◌++◌, ◌∷◌, []}, lemmas.Result.IfOk-weaker}
-use Rattle.stn_pddl.{specs.Views.{entries_schema, action_schema}, proofs.ActionMaps.{absent, AreNamed-inserted, entries_schema-push}}
+use Rattle.std.proofs.{Common.{◌∙◌, ap, refl, ◌++◌, ◌∷◌, []}, lemmas.{List.map-append, Result.IfOk-weaker}}
+use Rattle.stn_pddl.{specs.Views.{entries_schema, action_schema}, proofs.ActionMaps.{absent, AreNamed-inserted}}
 use Rattle.stn_pddl.proofs.actions.Actions.push.Goals as goal
 
 pub insert_new-requires : goal.insert_new-requires
@@ -15,5 +15,5 @@ invariant_of-self g c =
 pub returns : goal.returns
 returns g c = IfOk-weaker c.insert_new.result _ _ (λ _ is.
     ap entries_schema is
-    ∙ entries_schema-push c.self.inside.by_name.entries c.args.action.name c.args.action
+    ∙ map-append (λ e. action_schema e.1) c.self.inside.by_name.entries ((c.args.action.name, c.args.action) ∷ [])
     ∙ ap (λ actions. actions ++ action_schema c.args.action ∷ []) c.self.view_is) c.insert_new.ensures.added

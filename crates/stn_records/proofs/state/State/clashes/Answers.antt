@@ -3,11 +3,6 @@ use Rattle.std.specs.FinMap as fin
 use Rattle.stn_records.specs.{Content.{Content, plain}, Id.same_ids, Record.same_records, Maps.differ}
 use Rattle.stn_records.proofs.state.State.clashes.Goals as goal
 
-pub returns-then-is_another : goal.returns-then-is_another
-returns-then-is_another g c =
-    let first = c.is_another.ensures ∙ ap (λ o. differ same_records o (Some (plain c.args.bound))) (c.get.ensures ∙ ap (λ (s : Content). fin.get s.additions c.args.id) c.self.view_is) in
-    c.if-is_another.true ∙ ap (λ b. b || differ same_ids (fin.get c.args.self.now.replacements c.args.id) (Some c.args.old)) (sym c.if-is_another.true ∙ first)
-
 pub returns-else-is_another : goal.returns-else-is_another
 returns-else-is_another g c =
     let first = c.is_another.ensures ∙ ap (λ o. differ same_records o (Some (plain c.args.bound))) (c.get.ensures ∙ ap (λ (s : Content). fin.get s.additions c.args.id) c.self.view_is) in
