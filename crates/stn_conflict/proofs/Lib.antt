@@ -5,6 +5,7 @@ pub mod CycleSums
 pub mod LevelTable
 pub mod OneCycle
 pub mod Walks
+pub mod Narrowing
 pub mod Rows
 pub mod Steps
 pub mod Known

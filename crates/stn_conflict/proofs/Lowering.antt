@@ -1,7 +1,7 @@
 -- How links lower estimates.
 use Rattle.std.{proofs.{Common.{◌≡◌, ◌≢◌, inl, inr, ℕ, ◌+◌, ◌-◌, ◌<◌, Bool, true, false, List, length, set, refl, sym, ap, ◌∙◌, arith}, lemmas.{Int.ints, Bool.{cases_eq, false≢true}, List.{get_or-set_same, get_or-set_other, length-set}}}, specs.Prelude.{ℤ, pos, ◌+ℤ◌, ◌≤ℤ◌, ◌<ℤ◌, All}}
 use Rattle.stn_net.specs.{Difference.Difference, Schedule.times_of}
-use Rattle.stn_conflict.{specs.{declared.links.Link.Link, Arcs.arc_of, Relaxation.{AreRelaxed, Freshens, HasFallen, IsFloor, IsRelaxed, IsRelaxedBut, Lowers, NamesAmong, is_fresh}}, proofs.Tightness.link_among}
+use Rattle.stn_conflict.specs.{declared.links.Link.Link, Arcs.arc_of, Relaxation.{AreRelaxed, Freshens, HasFallen, IsFloor, IsListed, IsRelaxed, IsRelaxedBut, Lowers, is_fresh}}
 
 -- nothing is lowered
 pub lowers_none : (bounds : List Difference) (start : ℕ) (far : List ℤ) → Lowers bounds start far far
@@ -55,16 +55,16 @@ still_relaxed bounds start link old old_fresh new new_fresh lowers freshens stal
     omega (arith, ints)
 
 -- after all links of its row are relaxed, an event needs not be fresh
-pub row_relaxed : (bounds : List Difference) (start event : ℕ) (old : List ℤ) (fresh : List Bool) (new : List ℤ) (new_fresh : List Bool) → IsRelaxedBut bounds old fresh
+pub row_relaxed : (whole : ℕ) (bounds : List Difference) (start event : ℕ) (old : List ℤ) (fresh : List Bool) (new : List ℤ) (new_fresh : List Bool) → IsRelaxedBut whole bounds old fresh
     → Lowers bounds start old new → Freshens old (set fresh event false) new new_fresh
-    → ((link : Link) → link.place < length bounds → (arc_of bounds link).from ≡ event → link.place < length bounds → is_fresh new_fresh (arc_of bounds link).from ≡ false → IsRelaxed bounds (times_of new) link)
-    → IsRelaxedBut bounds new new_fresh
-row_relaxed bounds start event old fresh new new_fresh before lowers freshens looked = λ link there stale.
+    → ((link : Link) → link.place < length bounds → IsListed whole bounds link → (arc_of bounds link).from ≡ event → is_fresh new_fresh (arc_of bounds link).from ≡ false
+    → IsRelaxed bounds (times_of new) link) → IsRelaxedBut whole bounds new new_fresh
+row_relaxed whole bounds start event old fresh new new_fresh before lowers freshens looked = λ link there listed stale.
     let from : ℕ = (arc_of bounds link).from in
     elim (cases_eq (arc_of bounds link).from event) [
-      | inl same ↦ looked link there same there stale
+      | inl same ↦ looked link there listed same stale
       | inr differs ↦ still_relaxed bounds start link old (set fresh event false) new new_fresh lowers freshens stale
-          (λ was. before link there (sym (get_or-set_other fresh event (arc_of bounds link).from false true differs) ∙ was))
+          (λ was. before link there listed (sym (get_or-set_other fresh event (arc_of bounds link).from false true differs) ∙ was))
     ]
 
 -- where the estimate of x falls, the events that are not fresh are others
@@ -83,7 +83,7 @@ module _ (far : List ℤ) (x : ℕ) (way : ℤ) (there : x < length far) (less :
   pub fallen_other : (y : ℕ) → y ≢ x → times_of (set far x way) y ≡ times_of far y
   fallen_other y differs = get_or-set_other far x y way (pos 0) differs
 
-  falls : (y : ℕ) → times_of (set far x way) y ≤ℤ times_of far y
+  pub falls : (y : ℕ) → times_of (set far x way) y ≤ℤ times_of far y
   falls y = elim (cases_eq y x) [
     | inl same ↦ (
         let now : times_of (set far x way) y ≡ way = ap (times_of (set far x way)) same ∙ fallen_here in
@@ -92,27 +92,34 @@ module _ (far : List ℤ) (x : ℕ) (way : ℤ) (there : x < length far) (less :
     | inr differs ↦ (let at = fallen_other y differs in omega (arith, ints))
   ]
 
-  -- if none falls below a floor
-  pub lowered_at : (bounds : List Difference) (start : ℕ) → ((low : ℕ → ℤ) → IsFloor bounds start far low → low x ≤ℤ way) → Lowers bounds start far (set far x way)
-  lowered_at bounds start above =
+  -- a floor is one still, if the estimate does not fall below it
+  pub floor_kept : (bounds : List Difference) (start : ℕ) (low : ℕ → ℤ) → IsFloor bounds start far low → low x ≤ℤ way → IsFloor bounds start (set far x way) low
+  floor_kept bounds start low h most =
       let long = length-set far x way in
       record {
-        long = long;
-        fall = falls;
-        floors = λ low h. record {
-          own = h.own;
-          within = λ y below. h.within y (omega arith);
-          below = λ y below. elim (cases_eq y x) [
-            | inl same ↦ (
-                let now : times_of (set far x way) y ≡ way = ap (times_of (set far x way)) same ∙ fallen_here in
-                let most = above low h in
-                let here = ap low same in
-                omega (arith, ints))
-            | inr differs ↦ (let at = fallen_other y differs in let was = h.below y (omega arith) in omega (arith, ints))
-          ];
-          met = h.met;
-        };
+        own = h.own;
+        within = λ y below. h.within y (omega arith);
+        below = λ y below. elim (cases_eq y x) [
+          | inl same ↦ (
+              let now : times_of (set far x way) y ≡ way = ap (times_of (set far x way)) same ∙ fallen_here in
+              let here = ap low same in
+              omega (arith, ints))
+          | inr differs ↦ (let at = fallen_other y differs in let was = h.below y (omega arith) in omega (arith, ints))
+        ];
+        met = h.met;
       }
+
+  -- where each link was relaxed, those are that begin elsewhere
+  pub relaxed_elsewhere : (whole : ℕ) (bounds : List Difference) (fresh : List Bool) → x < length fresh → AreRelaxed bounds (times_of far) → IsRelaxedBut whole bounds (set far x way) (set fresh x true)
+  relaxed_elsewhere whole bounds fresh within met = λ link at listed stale.
+      let begin = fallen_other (arc_of bounds link).from (fell_elsewhere fresh x (arc_of bounds link).from within stale) in
+      let end = falls (arc_of bounds link).to in
+      let was = met link at in
+      omega (arith, ints)
+
+  -- if none falls below a floor
+  pub lowered_at : (bounds : List Difference) (start : ℕ) → ((low : ℕ → ℤ) → IsFloor bounds start far low → low x ≤ℤ way) → Lowers bounds start far (set far x way)
+  lowered_at bounds start above = record { long = length-set far x way; fall = falls; floors = λ low h. floor_kept bounds start low h (above low h) }
 
   -- and the event is fresh then
   pub freshened_at : (fresh : List Bool) → x < length fresh → Freshens far fresh (set far x way) (set fresh x true)
@@ -129,9 +136,10 @@ module _ (far : List ℤ) (x : ℕ) (way : ℤ) (there : x < length far) (less :
 
   -- so the link by which it fell is relaxed
   pub relaxed_now : (bounds : List Difference) (fresh : List Bool) (link : Link) → x < length fresh → x ≡ (arc_of bounds link).to
-      → way ≡ times_of far (arc_of bounds link).from +ℤ (arc_of bounds link).weight → is_fresh (set fresh x true) (arc_of bounds link).from ≡ false
+      → (is_fresh fresh (arc_of bounds link).from ≡ false → way ≡ times_of far (arc_of bounds link).from +ℤ (arc_of bounds link).weight) → is_fresh (set fresh x true) (arc_of bounds link).from ≡ false
       → IsRelaxed bounds (times_of (set far x way)) link
   relaxed_now bounds fresh link within to is stale =
+      let was = is (stale_before fresh x (arc_of bounds link).from within stale) in
       let from = fallen_other (arc_of bounds link).from (fell_elsewhere fresh x (arc_of bounds link).from within stale) in
       let end : times_of (set far x way) (arc_of bounds link).to ≡ way = ap (times_of (set far x way)) (sym to) ∙ fallen_here in
       omega (arith, ints)
@@ -180,9 +188,3 @@ all_swept true count old new fresh swept x below same = swept x below same
 all_swept false count old new fresh swept x below same =
     let back : count - 1 - (count - 1 - x) ≡ x = omega arith in
     ap (is_fresh fresh) (sym back) ∙ swept (count - 1 - x) (omega arith) (ap (times_of new) back ∙ same ∙ ap (times_of old) (sym back))
-
--- where nothing fell, each link is relaxed
-pub all_met : (bounds : List Difference) (count : ℕ) (old new : List ℤ) (fresh : List Bool) → All (NamesAmong count) bounds → IsRelaxedBut bounds new fresh
-    → ((x : ℕ) → x < count → times_of new x ≡ times_of old x → is_fresh fresh x ≡ false) → new ≡ old → AreRelaxed bounds (times_of new)
-all_met bounds count old new fresh named relaxed stale same = λ link there.
-    relaxed link there (stale (arc_of bounds link).from (link_among bounds count link named there).0 (ap (λ l. times_of l (arc_of bounds link).from) same))

@@ -1,7 +1,7 @@
-use Rattle.std.{proofs.{Common.{◌≡◌, ◌≢◌, inl, inr, ℕ, Bool, true, false, ◌+◌, ◌<◌, ◌≤◌, List, [], ◌∷◌, ◌++◌, length, set, take, replicate, sym, subst, ap, refl, ◌∙◌, arith}, lemmas.{Int.ints, Bool.{cases_eq, cases_lt, false≢true}, List.{take-take, get_or-set_same, get_or-set_other, get_or-replicate, get_or_append_left, get_or_push, length-append, length-set, length-replicate, Elements.{All-from_get_or, All-take, All-append, All-push}}}}, specs.Prelude.{ℤ, pos, ◌+ℤ◌, ◌-ℤ◌, ◌≤ℤ◌, ◌<ℤ◌, All}}
+use Rattle.std.{proofs.{Common.{◌≡◌, ◌≢◌, inl, inr, ℕ, Bool, true, false, ◌||◌, lt-ltb, le-ltb, ◌+◌, ◌<◌, ◌≤◌, List, [], ◌∷◌, ◌++◌, length, get_or, set, take, replicate, sym, subst, ap, refl, ◌∙◌, arith}, lemmas.{Int.ints, Bool.{cases_eq, cases_lt, false≢true, or_left, or_right}, List.{take-take, get_or-set_same, get_or-set_other, get_or-replicate, get_or-take, get_or_default, get_or_push, length-take, length-append, length-set, length-replicate, Elements.{All-from_get_or, All-take, All-append, All-push}}}}, specs.Prelude.{ℤ, pos, ◌+ℤ◌, ◌-ℤ◌, ◌≤ℤ◌, ◌<ℤ◌, nat_lt, int_lt, IsTrue, All}}
 use Rattle.stn_time.{specs.Time.{horizon, IsWithinHorizon}, proofs.Each.All-left}
 use Rattle.stn_net.{specs.{Difference.{Difference, NamesEvents}, Schedule.{Meets, IsSchedule, HasSchedule, times_of}, Horizon.horizon_bounds}, proofs.Widest.horizon_times}
-use Rattle.stn_conflict.{specs.{declared.links.{Link.Link, Side.{Side, TheVariants.{Upper, Lower}}}, Arcs.{Arc, arc, arc_of, bound_at}, Relaxation.{NamesAmong, IsNetwork, AreEstimates, AreDistances, AreRelaxed, IsFloor, IsRelaxedBut, IsPossibleGap, is_fresh}}, proofs.{Lowering.{fell_elsewhere, stale_before}, Tightness.{schedule_before, link_kept, link_reaches, link_among}, Known.known_first, LevelTable.meets_moved}}
+use Rattle.stn_conflict.{specs.{declared.links.{Link.Link, Side.{Side, TheVariants.{Upper, Lower}}}, Arcs.{Arc, arc, arc_of, bound_at}, Relaxation.{NamesAmong, IsNetwork, AreEstimates, AreDistances, AreLimited, AreRelaxed, IsFloor, IsListed, IsRelaxed, IsRelaxedBut, IsPossibleGap, is_fresh}}, proofs.{Lowering.{fell_elsewhere, stale_before}, Tightness.{arc_longer, schedule_before, link_kept, link_reaches, link_among}, Known.known_first, LevelTable.meets_moved}}
 
 -- the events of the plan are so many and the origin
 pub among_events : (bounds : List Difference) (events count : ℕ) → count ≡ events + 1 → All (NamesEvents events) bounds → All (NamesAmong count) bounds
@@ -15,12 +15,56 @@ among_events bounds events count long named = λ k d below.
 pub network_known : (events : ℕ) (bounds : List Difference) → take events bounds ≡ horizon_bounds events → All (NamesEvents events) bounds → IsNetwork events bounds
 network_known events bounds begins named = record {
   named = named;
-  apart = λ time s x y xs ys.
-      let s' : IsSchedule (horizon_bounds events) time = subst (λ l. IsSchedule l time) begins (schedule_before bounds events time s) in
-      let first = horizon_times events time s' x xs in
-      let second = horizon_times events time s' y ys in
+  apart = λ time met x y xs ys.
+      let moved : ℕ → ℤ = λ z. time z -ℤ time 0 in
+      let s : IsSchedule (horizon_bounds events) (λ z. time z -ℤ time 0) = record { origin = omega (arith, ints); met = subst (All (Meets (λ z. time z -ℤ time 0))) begins (horizon_met time met) } in
+      let first = horizon_times events (λ z. time z -ℤ time 0) s x xs in
+      let second = horizon_times events (λ z. time z -ℤ time 0) s y ys in
       omega (arith, ints);
 }
+  where
+    horizon_met : (time : ℕ → ℤ) → AreLimited events bounds time → All (Meets (λ z. time z -ℤ time 0)) (take events bounds)
+    horizon_met time met = λ k d below.
+        let front : k < events = omega (arith, length-take events bounds) in
+        let there : k < length bounds = omega (arith, length-take events bounds) in
+        let is : get_or (take events bounds) k d ≡ bound_at bounds k = get_or-take events bounds k d front ∙ get_or_default bounds k d _ there in
+        subst (Meets (λ z. time z -ℤ time 0)) (sym is) (meets_moved (bound_at bounds k) time (time 0) (λ side.
+        let kept = met (record { place = k; side = side }) there (or_left _ _ (lt-ltb k events front)) in omega (arith, ints)))
+
+-- in a schedule of a network, two events are within the horizon of each other
+pub network_near : (events : ℕ) (bounds : List Difference) → IsNetwork events bounds → (time : ℕ → ℤ) → IsSchedule bounds time → (x y : ℕ) → x ≤ events → y ≤ events
+    → (time y -ℤ time x) ≤ℤ horizon
+network_near events bounds network time s =
+    network.apart time (λ link there listed. let kept = link_kept bounds link time there s in omega (arith, ints))
+
+-- where each link of a network that is looked at is relaxed, each is
+pub all_relaxed : (events : ℕ) (bounds : List Difference) (time : ℕ → ℤ) → IsNetwork events bounds → AreLimited events bounds time → AreRelaxed bounds time
+all_relaxed events bounds time network met = λ link there. by_test link there (int_lt (arc_of bounds link).weight horizon) refl
+  where
+    by_test : (link : Link) → link.place < length bounds → (b : Bool) → int_lt (arc_of bounds link).weight horizon ≡ b → IsRelaxed bounds time link
+    by_test link there true is = met link there (or_right _ _ is)
+    by_test link there false is =
+        let (from, to) = link_among bounds (events + 1) link (among_events bounds events (events + 1) refl network.named) there in
+        let near = network.apart time met (arc_of bounds link).from (arc_of bounds link).to (omega (arith, from)) (omega (arith, to)) in
+        let wide : horizon ≤ℤ (arc_of bounds link).weight = unlimited (arc_of bounds link).weight is in
+        omega (arith, ints)
+      where
+        unlimited : (w : ℤ) → int_lt w horizon ≡ false → horizon ≤ℤ w
+        unlimited w none = grind (arith, ints)
+
+-- where more bounds are whole, no less is looked at
+pub listed_more : (less more : ℕ) (bounds : List Difference) (link : Link) → less ≤ more → IsListed less bounds link → IsListed more bounds link
+listed_more less more bounds link most listed = elim (cases_lt link.place less) [
+  | inl first ↦ or_left _ _ (lt-ltb link.place more (omega arith))
+  | inr past ↦ or_right _ _ (subst (λ b. (b || int_lt (arc_of bounds link).weight horizon) ≡ true) (le-ltb link.place less past) listed)
+]
+
+-- where nothing fell, each link is relaxed
+pub all_met : (whole : ℕ) (bounds : List Difference) (events : ℕ) (old new : List ℤ) (fresh : List Bool) → events ≤ whole → IsNetwork events bounds → All (NamesAmong (events + 1)) bounds
+    → IsRelaxedBut whole bounds new fresh → ((x : ℕ) → x < events + 1 → times_of new x ≡ times_of old x → is_fresh fresh x ≡ false) → new ≡ old
+    → AreRelaxed bounds (times_of new)
+all_met whole bounds events old new fresh kept network named relaxed stale same = all_relaxed events bounds (times_of new) network (λ link there listed.
+    relaxed link there (listed_more events whole bounds link kept listed) (stale (arc_of bounds link).from (link_among bounds (events + 1) link named there).0 (ap (λ l. times_of l (arc_of bounds link).from) same)))
 
 -- bounds of a plan and more bounds after them
 pub network_of : (events : ℕ) (base extra : List Difference) → take events base ≡ horizon_bounds events → All (NamesEvents events) base → All (NamesEvents events) extra → IsNetwork events (base ++ extra)
@@ -36,7 +80,10 @@ network_before events place bounds past begins named =
 pub network_more : (events : ℕ) (bounds : List Difference) (bound : Difference) → IsNetwork events bounds → NamesEvents events bound → IsNetwork events (bounds ++ bound ∷ [])
 network_more events bounds bound network named = record {
   named = All-push (NamesEvents events) bounds bound network.named named;
-  apart = λ time s. network.apart time (record { origin = s.origin; met = All-left (Meets time) bounds (bound ∷ []) s.met });
+  apart = λ time met. network.apart time (λ link there listed.
+      let same = arc_longer bounds (bound ∷ []) link there in
+      subst (λ (a : Arc). time a.to ≤ℤ (time a.from +ℤ a.weight)) same
+      (met link (omega (arith, there, length-append bounds (bound ∷ []))) (subst (λ (a : Arc). IsTrue (nat_lt link.place events || int_lt a.weight horizon)) (sym same) listed)));
 }
 
 -- a network has no event later after another than the horizon, nor earlier
@@ -57,10 +104,10 @@ network_estimates bounds events start far e within network =
         | inr differs ↦
             let below' : x < events + 1 = omega arith in
             let at = ap (λ l. times_of l x) e ∙ get_or-set_other old start x (pos 0) (pos 0) differs ∙ get_or-replicate (events + 1) x horizon (pos 0) below' in
-            let near = network.apart time s start x within (omega arith) in
+            let near = network_near events bounds network time s start x within (omega arith) in
             omega (arith, ints)
       ];
-      least = λ time s x below. (let near = network.apart time s x start (omega arith) within in omega (arith, ints));
+      least = λ time s x below. (let near = network_near events bounds network time s x start (omega arith) within in omega (arith, ints));
     }
 
 -- estimates for bounds are estimates for more of them
@@ -107,16 +154,15 @@ refused_at_start bounds start far link low named own there same less h =
     omega (arith, ints)
 
 -- and so does one beyond the horizon
-pub refused_beyond : (bounds : List Difference) (start : ℕ) (far : List ℤ) (link : Link) (low : ℕ → ℤ) → All (NamesAmong (length far)) bounds → link.place < length bounds
-    → (times_of far (arc_of bounds link).from +ℤ (arc_of bounds link).weight) ≤ℤ horizon
-    → ¬ IsWithinHorizon (times_of far (arc_of bounds link).from +ℤ (arc_of bounds link).weight) → ¬ IsFloor bounds start far low
-refused_beyond bounds start far link low named there most beyond h =
+pub refused_beyond : (bounds : List Difference) (start : ℕ) (far : List ℤ) (link : Link) (way : ℤ) (low : ℕ → ℤ) → All (NamesAmong (length far)) bounds → link.place < length bounds
+    → (times_of far (arc_of bounds link).from +ℤ (arc_of bounds link).weight) ≤ℤ way → way ≤ℤ horizon → ¬ IsWithinHorizon way → ¬ IsFloor bounds start far low
+refused_beyond bounds start far link way low named there least most beyond h =
     let below = below_way bounds start far link low named there h in
-    let least = h.within (arc_of bounds link).to (link_among bounds (length far) link named there).1 in
+    let lowest = h.within (arc_of bounds link).to (link_among bounds (length far) link named there).1 in
     beyond (omega (arith, ints), most)
 
 -- where each link is relaxed, the estimates, moved so that the origin stands at 0, are a schedule
-relaxed_schedule : (bounds : List Difference) (far : List ℤ) → AreRelaxed bounds (times_of far)
+pub relaxed_schedule : (bounds : List Difference) (far : List ℤ) → AreRelaxed bounds (times_of far)
     → IsSchedule bounds (λ x. times_of far x -ℤ times_of far 0)
 relaxed_schedule bounds far relaxed = record {
   origin = omega (arith, ints);
@@ -155,8 +201,9 @@ back_over bounds count start here from to weight sum link named there is_from is
 )
 
 -- where all estimates are fresh, nothing is claimed
-pub all_fresh : (bounds : List Difference) (far : List ℤ) (fresh : List Bool) (count : ℕ) → fresh ≡ replicate count true → All (NamesAmong count) bounds → IsRelaxedBut bounds far fresh
-all_fresh bounds far fresh count is named = λ link there stale.
+pub all_fresh : (whole : ℕ) (bounds : List Difference) (far : List ℤ) (fresh : List Bool) (count : ℕ) → fresh ≡ replicate count true → All (NamesAmong count) bounds
+    → IsRelaxedBut whole bounds far fresh
+all_fresh whole bounds far fresh count is named = λ link there listed stale.
     absurd (false≢true (sym stale ∙ ap (λ l. is_fresh l (arc_of bounds link).from) is ∙ get_or-replicate count (arc_of bounds link).from true true (link_among bounds count link named there).0))
 
 -- over the distances each link is met
@@ -191,9 +238,9 @@ estimates_push events start bounds bound far long ends h =
     }
 
 -- with one bound more, whose events have fresh estimates then, the other links are still met
-pub relaxed_push : (bounds : List Difference) (bound : Difference) (far : List ℤ) (fresh : List Bool) → bound.from < length fresh → bound.to < length fresh
-    → IsRelaxedBut bounds far fresh → IsRelaxedBut (bounds ++ bound ∷ []) far (set (set fresh bound.from true) bound.to true)
-relaxed_push bounds bound far fresh from to before = λ link there stale.
+pub relaxed_push : (whole : ℕ) (bounds : List Difference) (bound : Difference) (far : List ℤ) (fresh : List Bool) → bound.from < length fresh → bound.to < length fresh
+    → IsRelaxedBut whole bounds far fresh → IsRelaxedBut whole (bounds ++ bound ∷ []) far (set (set fresh bound.from true) bound.to true)
+relaxed_push whole bounds bound far fresh from to before = λ link there listed stale.
     let first : List Bool = set fresh bound.from true in
     let event : ℕ = (arc_of (bounds ++ bound ∷ []) link).from in
     let long = length-set fresh bound.from true in
@@ -202,8 +249,8 @@ relaxed_push bounds bound far fresh from to before = λ link there stale.
     let old : is_fresh fresh (arc_of (bounds ++ bound ∷ []) link).from ≡ false = stale_before fresh bound.from (arc_of (bounds ++ bound ∷ []) link).from from was in
     elim (cases_lt link.place (length bounds)) [
       | inl earlier ↦
-          let same : arc_of (bounds ++ bound ∷ []) link ≡ arc_of bounds link = ap (λ b. arc b link.side) (get_or_append_left bounds (bound ∷ []) _ link.place earlier) in
-          subst (λ (a : Arc). times_of far a.to ≤ℤ (times_of far a.from +ℤ a.weight)) (sym same) (before link earlier (subst (λ (a : Arc). is_fresh fresh a.from ≡ false) same old))
+          let same : arc_of (bounds ++ bound ∷ []) link ≡ arc_of bounds link = arc_longer bounds (bound ∷ []) link earlier in
+          subst (λ (a : Arc). times_of far a.to ≤ℤ (times_of far a.from +ℤ a.weight)) (sym same) (before link earlier (subst (λ (a : Arc). IsTrue (nat_lt link.place whole || int_lt a.weight horizon)) same listed) (subst (λ (a : Arc). is_fresh fresh a.from ≡ false) same old))
       | inr last ↦
           let place : link.place ≡ length bounds = omega (arith, there, length-append bounds (bound ∷ [])) in
           let is : bound_at (bounds ++ bound ∷ []) link.place ≡ bound = get_or_push bounds bound _ link.place (sym place) in

@@ -1,20 +1,8 @@
 -- Rows of looks, by the event at which their links begin.
-use Rattle.std.{proofs.{Common.{◌≡◌, ◌≢◌, inl, inr, ℕ, zero, suc, ◌+◌, ◌-◌, ◌*◌, ◌<◌, ◌≤◌, List, [], ◌∷◌, ◌++◌, length, map, set, take, refl, sym, subst, ap, ◌∙◌, arith}, lemmas.{Bool.{cases_eq, cases_lt}, List.{map-set, map-append, get_or-map, get_or_default, get_or-take, length-map, length-set, length-take, length-append, get_or-set_same, get_or-set_other, get_or_append_left, get_or-append_right, get_or_past, Sorted.{IsNonDecreasingBy-push, IsNonDecreasingBy-short}, Elements.{Contains-push, Contains-append_left, Contains-push_cases}}}}, specs.{Prelude.{Vec, All, slice_index_or}, List.{Contains, Sorted.IsNonDecreasingBy}}}
+use Rattle.std.{proofs.{Common.{◌≡◌, ◌≢◌, inl, inr, ℕ, zero, suc, min, ◌||◌, ◌+◌, ◌-◌, ◌*◌, ◌<◌, ◌≤◌, List, [], ◌∷◌, ◌++◌, length, map, set, take, refl, sym, subst, ap, ◌∙◌, arith}, lemmas.{Bool.{cases_eq, cases_lt}, List.{map-set, map-append, get_or-map, get_or_default, get_or-take, length-map, length-set, length-take, length-append, get_or-set_same, get_or-set_other, get_or_append_left, get_or-append_right, get_or_past, Sorted.{IsNonDecreasingBy-push, IsNonDecreasingBy-short}, Elements.{Contains-push, Contains-append_left, Contains-push_cases}}}}, specs.{Prelude.{Vec, nat_lt, int_lt, IsTrue, slice_index_or}, List.{Contains, Sorted.IsNonDecreasingBy}}}
+use Rattle.stn_time.specs.Time.{horizon}
 use Rattle.stn_net.specs.Difference.{Difference}
-use Rattle.stn_conflict.{specs.{declared.{graph.Direction.{Direction, TheVariants.{Forward, Backward}}, links.Link.Link, outgoing.{Look.Look, Rows.Rows}}, Arcs.{Arc, arc, arc_of, bound_at, rank}, Directions.facing, Search.{across, other_side}, Relaxation.{row_of, HasLink, HasRows, IsCutAt, IsLook, IsRow, NamesAmong, ahead, AreRowsTo, AreFirstRows}}, proofs.{OneCycle.rank_tells, Steps.{place_of_rank, rank_place, rank_within}, Tightness.link_among, Turned.{arc_ahead, arc_listed, length_facing}}}
-
--- what makes a look one at a link of the bounds
-pub is_look : (bounds : List Difference) (bound : Difference) (link : Link) (look : Look) (from : ℕ) → bound ≡ bound_at bounds link.place → look.link ≡ link → from ≡ (arc bound link.side).from
-    → look.to ≡ (arc bound link.side).to → look.onward ≡ (arc bound link.side).weight → look.back ≡ (arc bound (other_side link.side)).weight → IsLook bounds from look
-is_look bounds bound link look from is names begins ends onward back =
-    let arcs : arc_of bounds look.link ≡ arc bound link.side = ap (arc_of bounds) names ∙ ap (λ b. arc b link.side) (sym is) in
-    let across_is : arc_of bounds (across look.link) ≡ arc bound (other_side link.side) = ap (λ l. arc_of bounds (across l)) names ∙ ap (λ b. arc b (other_side link.side)) (sym is) in
-    record {
-      from = ap (λ (a : Arc). a.from) arcs ∙ sym begins;
-      to = ap (λ (a : Arc). a.to) arcs ∙ sym ends;
-      onward = ap (λ (a : Arc). a.weight) arcs ∙ sym onward;
-      back = ap (λ (a : Arc). a.weight) across_is ∙ sym back;
-    }
+use Rattle.stn_conflict.{specs.{declared.{arcs.Direction.Direction, links.Link.Link, outgoing.{Look.Look, Rows.Rows}}, Arcs.{Arc, arc_of, rank}, Directions.facing, Relaxation.{row_of, AreFirstRows, AreRowsTo, HasLink, HasRows, IsCutAt, IsListed, IsLook, IsRow}}, proofs.{OneCycle.rank_tells, Steps.{place_of_rank, rank_place, rank_within}, Tightness.{arc_before, arc_longer}, Turned.{append_facing, length_facing, take_facing}}}
 
 -- a look that is read from a row stands in it
 pub in_row : (row : List Look) (k : ℕ) (none : Look) → k < length row → Contains row (slice_index_or row k none)
@@ -49,6 +37,15 @@ cut_ordered row place count cut ordered = λ i j d before within.
       ap (λ (l : Look). l.link.place) (get_or-take count row j d front),
     )
 
+-- a look at a link that says the same of other bounds
+look_moved : (bounds other : List Difference) (event : ℕ) (look : Look) → look.link.place < length other → arc_of bounds look.link ≡ arc_of other look.link → IsLook bounds event look → IsLook other event look
+look_moved bounds other event look there same is = record {
+  there = there;
+  from = ap (λ (a : Arc). a.from) (sym same) ∙ is.from;
+  to = ap (λ (a : Arc). a.to) (sym same) ∙ is.to;
+  weight = ap (λ (a : Arc). a.weight) (sym same) ∙ is.weight;
+}
+
 module _ {A : Type 0} where
   -- the looks of each row
   abbrev lists : List (Vec Look A) → List (List Look)
@@ -79,8 +76,8 @@ module _ {A : Type 0} where
       only (suc k) = refl
 
   -- empty rows are those of no links
-  pub rows_of_none : (bounds : List Difference) (count : ℕ) (rows : List (Vec Look A)) → length rows ≡ count → ((x : ℕ) → row_of rows x ≡ []) → AreRowsTo bounds count 0 rows
-  rows_of_none bounds count rows long none = record {
+  pub rows_of_none : (whole : ℕ) (bounds : List Difference) (count : ℕ) (rows : List (Vec Look A)) → length rows ≡ count → ((x : ℕ) → row_of rows x ≡ []) → AreRowsTo whole bounds count 0 rows
+  rows_of_none whole bounds count rows long none = record {
     long = long;
     every = λ link below. absurd (omega arith);
     each = λ x look has. absurd (nothing look (subst (λ l. Contains l look) (none x) has));
@@ -102,19 +99,24 @@ module _ {A : Type 0} where
   replaced_other rows from row x apart =
       ap (λ l. slice_index_or l x []) (map-set (λ (r : Vec Look A). r.items) rows from row) ∙ get_or-set_other (lists rows) from x row.items [] apart
 
+  -- a row that is read
+  pub row_is : (rows : List (Vec Look A)) (x : ℕ) (row : Vec Look A) → x < length rows → row ≡ slice_index_or rows x row → row_of rows x ≡ row.items
+  row_is rows x row below is = get_or-map (λ (r : Vec Look A). r.items) rows x row [] below ∙ ap (λ (r : Vec Look A). r.items) (sym is)
+
   -- the next look in its row
-  pub rows_push : (bounds : List Difference) (count seen from : ℕ) (rows : List (Vec Look A)) (row : Vec Look A) (look : Look) → AreRowsTo bounds count seen rows → rank look.link ≡ seen
-      → IsLook bounds from look → from < count → row.items ≡ row_of rows from ++ look ∷ [] → AreRowsTo bounds count (seen + 1) (set rows from row)
-  rows_push bounds count seen from rows row look h at is there items = record {
+  pub rows_push : (whole : ℕ) (bounds : List Difference) (count seen from : ℕ) (rows : List (Vec Look A)) (old row : Vec Look A) (look : Look) → AreRowsTo whole bounds count seen rows
+      → rank look.link ≡ seen → IsLook bounds from look → from < count → old ≡ slice_index_or rows from old → row.items ≡ old.items ++ look ∷ []
+      → AreRowsTo whole bounds count (seen + 1) (set rows from row)
+  rows_push whole bounds count seen from rows old row look h at is there read items = record {
     long = length-set rows from row ∙ h.long;
-    every = λ other below.
+    every = λ other below listed.
         let x = (arc_of bounds other).from in
         elim (cases_eq (rank other) seen) [
           | inl equal ↦
               let e : look.link ≡ other = sym (rank_tells other look.link (equal ∙ sym at)) in
               let begins : x ≡ from = ap (λ l. (arc_of bounds l).from) (sym e) ∙ is.from in
               (look, subst (λ l. Contains l look) (sym (ap (row_of (set rows from row)) begins ∙ here)) (Contains-push (row_of rows from) look), e)
-          | inr less ↦ (let (old, has, link) = h.every other (omega arith) in (old, kept x old has, link))
+          | inr less ↦ (let (old, has, link) = h.every other (omega arith) listed in (old, kept x old has, link))
         ];
     each = λ x other has. of_each x other has (IsLook bounds x other) (λ old. h.each x other old) (λ same e. subst (λ l. IsLook bounds x l) e (subst (λ z. IsLook bounds z look) (sym same) is));
     below = λ x other has. of_each x other has (rank other.link < seen + 1) (λ old. omega (arith, h.below x other old)) (λ same e. omega (arith, ap (λ (l : Look). rank l.link) e));
@@ -129,7 +131,7 @@ module _ {A : Type 0} where
   }
     where
       here : row_of (set rows from row) from ≡ row_of rows from ++ look ∷ []
-      here = replaced_here rows from row (omega (arith, h.long)) ∙ items
+      here = replaced_here rows from row (omega (arith, h.long)) ∙ items ∙ ap (λ l. l ++ look ∷ []) (sym (row_is rows from old (omega (arith, h.long)) read))
 
       others : (x : ℕ) → x ≢ from → row_of (set rows from row) x ≡ row_of rows x
       others x apart = replaced_other rows from row x apart
@@ -150,12 +152,26 @@ module _ {A : Type 0} where
         | inr apart ↦ old (subst (λ l. Contains l other) (others x apart) has)
       ]
 
+  -- the next link is not looked at
+  pub rows_over : (whole : ℕ) (bounds : List Difference) (count seen : ℕ) (rows : List (Vec Look A)) (link : Link) → AreRowsTo whole bounds count seen rows → rank link ≡ seen
+      → ¬ IsListed whole bounds link → AreRowsTo whole bounds count (seen + 1) rows
+  rows_over whole bounds count seen rows link h at none = record {
+    long = h.long;
+    every = λ other below listed. elim (cases_eq (rank other) seen) [
+      | inl equal ↦ absurd (none (subst (IsListed whole bounds) (rank_tells other link (equal ∙ sym at)) listed))
+      | inr less ↦ h.every other (omega arith) listed
+    ];
+    each = h.each;
+    below = λ x look has. omega (arith, h.below x look has);
+    ordered = h.ordered;
+  }
+
   -- a row in place of one that has the same looks
-  pub rows_kept : (bounds : List Difference) (count seen from : ℕ) (rows : List (Vec Look A)) (row : Vec Look A) → AreRowsTo bounds count seen rows → from < count
-      → row.items ≡ row_of rows from → AreRowsTo bounds count seen (set rows from row)
-  rows_kept bounds count seen from rows row h there items = record {
+  pub rows_kept : (whole : ℕ) (bounds : List Difference) (count seen from : ℕ) (rows : List (Vec Look A)) (old row : Vec Look A) → AreRowsTo whole bounds count seen rows → from < count
+      → old ≡ slice_index_or rows from old → row.items ≡ old.items → AreRowsTo whole bounds count seen (set rows from row)
+  rows_kept whole bounds count seen from rows old row h there read items = record {
     long = length-set rows from row ∙ h.long;
-    every = λ link below. subst (λ l. HasLink l link) (sym (same (arc_of bounds link).from)) (h.every link below);
+    every = λ link below listed. subst (λ l. HasLink l link) (sym (same (arc_of bounds link).from)) (h.every link below listed);
     each = λ x look has. h.each x look (subst (λ l. Contains l look) (same x) has);
     below = λ x look has. h.below x look (subst (λ l. Contains l look) (same x) has);
     ordered = λ x. subst (IsNonDecreasingBy (λ l. l.link.place)) (sym (same x)) (h.ordered x);
@@ -163,85 +179,87 @@ module _ {A : Type 0} where
     where
       same : (x : ℕ) → row_of (set rows from row) x ≡ row_of rows x
       same x = elim (cases_eq x from) [
-        | inl e ↦ ap (row_of (set rows from row)) e ∙ replaced_here rows from row (omega (arith, h.long)) ∙ items ∙ ap (row_of rows) (sym e)
+        | inl e ↦ ap (row_of (set rows from row)) e ∙ replaced_here rows from row (omega (arith, h.long)) ∙ items ∙ sym (row_is rows from old (omega (arith, h.long)) read) ∙ ap (row_of rows) (sym e)
         | inr apart ↦ replaced_other rows from row x apart
       ]
 
   -- the rows of the first links of bounds are those of these, with more bounds after them
-  pub rows_longer : (bounds more : List Difference) (count : ℕ) (rows : Rows A) → AreFirstRows bounds count rows → AreFirstRows (bounds ++ more) count rows
-  rows_longer bounds more count rows h =
+  pub rows_longer : (direction : Direction) (whole : ℕ) (bounds more : List Difference) (count : ℕ) (rows : Rows A) → AreFirstRows direction whole bounds count rows
+      → AreFirstRows direction whole (bounds ++ more) count rows
+  rows_longer direction whole bounds more count rows h =
       let far = h.within in
       let stand = h.stand in
-      let same : (link : Link) → rank link < rows.added → arc_of bounds link ≡ arc_of (bounds ++ more) link =
-      λ link below. ap (λ b. arc b link.side) (sym (get_or_append_left bounds more _ link.place (omega arith))) in
-      let back : (link : Link) → rank link < rows.added → arc_of bounds (across link) ≡ arc_of (bounds ++ more) (across link) =
-      λ link below. ap (λ b. arc b (across link).side) (sym (get_or_append_left bounds more _ link.place (omega arith))) in
+      let all = append_facing direction bounds more in
+      let long = length_facing direction bounds in
+      let same : (link : Link) → rank link < rows.added → arc_of (facing direction bounds ++ facing direction more) link ≡ arc_of (facing direction bounds) link =
+      λ link below. arc_longer (facing direction bounds) (facing direction more) link (rank_place link (length (facing direction bounds)) (omega arith)) in
       record {
+        faced = h.faced;
+        choice = h.choice;
         within = omega (arith, far, length-append bounds more);
-        stand = record {
+        stand = rw all (record {
           long = stand.long;
-          every = λ link below. subst (λ (a : Arc). HasLink (row_of rows.outgoing.items a.from) link) (same link below) (stand.every link below);
-          each = λ x look has.
-              let below = stand.below x look has in
-              let is = stand.each x look has in
-              record {
-                from = ap (λ (a : Arc). a.from) (sym (same look.link below)) ∙ is.from;
-                to = ap (λ (a : Arc). a.to) (sym (same look.link below)) ∙ is.to;
-                onward = ap (λ (a : Arc). a.weight) (sym (same look.link below)) ∙ is.onward;
-                back = ap (λ (a : Arc). a.weight) (sym (back look.link below)) ∙ is.back;
-              };
+          every = λ link below listed. subst (λ (a : Arc). HasLink (row_of rows.outgoing.items a.from) link) (sym (same link below))
+              (stand.every link below (subst (λ (a : Arc). IsTrue (nat_lt link.place whole || int_lt a.weight horizon)) (same link below) listed));
+          each = λ x look has. look_moved (facing direction bounds) (facing direction bounds ++ facing direction more) x look
+              (omega (arith, (stand.each x look has).there, length-append (facing direction bounds) (facing direction more))) (sym (same look.link (stand.below x look has))) (stand.each x look has);
           below = stand.below;
           ordered = stand.ordered;
-        };
+        });
       }
 
-  -- the looks of a row at links before a place are those of the bounds before it, turned round or not
-  pub row_cut : (direction : Direction) (events end x count : ℕ) (bounds : List Difference) (rows : List (Vec Look A)) → HasRows events end bounds rows → IsCutAt (row_of rows x) end count
-      → IsRow (record { direction = direction; events = events; bounds = facing direction (take end bounds) }) x (take count (row_of rows x))
-  row_cut direction events end x count bounds rows h cut =
-      let row = row_of rows x in
-      let long : length (facing direction (take end bounds)) ≡ end = length_facing direction (take end bounds) ∙ omega (arith, length-take end bounds, h.within) in
-      record {
-        every = λ link there from.
-            let below : link.place < end = omega arith in
-            let (begins, _, _) = arc_listed direction bounds end link below h.within in
-            let has = h.stand.every link (rank_within (length bounds) link (omega (arith, h.within))) in
-            cut_has row end count link cut below (subst (λ z. HasLink (row_of rows z) link) (sym begins ∙ from) has);
-        each = λ look has.
-            let (in_row, below) = cut_in row end count look cut has in
-            let (begins, ends, weight) = arc_listed direction bounds end look.link below h.within in
-            let is = h.stand.each x look in_row in
-            record { there = omega arith; from = begins ∙ is.from; to = ends ∙ is.to; weight = weight ∙ told direction look is };
-        ordered = cut_ordered row end count cut (h.stand.ordered x);
-      }
+  -- the same, as the rows themselves say
+  pub first_own : (direction : Direction) (whole : ℕ) (bounds : List Difference) (count : ℕ) (rows : Rows A) → AreFirstRows direction whole bounds count rows
+      → AreFirstRows rows.direction rows.whole bounds (length rows.outgoing.items) rows
+  first_own direction whole bounds count rows h =
+      subst (λ n. AreFirstRows rows.direction rows.whole bounds n rows) (sym h.stand.long)
+      (subst (λ d. AreFirstRows d rows.whole bounds count rows) (sym h.faced) (subst (λ w. AreFirstRows direction w bounds count rows) (sym h.choice) h))
+
+  -- the looks of a row at links before a place are those of the bounds before it
+  pub row_cut : (events end x count : ℕ) (bounds : List Difference) (rows : Rows A) → HasRows events end bounds rows → IsCutAt (row_of rows.outgoing.items x) end count
+      → IsRow (record { direction = rows.direction; whole = rows.whole; events = events; bounds = facing rows.direction (take end bounds) }) x (take count (row_of rows.outgoing.items x))
+  row_cut events end x count bounds rows h cut = rw (take_facing rows.direction end bounds) (record {
+    every = λ link there listed from.
+        let below : link.place < end = omega (arith, there, shorter) in
+        let same = arc_before all end link below in
+        let has = h.stand.first.stand.every link (omega (arith, h.stand.all, rank_within (length bounds) link (omega (arith, h.within)))) (subst (λ (a : Arc). IsTrue (nat_lt link.place rows.whole || int_lt a.weight horizon)) same listed) in
+        cut_has row end count link cut below (subst (λ z. HasLink (row_of rows.outgoing.items z) link) (ap (λ (a : Arc). a.from) (sym same) ∙ from) has);
+    each = λ look has.
+        let (in_row, below) = cut_in row end count look cut has in
+        look_moved all (take end all) x look (omega (arith, below, shorter, h.within, length_facing rows.direction bounds)) (sym (arc_before all end look.link below)) (h.stand.first.stand.each x look in_row);
+    ordered = cut_ordered row end count cut (h.stand.first.stand.ordered x);
+  })
     where
-      told : (direction : Direction) (look : Look) → IsLook bounds x look → arc_ahead direction bounds look.link ≡ ahead direction look
-      told Forward look is = is.onward
-      told Backward look is = is.back
+      all : List Difference
+      all = facing rows.direction bounds
+
+      row : List Look
+      row = row_of rows.outgoing.items x
+
+      shorter : length (take end all) ≡ min end (length all)
+      shorter = length-take end all
 
   -- rows of the first links of bounds, without the looks at links of bounds from a place on
-  pub rows_cut : (bounds more : List Difference) (count place : ℕ) (old new : Rows A) → place ≡ length bounds → AreFirstRows (bounds ++ more) count old
+  pub rows_cut : (direction : Direction) (whole : ℕ) (bounds more : List Difference) (count place : ℕ) (old new : Rows A) → place ≡ length bounds
+      → AreFirstRows direction whole (bounds ++ more) count old → new.direction ≡ old.direction → new.whole ≡ old.whole
       → length new.outgoing.items ≡ count → ((x : ℕ) → x < count → AreCut (row_of old.outgoing.items x) place (row_of new.outgoing.items x))
-      → new.added ≤ 2 * place → ((rank : ℕ) → rank < old.added → rank < 2 * place → rank < new.added) → new.added ≤ old.added → AreFirstRows bounds count new
-  rows_cut bounds more count place old new is h long cut fits most less = record {
+      → new.added ≤ 2 * place → ((rank : ℕ) → rank < old.added → rank < 2 * place → rank < new.added) → new.added ≤ old.added → AreFirstRows direction whole bounds count new
+  rows_cut direction whole bounds more count place old new is h turned chosen long cut fits most less = record {
+    faced = turned ∙ h.faced;
+    choice = chosen ∙ h.choice;
     within = omega arith;
     stand = record {
       long = long;
-      every = λ link below.
-          let x = (arc_of bounds link).from in
-          let front : link.place < place = omega (arith, rank_place link place (omega arith)) in
-          let has = subst (λ (a : Arc). HasLink (row_of old.outgoing.items a.from) link) (sym (same link front)) (h.stand.every link (omega arith)) in
+      every = λ link below listed.
+          let x = (arc_of (facing direction bounds) link).from in
+          let front : link.place < place = rank_place link place (omega arith) in
+          let has = subst (λ (a : Arc). HasLink (row_of old.outgoing.items a.from) link) (same link front)
+          (h.stand.every link (omega arith) (subst (λ (a : Arc). IsTrue (nat_lt link.place whole || int_lt a.weight horizon)) (sym (same link front)) listed)) in
           let (n, at, row) = cut x (there old.outgoing.items x link h.stand.long has) in
           subst (λ l. HasLink l link) (sym row) (cut_has (row_of old.outgoing.items x) place n link at front has);
       each = λ x look has.
           let (before, front) = looked x look has in
-          let stood = h.stand.each x look before in
-          record {
-            from = ap (λ (a : Arc). a.from) (same look.link front) ∙ stood.from;
-            to = ap (λ (a : Arc). a.to) (same look.link front) ∙ stood.to;
-            onward = ap (λ (a : Arc). a.weight) (same look.link front) ∙ stood.onward;
-            back = ap (λ (a : Arc). a.weight) (same (across look.link) front) ∙ stood.back;
-          };
+          look_moved (facing direction (bounds ++ more)) (facing direction bounds) x look (omega (arith, front, is, length_facing direction bounds)) (same look.link front) (h.stand.each x look before);
       below = λ x look has.
           let (before, front) = looked x look has in
           most (rank look.link) (h.stand.below x look before) (rank_within place look.link front);
@@ -254,32 +272,12 @@ module _ {A : Type 0} where
     };
   }
     where
-      same : (link : Link) → link.place < place → arc_of bounds link ≡ arc_of (bounds ++ more) link
-      same link below = ap (λ b. arc b link.side) (sym (get_or_append_left bounds more _ link.place (omega arith)))
+      same : (link : Link) → link.place < place → arc_of (facing direction (bounds ++ more)) link ≡ arc_of (facing direction bounds) link
+      same link below =
+          ap (λ l. arc_of l link) (append_facing direction bounds more)
+          ∙ arc_longer (facing direction bounds) (facing direction more) link (omega (arith, below, is, length_facing direction bounds))
 
       looked : (x : ℕ) (look : Look) → Contains (row_of new.outgoing.items x) look → Contains (row_of old.outgoing.items x) look × (look.link.place < place)
       looked x look has =
           let (n, at, row) = cut x (omega (arith, there new.outgoing.items x look.link long (look, has, refl))) in
           cut_in (row_of old.outgoing.items x) place n look at (subst (λ l. Contains l look) row has)
-
-  -- a row that is read
-  pub row_is : (rows : List (Vec Look A)) (x : ℕ) (row : Vec Look A) → x < length rows → row ≡ slice_index_or rows x row → row_of rows x ≡ row.items
-  row_is rows x row below is = get_or-map (λ (r : Vec Look A). r.items) rows x row [] below ∙ ap (λ (r : Vec Look A). r.items) (sym is)
-
-  module _ (bounds : List Difference) (count : ℕ) (rows : List (Vec Look A)) (bound : Difference) (link : Link) (look : Look) (from : ℕ) (row new : Vec Look A) (named : All (NamesAmong count) bounds)
-      (there : link.place < length bounds) (is : bound ≡ bound_at bounds link.place) (begins : from ≡ (arc bound link.side).from) (at : row ≡ slice_index_or rows from row) where
-    from_among : from < count
-    from_among = omega (arith, begins, (link_among bounds count link named there).0, ap (λ b. (arc b link.side).from) is)
-
-    -- the next link's look in its row
-    pub rows_next : (seen next : ℕ) → rank link ≡ seen → seen + 1 ≡ next → look.link ≡ link → look.to ≡ (arc bound link.side).to → look.onward ≡ (arc bound link.side).weight → look.back ≡ (arc bound (other_side link.side)).weight
-        → AreRowsTo bounds count seen rows → new.items ≡ row.items ++ look ∷ [] → AreRowsTo bounds count next (set rows from new)
-    rows_next seen next ranked more names ends onward back h items =
-        let read = row_is rows from row (omega (arith, from_among, h.long)) at in
-        let whole = rows_push bounds count seen from rows new look h (ap rank names ∙ ranked) (is_look bounds bound link look from is names begins ends onward back) from_among
-        (items ∙ ap (λ l. l ++ look ∷ []) (sym read)) in
-        subst (λ n. AreRowsTo bounds count n (set rows from new)) more whole
-
-    -- nothing more in it
-    pub rows_same : (seen : ℕ) → AreRowsTo bounds count seen rows → new.items ≡ row.items → AreRowsTo bounds count seen (set rows from new)
-    rows_same seen h items = rows_kept bounds count seen from rows new h from_among (items ∙ sym (row_is rows from row (omega (arith, from_among, h.long)) at))

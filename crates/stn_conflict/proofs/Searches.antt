@@ -1,7 +1,7 @@
 -- How a search goes on.
-use Rattle.std.{proofs.{Common.{◌≡◌, ℕ, List, Option, Some, None, Result, Ok, Err, length, refl, sym, subst, ap, ◌∙◌, arith}, lemmas.Bool.false≢true}, specs.{Prelude.{ℤ, All, IfSome, IfNone, OnOk, is_ok, is_err, true}, Option.option_or}}
+use Rattle.std.{proofs.{Common.{◌≡◌, ℕ, ◌+◌, ◌≤◌, List, Option, Some, None, Result, Ok, Err, length, refl, sym, subst, ap, ◌∙◌, arith}, lemmas.Bool.false≢true}, specs.{Prelude.{ℤ, All, IfSome, IfNone, OnOk, is_ok, is_err, true}, Option.option_or}}
 use Rattle.stn_net.specs.{Difference.Difference, Schedule.{HasSchedule, times_of}}
-use Rattle.stn_conflict.{specs.{declared.relaxation.Search.Search, Relaxation.{AreDistances, AreRelaxed, HasTables, IsBegun, IsFloor, IsSearch, Lowers, NamesAmong}}, proofs.Relaxing.{floor_of, settled}}
+use Rattle.stn_conflict.{specs.{declared.relaxation.Search.Search, Relaxation.{AreDistances, AreRelaxed, HasTables, IsBegun, IsFloor, IsNetwork, IsSearch, Lowers, NamesAmong, Searched}}, proofs.Relaxing.{floor_of, settled}}
 
 module _ {A : Type 0} where
   -- of as many events as it has estimates
@@ -9,19 +9,25 @@ module _ {A : Type 0} where
   tables_of count search h = subst (λ n. HasTables n search) (sym h.far) h
 
   -- a search has begun
-  pub begun_of : (bounds : List Difference) (count : ℕ) (search : Search A) → IsSearch bounds search.start count search → IsBegun bounds count search
-  begun_of bounds count search h = record {
+  pub begun_of : (searched : Searched) (search : Search A) → IsNetwork searched.events searched.bounds → searched.events ≤ searched.whole → IsSearch searched.bounds search.start (searched.events + 1) search
+      → IsBegun searched search
+  begun_of searched search network kept h = record {
     tables = h.tables;
-    named = subst (λ n. All (NamesAmong n) bounds) h.tables.far h.estimates.named;
+    network = network;
+    kept = kept;
+    named = subst (λ n. All (NamesAmong n) searched.bounds) h.tables.far h.estimates.named;
     start_named = omega (arith, h.estimates.start_named, h.tables.far);
     own = h.estimates.own;
   }
 
-  module _ (bounds : List Difference) (count : ℕ) (old new : Search A) (was : IsSearch bounds old.start count old) (begun : IsBegun bounds count new) (start : new.start ≡ old.start)
-      (lowers : Lowers bounds old.start old.far.items new.far.items) where
+  module _ (searched : Searched) (old new : Search A) (was : IsSearch searched.bounds old.start (searched.events + 1) old) (begun : IsBegun searched new) (start : new.start ≡ old.start)
+      (lowers : Lowers searched.bounds old.start old.far.items new.far.items) where
+    abbrev bounds : List Difference
+    bounds = searched.bounds
+
     -- and is one still after its estimates were lowered
-    pub searched : IsSearch bounds old.start count new
-    searched = record {
+    pub still_search : IsSearch bounds old.start (searched.events + 1) new
+    still_search = record {
       tables = begun.tables;
       from = start;
       estimates = record {
@@ -37,7 +43,7 @@ module _ {A : Type 0} where
         (met : OnOk result (AreRelaxed bounds (times_of new.far.items))) where
       -- its estimates are the distances, or no schedule is left
       pub found_all : is_ok result ≡ true → HasSchedule bounds × AreDistances bounds old.start new.far.items
-      found_all told = settled bounds old.start new.far.items searched.estimates (from_ok result (AreRelaxed bounds (times_of new.far.items)) told met)
+      found_all told = settled bounds old.start new.far.items still_search.estimates (from_ok result (AreRelaxed bounds (times_of new.far.items)) told met)
         where
           from_ok : {T E : Type 0} (r : Result T E) (P : Type 0) → is_ok r ≡ true → OnOk r P → P
           from_ok (Ok x) P t h = h
@@ -49,6 +55,11 @@ module _ {A : Type 0} where
           unless : {T E : Type 0} (r : Result T E) → (is_err r ≡ true → ⊥) → is_ok r ≡ true
           unless (Ok x) not = refl
           unless (Err e) not = absurd (not refl)
+
+-- what is so unless it was refused
+pub unrefused : {T E : Type 0} (r : Result T E) (P : Type 0) → (is_err r ≡ true → ⊥) → OnOk r P → P
+unrefused (Ok x) P not h = h
+unrefused (Err e) P not h = absurd (not refl)
 
 -- what holds of either holds of the first of two that is there
 pub some_or : {X : Type 0} (P : X → Type 0) (one other : Option X) → IfSome one P → IfSome other P → IfSome (option_or one other) P

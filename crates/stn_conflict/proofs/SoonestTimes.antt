@@ -2,7 +2,7 @@
 use Rattle.std.{proofs.{Common.{◌≡◌, ℕ, ℤ, pos, ◌+◌, ◌≤◌, ◌≤ℤ◌, neg_ℤ, Bool, List, ◌++◌, length, map, sym, subst, append_assoc, arith}, lemmas.{Int.ints, List.{get_or-map, Elements.All-append}}}, specs.Prelude.{Vec, All, Option, Some, None, MatchOption}}
 use Rattle.stn_time.specs.Time.{horizon}
 use Rattle.stn_net.{specs.{Difference.{Difference, NamesEvents}, Schedule.{IsSchedule, HasSchedule, times_of}, Windows.{Window.IsInWindow, Dispatch.{IsLeft, CanWaitUntil}, Leading.AreFloorsBelow, Soonest.{AreEarliest, AreLatest, AreSoonest}}}, proofs.{Readiness.left_within, Ends.{earliest_of_tightest, latest_of_tightest}, Soonest.{waits_above, soonest_of_earliest}}}
-use Rattle.stn_conflict.specs.{declared.relaxation.Search.Search, Distances.{AreDistancesFrom, AreDistancesTo}, Relaxation.{AreDistances, HasTables, IsNetwork}}
+use Rattle.stn_conflict.{specs.{declared.relaxation.Search.Search, Distances.{AreDistancesFrom, AreDistancesTo}, Relaxation.{AreDistances, HasTables, IsNetwork}}, proofs.Relaxing.network_near}
 
 -- the distances that a search has found
 pub distances_of : {A : Type 0} (bounds : List Difference) (events event : ℕ) (search : Search A) → HasTables (events + 1) search × AreDistances bounds event search.far.items
@@ -31,7 +31,7 @@ module _ (base extra floors : List Difference) (events : ℕ) (done : List Bool)
   by_horizon : (times : ℕ → ℤ) → IsSchedule (base ++ extra) times → (event : ℕ) → IsLeft done event → times event ≤ℤ horizon
   by_horizon times schedule event left =
       let origin = schedule.origin in
-      let near = network.apart times schedule 0 event (omega arith) (omega (arith, left_within done event left)) in
+      let near = network_near events (base ++ extra) network times schedule 0 event (omega arith) (omega (arith, left_within done event left)) in
       omega (arith, ints)
 
   -- the earliest times of the bounds and the floors are the soonest of the bounds

@@ -1,4 +1,4 @@
-use Rattle.std.{proofs.{Common.{◌≡◌, ◌≢◌, inl, inr, ℕ, zero, suc, ◌+◌, ◌*◌, ◌<◌, ◌≤◌, Option, Some, List, [], ◌∷◌, ◌++◌, length, eqb, eqb-true, eq-eqb, sym, subst, ap, refl, ◌∙◌, arith, to_z, of_z, w64}, lemmas.{List.{get_or_default, reverse-append}, Bool.{cases_eq, cases_lt}, Int.ints}}, specs.{Prelude.{ℤ, ◌+ℤ◌, IsTrue, reverse, slice_index_or}, List.AllByRecursion}}
+use Rattle.std.{proofs.{Common.{◌≡◌, ◌≢◌, inl, inr, ℕ, zero, suc, ◌+◌, ◌*◌, ◌<◌, ◌≤◌, Option, Some, lt-ltb, List, [], ◌∷◌, ◌++◌, length, eqb, eqb-true, eq-eqb, sym, subst, ap, refl, ◌∙◌, arith, to_z, of_z, w64}, lemmas.{List.{get_or_default, reverse-append}, Bool.{cases_eq, cases_lt, or_left}, Int.ints}}, specs.{Prelude.{ℤ, ◌+ℤ◌, IsTrue, reverse, slice_index_or}, List.AllByRecursion}}
 use Rattle.stn_time.specs.Time.{IsWithinHorizon}
 use Rattle.stn_net.specs.{Difference.Difference, Matrix.Tightest.IsTightest}
 use Rattle.stn_conflict.{specs.{declared.{links.{Link.Link, Side.{Side, TheVariants.{Upper, Lower}}}, outgoing.Look.Look}, Arcs.{arc, arc_of, bound_at, rank, side_rank, IsChain}, Named.{IsTight, IsLevel, IsLevelStep, IsFirstStep}, Relaxation.{HasLink, IsRow, Searched}, Search.{other_side, across, HasLevels, HasNoStep, IsFirstStepTo}}, proofs.{Tightness.{tight_from_sum, sum_from_tight}, OneCycle.{link_same, level_unique}}}
@@ -108,10 +108,10 @@ passed_more bounds start seen row look there here none passed = λ k other below
       | inr differs ↦ passed k other (omega arith) at
     ]
 
-module _ (searched : Searched) (start event seen : ℕ) (row : List Look) (is : IsRow searched event row) where
+module _ (searched : Searched) (start event seen : ℕ) (row : List Look) (whole : length searched.bounds ≤ searched.whole) (is : IsRow searched event row) where
   -- a link that ends at the event stands in its row, across
   across_in_row : (link : Link) → link.place < length searched.bounds → (arc_of searched.bounds link).to ≡ event → HasLink row (across link)
-  across_in_row link there ends = is.every (across link) there ((across_ends searched.bounds link).0 ∙ ends)
+  across_in_row link there ends = is.every (across link) there (or_left _ _ (lt-ltb link.place searched.whole (omega arith))) ((across_ends searched.bounds link).0 ∙ ends)
 
   -- the first link of the event's row that is across from a step is across from the first step to the event
   pub first_in_row : (look : Look) → seen < length row → slice_index_or row seen look ≡ look → ArePassed searched.bounds start row seen

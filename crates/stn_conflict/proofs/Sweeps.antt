@@ -2,7 +2,7 @@
 -- and be a floor still.
 use Rattle.std.{proofs.{Common.{◌≡◌, inl, inr, ℕ, zero, suc, ◌+◌, ◌<◌, ◌≤◌, Bool, false, List, length, refl, subst, arith}, lemmas.{Int.{ints, by_lt_z}, Bool.{cases_eq, cases_lt}}}, specs.Prelude.{ℤ, pos, negsuc, ◌+ℤ◌, ◌-ℤ◌, ◌≤ℤ◌, ◌<ℤ◌, All, unsigned_abs}}
 use Rattle.stn_net.specs.{Difference.Difference, Schedule.times_of}
-use Rattle.stn_conflict.{specs.{declared.links.Link.Link, Arcs.arc_of, Relaxation.{HasFallen, IsFloor, IsRelaxedBut, Lowers, NamesAmong, is_fresh}}, proofs.Tightness.link_among}
+use Rattle.stn_conflict.{specs.{declared.links.Link.Link, Arcs.arc_of, Relaxation.{AreLimited, HasFallen, IsFloor, IsNetwork, IsRelaxedBut, Lowers, NamesAmong, is_fresh}}, proofs.{Relaxing.{all_relaxed, listed_more}, Tightness.link_among}}
 
 -- a floor, and no floor is above it
 pub record IsHighest (bounds : List Difference) (start : ℕ) (far : List ℤ) (top : ℕ → ℤ) : Type 0 where
@@ -116,9 +116,10 @@ some_highest bounds start far low floor none = climb (gap low far + 1) low floor
           (λ most. most);
     })
 
-module _ (bounds : List Difference) (start : ℕ) (first mid new : List ℤ) (fresh : List Bool) (top : ℕ → ℤ) (highest : IsHighest bounds start first top)
+module _ (whole events : ℕ) (bounds : List Difference) (start : ℕ) (first mid new : List ℤ) (fresh : List Bool) (top : ℕ → ℤ) (kept : events ≤ whole) (network : IsNetwork events bounds)
+    (highest : IsHighest bounds start first top)
     (before : Lowers bounds start first mid) (sweep : Lowers bounds start mid new) (named : All (NamesAmong (length new)) bounds) (own : times_of new start ≡ pos 0)
-    (relaxed : IsRelaxedBut bounds new fresh) (stale : (x : ℕ) → x < length new → times_of new x ≡ times_of mid x → is_fresh fresh x ≡ false) where
+    (relaxed : IsRelaxedBut whole bounds new fresh) (stale : (x : ℕ) → x < length new → times_of new x ≡ times_of mid x → is_fresh fresh x ≡ false) where
   abbrev lifted : List ℤ → ℕ → ℕ
   lifted far x = sign_of (times_of far x -ℤ top x)
 
@@ -145,8 +146,8 @@ module _ (bounds : List Difference) (start : ℕ) (first mid new : List ℤ) (fr
       (λ none. (let zero = sign_else (times_of new x -ℤ top x) none in omega (arith, ints)))
 
   module _ (all : (x : ℕ) → x < length new → lifted mid x ≤ lifted new x) where
-    raised_met : (link : Link) → link.place < length bounds → raised (arc_of bounds link).to ≤ℤ (raised (arc_of bounds link).from +ℤ (arc_of bounds link).weight)
-    raised_met link there =
+    raised_met : AreLimited events bounds raised
+    raised_met link there listed =
         let (begins, ends) = link_among bounds (length new) link named there in
         let x : ℕ = (arc_of bounds link).from in
         let y : ℕ = (arc_of bounds link).to in
@@ -157,7 +158,7 @@ module _ (bounds : List Difference) (start : ℕ) (first mid new : List ℤ) (fr
             | inl none ↦
                 let was = all (arc_of bounds link).from begins in
                 let (at, at_mid) = exact (arc_of bounds link).from begins none in
-                let kept = relaxed link there (stale (arc_of bounds link).from begins (omega (arith, ints))) in
+                let kept = relaxed link there (listed_more events whole bounds link kept listed) (stale (arc_of bounds link).from begins (omega (arith, ints))) in
                 omega (arith, ints)
             | inr some ↦ absurd (omega (arith, sign_most (times_of new (arc_of bounds link).to -ℤ top (arc_of bounds link).to)))
           ]
@@ -186,7 +187,7 @@ module _ (bounds : List Difference) (start : ℕ) (first mid new : List ℤ) (fr
           own = (let zero = top_floor.own in let none = sign_else (times_of new start -ℤ top start) (omega (arith, ints)) in omega (arith, ints));
           within = λ x there. (let h = top_floor.within x there in omega (arith, ints));
           below = λ x there. (let most = raised_most x (omega arith) in let a = before.fall x in let b = sweep.fall x in omega (arith, ints));
-          met = raised_met;
+          met = all_relaxed events bounds raised network raised_met;
         }
 
   -- so fewer are above it after a sweep that lowers something

@@ -1,4 +1,4 @@
-use Rattle.std.{proofs.{Common.{◌≡◌, ℕ, ◌<◌, List, length, take, sym, subst, ap, ◌∙◌, arith}, lemmas.{Int.ints, List.{get_or-take, Elements.All-take}}}, specs.{Prelude.{ℤ, pos, ◌+ℤ◌, ◌-ℤ◌, ◌≤ℤ◌}, List.All}}
+use Rattle.std.{proofs.{Common.{◌≡◌, ℕ, ◌<◌, List, ◌++◌, length, take, sym, subst, ap, ◌∙◌, arith}, lemmas.{Int.ints, List.{get_or-take, get_or_append_left, Elements.All-take}}}, specs.{Prelude.{ℤ, pos, ◌+ℤ◌, ◌-ℤ◌, ◌≤ℤ◌}, List.All}}
 use Rattle.stn_net.{specs.{Difference.Difference, Schedule.{Meets, IsSchedule}, Matrix.Tightest.IsTightest}, proofs.Tightest.tightest_unique}
 use Rattle.stn_conflict.specs.{declared.links.{Link.Link, Side.{Side, TheVariants.{Upper, Lower}}}, Arcs.{arc, arc_of, bound_at}, Relaxation.NamesAmong, Named.IsTight}
 
@@ -31,6 +31,10 @@ link_reaches bounds start link m n there near far =
 -- a link of the bounds before a place is the same link of all the bounds
 pub arc_before : (bounds : List Difference) (place : ℕ) (link : Link) → link.place < place → arc_of (take place bounds) link ≡ arc_of bounds link
 arc_before bounds place link below = ap (λ b. arc b link.side) (get_or-take place bounds link.place _ below)
+
+-- and so is one of the bounds, with more after them
+pub arc_longer : (bounds more : List Difference) (link : Link) → link.place < length bounds → arc_of (bounds ++ more) link ≡ arc_of bounds link
+arc_longer bounds more link there = ap (λ b. arc b link.side) (get_or_append_left bounds more _ link.place there)
 
 -- a link is tight where the tightest differences to its ends differ by its weight
 pub tight_from_sum : (bounds : List Difference) (start : ℕ) (link : Link) (m n : ℤ) → link.place < length bounds → IsTightest bounds start (arc_of bounds link).from m → IsTightest bounds start (arc_of bounds link).to n → m +ℤ (arc_of bounds link).weight ≡ n → IsTight bounds start link

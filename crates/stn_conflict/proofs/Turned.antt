@@ -1,6 +1,7 @@
-use Rattle.std.{proofs.{Common.{◌≡◌, ℕ, ◌<◌, ◌≤◌, List, length, map, take, refl, subst, sym, ap, ◌∙◌, arith}, Math.IntN.neg_ℤ-neg_ℤ, lemmas.{Int.ints, List.{get_or-map, get_or-take, take-map, length-map, length-take, Elements.All-map}}}, specs.Prelude.{ℤ, neg_ℤ}}
+use Rattle.std.{proofs.{Common.{◌≡◌, ℕ, Bool, true, false, ◌||◌, ◌<◌, ◌≤◌, List, ◌++◌, length, map, take, refl, subst, sym, ap, ◌∙◌, arith}, Math.IntN.neg_ℤ-neg_ℤ, lemmas.{Int.ints, List.{get_or-map, get_or-take, map-append, take-map, length-map, length-take, Elements.All-map}}}, specs.Prelude.{ℤ, neg_ℤ, ◌+ℤ◌, ◌≤ℤ◌, nat_lt, int_lt, IsTrue, All}}
+use Rattle.stn_time.specs.Time.{horizon}
 use Rattle.stn_net.specs.{Difference.{Difference, NamesEvents}, Schedule.{Meets, IsSchedule, HasSchedule}, Matrix.Tightest.IsTightest}
-use Rattle.stn_conflict.specs.{declared.{graph.Direction.{Direction, TheVariants.{Forward, Backward}}, links.{Link.Link, Side.{Side, TheVariants.{Upper, Lower}}}}, Arcs.{arc, arc_of, bound_at}, Directions.{turned, faced, facing}, Distances.{AreDistancesFrom, AreDistancesTo}, Relaxation.IsNetwork, Search.across}
+use Rattle.stn_conflict.specs.{declared.{arcs.Direction.{Direction, TheVariants.{Forward, Backward}}, links.{Link.Link, Side.{Side, TheVariants.{Upper, Lower}}}}, Arcs.{arc, bound_at}, Directions.{turned, faced, facing}, Distances.{AreDistancesFrom, AreDistancesTo}, Relaxation.{AreLimited, IsNetwork, NamesAmong}, Search.{across, other_side}}
 
 -- the times with their signs changed
 abbrev opposite : (ℕ → ℤ) → ℕ → ℤ
@@ -29,15 +30,34 @@ schedule_turned bounds time s = record {
 pub has_turned : (bounds : List Difference) → HasSchedule bounds → HasSchedule (map turned bounds)
 has_turned bounds (time, s) = (opposite time, schedule_turned bounds time s)
 
+-- times that do what the turned bounds limit do what the bounds do, with their signs changed
+limited_of_turned : (whole : ℕ) (bounds : List Difference) (time : ℕ → ℤ) → AreLimited whole (map turned bounds) time → AreLimited whole bounds (opposite time)
+limited_of_turned whole bounds time met = λ link there listed.
+    let kept = subst (λ b. IsTrue (nat_lt link.place whole || int_lt (arc b (other_side link.side)).weight horizon)
+    → time (arc b (other_side link.side)).to ≤ℤ (time (arc b (other_side link.side)).from +ℤ (arc b (other_side link.side)).weight))
+    (get_or-map turned bounds link.place _ _ there) (met (across link) (omega (arith, length-map bounds turned))) in
+    across_kept (bound_at bounds link.place) link.side (nat_lt link.place whole) listed kept
+  where
+    across_kept : (b : Difference) (side : Side) (first : Bool) → IsTrue (first || int_lt (arc b side).weight horizon)
+        → (IsTrue (first || int_lt (arc (turned b) (other_side side)).weight horizon)
+        → time (arc (turned b) (other_side side)).to ≤ℤ (time (arc (turned b) (other_side side)).from +ℤ (arc (turned b) (other_side side)).weight))
+        → opposite time (arc b side).to ≤ℤ (opposite time (arc b side).from +ℤ (arc b side).weight)
+    across_kept b Upper first listed so =
+        let met = so (rw (neg_ℤ-neg_ℤ b.hi) listed) in
+        omega (arith, ints)
+    across_kept b Lower first listed so =
+        let met = so listed in
+        omega (arith, ints)
+
 -- turned bounds are about the same events, and keep them as near to each other
 pub network_turned : (events : ℕ) (bounds : List Difference) → IsNetwork events bounds → IsNetwork events (map turned bounds)
 network_turned events bounds n = record {
   named = All-map (NamesEvents events) turned bounds (λ k d below. let ends = n.named k d below in record { from = ends.from; to = ends.to });
-  apart = λ time s x y xs ys. (let near = n.apart (opposite time) (schedule_of_turned bounds time s) y x ys xs in omega (arith, ints));
+  apart = λ time s x y xs ys. (let near = n.apart (opposite time) (limited_of_turned events bounds time s) y x ys xs in omega (arith, ints));
 }
 
 -- the tightest difference of two events over turned bounds is that from the second to the first
-tightest_of_turned : (bounds : List Difference) (x y : ℕ) (m : ℤ) → IsTightest (map turned bounds) x y m → IsTightest bounds y x m
+pub tightest_of_turned : (bounds : List Difference) (x y : ℕ) (m : ℤ) → IsTightest (map turned bounds) x y m → IsTightest bounds y x m
 tightest_of_turned bounds x y m t = record {
   bound = λ time s. (let within = t.bound (opposite time) (schedule_turned bounds time s) in omega (arith, ints));
   attained =
@@ -67,40 +87,43 @@ pub faced_ends : (direction : Direction) (bound : Difference) → ((faced direct
 faced_ends Forward bound = (refl, refl)
 faced_ends Backward bound = (refl, refl)
 
+-- so a side of it begins at one of these
+pub faced_among : (count : ℕ) (direction : Direction) (bound : Difference) (side : Side) → NamesAmong count bound → (arc (faced direction bound) side).from < count
+faced_among count Forward bound Upper named = named.0
+faced_among count Forward bound Lower named = named.1
+faced_among count Backward bound Upper named = named.0
+faced_among count Backward bound Lower named = named.1
+
 -- one of the bounds
-bound_facing : (direction : Direction) (bounds : List Difference) (place : ℕ) → place < length bounds
+pub bound_facing : (direction : Direction) (bounds : List Difference) (place : ℕ) → place < length bounds
     → (bound_at (facing direction bounds) place) ≡ faced direction (bound_at bounds place)
 bound_facing Forward bounds place there = refl
 bound_facing Backward bounds place there = get_or-map turned bounds place _ _ there
 
 -- one of the first of the bounds
-pub bound_listed : (direction : Direction) (all bounds : List Difference) (end place : ℕ) (bound : Difference) → facing direction (take end all) ≡ bounds → place < length bounds
-    → bound ≡ bound_at all place → bound_at bounds place ≡ faced direction bound
-bound_listed direction all bounds end place bound is there at =
-    let first : place < length (take end all) = omega (arith, there, ap length is, length_facing direction (take end all)) in
-    let below : place < end = omega (arith, first, length-take end all) in
-    ap (λ l. bound_at l place) (sym is) ∙ bound_facing direction (take end all) place first ∙ ap (faced direction) (get_or-take end all place _ below ∙ sym at)
+pub bound_listed : (direction : Direction) (all bounds : List Difference) (end place : ℕ) → facing direction (take end all) ≡ bounds → place < length bounds
+    → bound_at bounds place ≡ bound_at (facing direction all) place
+bound_listed direction all bounds end place is there =
+    let first : take end (facing direction all) ≡ bounds = sym (take_facing direction end all) ∙ is in
+    let below : place < end = omega (arith, there, ap length first, length-take end (facing direction all)) in
+    ap (λ l. bound_at l place) (sym first) ∙ get_or-take end (facing direction all) place _ below
 
--- the weight of the link, or of that of the other side of its bound
-abbrev pub arc_ahead : Direction → List Difference → Link → ℤ
-arc_ahead Forward bounds link = (arc_of bounds link).weight
-arc_ahead Backward bounds link = (arc_of bounds (across link)).weight
+-- more bounds after them
+pub append_facing : (direction : Direction) (bounds more : List Difference) → facing direction (bounds ++ more) ≡ facing direction bounds ++ facing direction more
+append_facing Forward bounds more = refl
+append_facing Backward bounds more = map-append turned bounds more
 
--- what a link of the first of the bounds says, turned round or not
-pub arc_listed : (direction : Direction) (bounds : List Difference) (end : ℕ) (link : Link) → link.place < end → end ≤ length bounds
-    → ((arc_of (facing direction (take end bounds)) link).from ≡ (arc_of bounds link).from) × ((arc_of (facing direction (take end bounds)) link).to ≡ (arc_of bounds link).to)
-    × ((arc_of (facing direction (take end bounds)) link).weight ≡ arc_ahead direction bounds link)
-arc_listed direction bounds end link below within =
-    let first : link.place < length (facing direction (take end bounds)) = omega (arith, length_facing direction (take end bounds), length-take end bounds) in
-    let is = bound_listed direction bounds (facing direction (take end bounds)) end link.place (bound_at bounds link.place) refl first refl in
-    subst (λ b. ((arc b link.side).from ≡ (arc_of bounds link).from) × ((arc b link.side).to ≡ (arc_of bounds link).to) × ((arc b link.side).weight ≡ arc_ahead direction bounds link)) (sym is)
-    (says direction link.side)
-  where
-    bound : Difference
-    bound = bound_at bounds link.place
+-- bounds about so many events are so when turned round
+pub named_facing : (direction : Direction) (count : ℕ) (bounds : List Difference) → All (NamesAmong count) bounds → All (NamesAmong count) (facing direction bounds)
+named_facing Forward count bounds named = named
+named_facing Backward count bounds named = All-map (NamesAmong count) turned bounds named
 
-    says : (direction : Direction) (side : Side) → ((arc (faced direction bound) side).from ≡ (arc bound side).from) × ((arc (faced direction bound) side).to ≡ (arc bound side).to)
-        × ((arc (faced direction bound) side).weight ≡ arc_ahead direction bounds (record { place = link.place; side = side }))
-    says Forward side = (refl, refl, refl)
-    says Backward Upper = (refl, refl, refl)
-    says Backward Lower = (refl, refl, neg_ℤ-neg_ℤ bound.hi)
+-- a network turned round is one
+pub network_facing : (direction : Direction) (events : ℕ) (bounds : List Difference) → IsNetwork events bounds → IsNetwork events (facing direction bounds)
+network_facing Forward events bounds network = network
+network_facing Backward events bounds network = network_turned events bounds network
+
+-- and has a schedule where the network has one
+pub has_facing : (direction : Direction) (bounds : List Difference) → HasSchedule bounds → HasSchedule (facing direction bounds)
+has_facing Forward bounds has = has
+has_facing Backward bounds has = has_turned bounds has

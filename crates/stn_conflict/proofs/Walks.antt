@@ -1,4 +1,4 @@
-use Rattle.std.{proofs.{Common.{◌≡◌, ◌≢◌, inl, inr, ℕ, suc, ◌+◌, ◌<◌, ◌≤◌, cond, Option, Some, None, List, [], ◌∷◌, ◌++◌, length, set, replicate, refl, sym, subst, ap, ◌∙◌, arith}, lemmas.{Bool.{cases_eq, cases_lt}, List.{get_or-set_same, get_or-set_other, get_or-replicate, get_or_past, get_or_append_left, get_or_push, length-set, length-replicate, length_push, Elements.Contains-push_cases, Sums.{sum_by-set, count_by-le-length}}}}, specs.{Prelude.{ℤ, is_some, count_by, slice_index_or}, List.Contains}}
+use Rattle.std.{proofs.{Common.{◌≡◌, ◌≢◌, inl, inr, ℕ, suc, ◌+◌, ◌<◌, ◌≤◌, cond, Option, Some, None, lt-ltb, List, [], ◌∷◌, ◌++◌, length, set, replicate, refl, sym, subst, ap, ◌∙◌, arith}, lemmas.{Bool.{cases_eq, cases_lt, or_left}, List.{get_or-set_same, get_or-set_other, get_or-replicate, get_or_past, get_or_append_left, get_or_push, length-set, length-replicate, length_push, Elements.Contains-push_cases, Sums.{sum_by-set, count_by-le-length}}}}, specs.{Prelude.{ℤ, is_some, count_by, slice_index_or}, List.Contains}}
 use Rattle.stn_net.specs.Difference.{Difference}
 use Rattle.stn_conflict.{specs.{declared.{levels.Walk.Walk, links.Link.Link, outgoing.Look.Look}, Arcs.arc_of, Relaxation.{AreDistances, IsRow, Searched}, Named.IsTight, Search.{level_at, event_at, IsFollowed, IsWalk, IsWalkOf, AreLevels, LeadsOn}}, proofs.LevelTable.{IsClosed, some_or_none, some_same, level_of_entry, entry_of_level, level_of_event}}
 
@@ -301,13 +301,13 @@ module _ {A : Type 0} where
   }
 
   -- where all are followed, the walk goes on to the next event
-  pub following_ends : (searched : Searched) (start count seen level event : ℕ) (row : List Look) (walk : Walk A) → IsRow searched event row
+  pub following_ends : (searched : Searched) (start count seen level event : ℕ) (row : List Look) (walk : Walk A) → length searched.bounds ≤ searched.whole → IsRow searched event row
       → IsFollowing searched.bounds start count seen level event row walk → IsWalkOf searched.bounds start count (seen + 1) walk
-  following_ends searched start count seen level event row walk is h = record {
+  following_ends searched start count seen level event row walk whole is h = record {
     whole = h.so_far.whole;
     counted = h.so_far.counted;
     steps = walk_goes_on searched.bounds start seen level (level_at walk.levels.items) walk.reached.items h.so_far.steps h.there (ap (level_at walk.levels.items) h.here ∙ h.marked)
         (λ link tight from.
-        let (look, has, names) = is.every link tight.there (from ∙ h.here) in
+        let (look, has, names) = is.every link tight.there (or_left _ _ (lt-ltb link.place searched.whole (omega (arith, tight.there)))) (from ∙ h.here) in
         subst (λ l. IsFollowed searched.bounds (level_at walk.levels.items) l level) names (h.followed look has (subst (IsTight searched.bounds start) (sym names) tight)));
   }

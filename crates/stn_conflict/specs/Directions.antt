@@ -1,7 +1,7 @@
 -- For proofs alone: no public clause cites these words.
 use Rattle.std.specs.Prelude.{neg_ℤ, List, map}
 use Rattle.stn_net.specs.Difference.{Difference}
-use Rattle.stn_conflict.specs.declared.graph.Direction.{Direction, TheVariants.{Forward, Backward}}
+use Rattle.stn_conflict.specs.declared.arcs.Direction.{Direction, TheVariants.{Forward, Backward}}
 
 -- what the bound says of times with their signs changed
 abbrev pub turned : Difference → Difference

@@ -1,17 +1,34 @@
 -- For proofs alone: no public clause cites these words.
-use Rattle.std.specs.{Prelude.{◌≡◌, ℕ, ℤ, pos, neg_ℤ, ◌+ℤ◌, ◌-ℤ◌, ◌≤ℤ◌, ◌<ℤ◌, ◌<◌, ◌≤◌, ◌+◌, ◌*◌, Bool, true, false, List, [], length, map, All, Contains, Vec, slice_index_or}, List.Sorted.IsNonDecreasingBy}
+use Rattle.std.specs.{Prelude.{◌≡◌, ℕ, ℤ, pos, neg_ℤ, ◌+ℤ◌, ◌-ℤ◌, ◌≤ℤ◌, ◌<ℤ◌, ◌<◌, ◌≤◌, ◌+◌, ◌*◌, Bool, true, false, ◌||◌, nat_lt, int_lt, IsTrue, List, [], length, map, take, All, Contains, Vec, slice_index_or}, List.Sorted.IsNonDecreasingBy}
 use Rattle.stn_time.specs.Time.{horizon}
 use Rattle.stn_net.specs.{Event.most_events, Difference.{Difference, NamesEvents}, Schedule.{IsSchedule, times_of}, Matrix.Tightest.IsTightest}
-use Rattle.stn_conflict.specs.{declared.{graph.Direction.{Direction, TheVariants.{Forward, Backward}}, links.Link.Link, outgoing.{Look.Look, Rows.Rows}, relaxation.Search.Search}, Arcs.{arc_of, rank}, Search.across}
+use Rattle.stn_conflict.specs.{declared.{arcs.Direction.{Direction, TheVariants.{Forward, Backward}}, links.Link.Link, outgoing.{Look.Look, Rows.Rows}, relaxation.Search.Search, windows.Ends.Ends}, Arcs.{arc_of, bound_at, rank}, Directions.facing}
 
 -- both events of the bound are among the first so many
 abbrev pub NamesAmong : ℕ → Difference → Type 0
 NamesAmong count bound = (bound.from < count) × (bound.to < count)
 
--- the bounds are about so many events and the origin, and keep any two of these within the horizon of each other
+-- by these times the link's end comes no later after its beginning than the link allows
+abbrev pub IsRelaxed : List Difference → (ℕ → ℤ) → Link → Type 0
+IsRelaxed bounds times link = times (arc_of bounds link).to ≤ℤ (times (arc_of bounds link).from +ℤ (arc_of bounds link).weight)
+
+-- and so for each link
+abbrev pub AreRelaxed : List Difference → (ℕ → ℤ) → Type 0
+AreRelaxed bounds times = (link : Link) → link.place < length bounds → IsRelaxed bounds times link
+
+-- the link is looked at, where all links of the first so many bounds are: it is one of these, or says more than the horizon
+abbrev pub IsListed : ℕ → List Difference → Link → Type 0
+IsListed whole bounds link = IsTrue (nat_lt link.place whole || int_lt (arc_of bounds link).weight horizon)
+
+-- by these times each link that is looked at is relaxed
+abbrev pub AreLimited : ℕ → List Difference → (ℕ → ℤ) → Type 0
+AreLimited whole bounds times = (link : Link) → link.place < length bounds → IsListed whole bounds link → IsRelaxed bounds times link
+
+-- the bounds are about so many events and the origin, and the first of them, one for each event, and what says more than the horizon keep any
+-- two of these within the horizon of each other
 pub record IsNetwork (events : ℕ) (bounds : List Difference) : Type 0 where
   pub named : All (NamesEvents events) bounds
-  pub apart : (time : ℕ → ℤ) → IsSchedule bounds time → (x y : ℕ) → x ≤ events → y ≤ events → (time y -ℤ time x) ≤ℤ horizon
+  pub apart : (time : ℕ → ℤ) → AreLimited events bounds time → (x y : ℕ) → x ≤ events → y ≤ events → (time y -ℤ time x) ≤ℤ horizon
 
 -- in no schedule of the bounds does an event come later after `start` than its estimate says, and `start` itself is
 -- estimated at 0 (Cormen, Leiserson, Rivest and Stein, 2009)
@@ -28,22 +45,14 @@ pub record AreDistances (bounds : List Difference) (start : ℕ) (far : List ℤ
   pub start_named : start < length far
   pub tightest : (x : ℕ) → x < length far → IsTightest bounds start x (times_of far x)
 
--- by these times the link's end comes no later after its beginning than the link allows
-abbrev pub IsRelaxed : List Difference → (ℕ → ℤ) → Link → Type 0
-IsRelaxed bounds times link = times (arc_of bounds link).to ≤ℤ (times (arc_of bounds link).from +ℤ (arc_of bounds link).weight)
-
--- and so for each link
-abbrev pub AreRelaxed : List Difference → (ℕ → ℤ) → Type 0
-AreRelaxed bounds times = (link : Link) → link.place < length bounds → IsRelaxed bounds times link
-
 -- the event's estimate was lowered since its links were relaxed
 abbrev pub is_fresh : List Bool → ℕ → Bool
 is_fresh fresh event = slice_index_or fresh event true
 
--- each link from an event whose estimate is not fresh is relaxed
-abbrev pub IsRelaxedBut : List Difference → List ℤ → List Bool → Type 0
-IsRelaxedBut bounds far fresh =
-    (link : Link) → link.place < length bounds → is_fresh fresh (arc_of bounds link).from ≡ false → IsRelaxed bounds (times_of far) link
+-- each link that is looked at from an event whose estimate is not fresh is relaxed
+abbrev pub IsRelaxedBut : ℕ → List Difference → List ℤ → List Bool → Type 0
+IsRelaxedBut whole bounds far fresh = (link : Link) → link.place < length bounds → IsListed whole bounds link
+    → is_fresh fresh (arc_of bounds link).from ≡ false → IsRelaxed bounds (times_of far) link
 
 -- each table of a search has one entry for each of so many events
 pub record HasTables {A : Type 0} (count : ℕ) (search : Search A) : Type 0 where
@@ -52,11 +61,20 @@ pub record HasTables {A : Type 0} (count : ℕ) (search : Search A) : Type 0 whe
   pub by : length search.by.items ≡ count
   pub fresh : length search.fresh.items ≡ count
 
--- the search has an estimate for each of so many events, 0 for the one from which it began
-pub record IsBegun {A : Type 0} (bounds : List Difference) (count : ℕ) (search : Search A) : Type 0 where
-  pub tables : HasTables count search
-  pub named : All (NamesAmong count) bounds
-  pub start_named : search.start < count
+-- bounds as a search looks at them, turned round where the direction is backward; they are about so many events beside the origin
+pub record Searched : Type 0 where
+  pub direction : Direction
+  pub whole : ℕ
+  pub events : ℕ
+  pub bounds : List Difference
+
+-- the search has an estimate for each of the events, 0 for the one from which it began
+pub record IsBegun {A : Type 0} (searched : Searched) (search : Search A) : Type 0 where
+  pub tables : HasTables (searched.events + 1) search
+  pub network : IsNetwork searched.events searched.bounds
+  pub kept : searched.events ≤ searched.whole
+  pub named : All (NamesAmong (searched.events + 1)) searched.bounds
+  pub start_named : search.start < searched.events + 1
   pub own : times_of search.far.items search.start ≡ pos 0
 
 -- the search has estimates of the distances of so many events from `start`
@@ -88,10 +106,9 @@ pub record HasFallen (old new : List ℤ) (event : ℕ) : Type 0 where
   pub there : event < length new
   pub less : times_of new event <ℤ times_of old event
 
--- the link is relaxed, if it is one of the bounds from an event whose estimate is not fresh
+-- the link is relaxed, if the estimate of the event from which it leads is not fresh
 abbrev pub IsRelaxedOf : {A : Type 0} → List Difference → Search A → Link → Type 0
-IsRelaxedOf bounds search link =
-    link.place < length bounds → is_fresh search.fresh.items (arc_of bounds link).from ≡ false → IsRelaxed bounds (times_of search.far.items) link
+IsRelaxedOf bounds search link = is_fresh search.fresh.items (arc_of bounds link).from ≡ false → IsRelaxed bounds (times_of search.far.items) link
 
 -- some link of the bounds leads from the one event to the other, and has this weight
 abbrev pub IsArcTo : List Difference → ℕ → ℕ → ℤ → Type 0
@@ -103,33 +120,41 @@ row_of rows place = slice_index_or (map (λ row. row.items) rows) place []
 
 -- the look is at a link of the bounds that begins at the event
 pub record IsLook (bounds : List Difference) (event : ℕ) (look : Look) : Type 0 where
+  pub there : look.link.place < length bounds
   pub from : (arc_of bounds look.link).from ≡ event
   pub to : (arc_of bounds look.link).to ≡ look.to
-  pub onward : (arc_of bounds look.link).weight ≡ look.onward
-  pub back : (arc_of bounds (across look.link)).weight ≡ look.back
+  pub weight : (arc_of bounds look.link).weight ≡ look.weight
 
 -- one of the looks is at the link
 abbrev pub HasLink : List Look → Link → Type 0
 HasLink looks link = (look : Look) × Contains looks look × (look.link ≡ link)
 
--- there is a row for each of so many events; the first links of the bounds, those of rank below `seen`, are looked at in the rows of the events at
--- which they begin, and nothing else is, and the looks of each row stand in the order of their bounds
-pub record AreRowsTo {A : Type 0} (bounds : List Difference) (count seen : ℕ) (rows : List (Vec Look A)) : Type 0 where
+-- there is a row for each of so many events; of the first links of the bounds, those of rank below `seen`, those that are to be are looked at in
+-- the rows of the events at which they begin, and nothing else is, and the looks of each row stand in the order of their bounds
+pub record AreRowsTo {A : Type 0} (whole : ℕ) (bounds : List Difference) (count seen : ℕ) (rows : List (Vec Look A)) : Type 0 where
   pub long : length rows ≡ count
-  pub every : (link : Link) → rank link < seen → HasLink (row_of rows (arc_of bounds link).from) link
+  pub every : (link : Link) → rank link < seen → IsListed whole bounds link → HasLink (row_of rows (arc_of bounds link).from) link
   pub each : (x : ℕ) (look : Look) → Contains (row_of rows x) look → IsLook bounds x look
   pub below : (x : ℕ) (look : Look) → Contains (row_of rows x) look → rank look.link < seen
   pub ordered : (x : ℕ) → IsNonDecreasingBy (λ look. look.link.place) (row_of rows x)
 
--- all links of the bounds are looked at
-abbrev pub AreRows : {A : Type 0} → List Difference → ℕ → List (Vec Look A) → Type 0
-AreRows bounds count rows = AreRowsTo bounds count (2 * length bounds) rows
+-- the links that were added are the first ones of the bounds, or of the bounds turned round
+pub record AreFirstRows {A : Type 0} (direction : Direction) (whole : ℕ) (bounds : List Difference) (count : ℕ) (rows : Rows A) : Type 0 where
+  pub faced : rows.direction ≡ direction
+  pub choice : rows.whole ≡ whole
+  pub within : rows.added ≤ 2 * length bounds
+  pub stand : AreRowsTo whole (facing direction bounds) count rows.added rows.outgoing.items
+
+-- and all of them
+pub record AreRows {A : Type 0} (direction : Direction) (whole : ℕ) (bounds : List Difference) (count : ℕ) (rows : Rows A) : Type 0 where
+  pub first : AreFirstRows direction whole bounds count rows
+  pub all : rows.added ≡ 2 * length bounds
 
 -- the rows are those of the bounds, which are about so many events beside the origin, and of which `end` count
-pub record HasRows {A : Type 0} (events end : ℕ) (bounds : List Difference) (rows : List (Vec Look A)) : Type 0 where
+pub record HasRows {A : Type 0} (events end : ℕ) (bounds : List Difference) (rows : Rows A) : Type 0 where
   pub within : end ≤ length bounds
   pub named : All (NamesAmong (events + 1)) bounds
-  pub stand : AreRows bounds (events + 1) rows
+  pub stand : AreRows rows.direction rows.whole bounds (events + 1) rows
 
 -- so many looks are at links of bounds before the place, and no more
 pub record IsCutAt (row : List Look) (place count : ℕ) : Type 0 where
@@ -137,34 +162,12 @@ pub record IsCutAt (row : List Look) (place count : ℕ) : Type 0 where
   pub before : (k : ℕ) (look : Look) → k < count → (slice_index_or row k look).link.place < place
   pub behind : (k : ℕ) (look : Look) → count ≤ k → k < length row → place ≤ (slice_index_or row k look).link.place
 
--- bounds as a search looks at them, turned round where the direction is backward; they are about so many events beside the origin
-pub record Searched : Type 0 where
-  pub direction : Direction
-  pub events : ℕ
-  pub bounds : List Difference
-
--- how long after the event of its row the look's other event can come, by the bounds or by the bounds turned round
-abbrev pub ahead : Direction → Look → ℤ
-ahead Forward look = look.onward
-ahead Backward look = look.back
-
--- the look is at a link of the bounds that begins at the event
-pub record IsLookOf (searched : Searched) (event : ℕ) (look : Look) : Type 0 where
-  pub there : look.link.place < length searched.bounds
-  pub from : (arc_of searched.bounds look.link).from ≡ event
-  pub to : (arc_of searched.bounds look.link).to ≡ look.to
-  pub weight : (arc_of searched.bounds look.link).weight ≡ ahead searched.direction look
-
--- the looks are at the links of the bounds that begin at the event, in the order of the bounds
+-- the looks are at the links of the bounds that begin at the event and are looked at, in the order of the bounds
 pub record IsRow (searched : Searched) (event : ℕ) (looks : List Look) : Type 0 where
-  pub every : (link : Link) → link.place < length searched.bounds → (arc_of searched.bounds link).from ≡ event → HasLink looks link
-  pub each : (look : Look) → Contains looks look → IsLookOf searched event look
+  pub every : (link : Link) → link.place < length searched.bounds → IsListed searched.whole searched.bounds link
+      → (arc_of searched.bounds link).from ≡ event → HasLink looks link
+  pub each : (look : Look) → Contains looks look → IsLook searched.bounds event look
   pub ordered : IsNonDecreasingBy (λ look. look.link.place) looks
-
--- the links that were added are the first ones of the bounds
-pub record AreFirstRows {A : Type 0} (bounds : List Difference) (count : ℕ) (rows : Rows A) : Type 0 where
-  pub within : rows.added ≤ 2 * length bounds
-  pub stand : AreRowsTo bounds count rows.added rows.outgoing.items
 
 -- in some schedule of the bounds the one event comes so long after the other
 abbrev pub IsPossibleGap : List Difference → ℕ → ℕ → ℤ → Type 0
@@ -175,7 +178,35 @@ IsPossibleGap bounds from to apart = (time : ℕ → ℤ) × IsSchedule bounds t
 pub record CanBeSearched {A : Type 0} (events : ℕ) (bounds : List Difference) (rows : Rows A) (latest search : Search A) : Type 0 where
   pub few : events ≤ most_events
   pub network : IsNetwork events bounds
-  pub first : AreFirstRows bounds (events + 1) rows
+  pub first : AreFirstRows Forward events bounds (events + 1) rows
   pub late : IsSearch bounds 0 (events + 1) latest
-  pub relaxed : IsRelaxedBut bounds latest.far.items latest.fresh.items
+  pub relaxed : IsRelaxedBut events bounds latest.far.items latest.fresh.items
   pub tables : HasTables (events + 1) search
+
+-- the rows are those of the bounds, or of the bounds turned round, and the search has found the distances over them
+pub record HasFound {A : Type 0} (direction : Direction) (events : ℕ) (bounds : List Difference) (event : ℕ) (rows : Rows A) (search : Search A) : Type 0 where
+  pub rows_are : AreRows direction events bounds (events + 1) rows
+  pub tables : HasTables (events + 1) search
+  pub start : search.start ≡ event
+  pub far : AreDistances (facing direction bounds) event search.far.items
+
+-- the rows are those of the first so many of the bounds, and the search has found the distances from the origin over all of them
+pub record IsEnds {A : Type 0} (direction : Direction) (events given : ℕ) (bounds : List Difference) (ends : Ends A) : Type 0 where
+  pub rows_are : AreRows direction events (take given bounds) (events + 1) ends.rows
+  pub tables : HasTables (events + 1) ends.search
+  pub start : ends.search.start ≡ 0
+  pub far : AreDistances (facing direction bounds) 0 ends.search.far.items
+
+-- each bound after the first so many is on a single event
+abbrev pub AreSingle : ℕ → List Difference → Type 0
+AreSingle given bounds = (place : ℕ) → given ≤ place → place < length bounds → (bound_at bounds place).from ≡ 0
+
+-- the ends of the windows of the bounds, which are about so many events beside the origin
+pub record AreEnds {A : Type 0} (events given : ℕ) (bounds : List Difference) (latest earliest : Ends A) : Type 0 where
+  pub few : events ≤ most_events
+  pub within : given ≤ length bounds
+  pub network : IsNetwork events (take given bounds)
+  pub named : All (NamesEvents events) bounds
+  pub single : AreSingle given bounds
+  pub latest_are : IsEnds Forward events given bounds latest
+  pub earliest_are : IsEnds Backward events given bounds earliest

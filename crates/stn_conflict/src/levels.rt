@@ -1,6 +1,6 @@
 ghost use Rattle.std.specs.Prelude.{◌≡◌, ◌+◌, ◌<◌, ◌≤◌, ◌↔◌, ℕ, length, IsTrue, IfOk, OnOk, MatchOption};
 ghost use Rattle.stn_net.specs.Event.{most_events};
-ghost use Rattle.stn_conflict.specs.{Relaxation.{AreDistances, IsLookOf}, Named.{IsTight, IsLevelStep}, Search.{level_at, LeadsOn, IsWalkOf, AreLevels, HasNoStep, IsFirstStepTo}};
+ghost use Rattle.stn_conflict.specs.{Relaxation.{AreDistances, IsLook}, Named.{IsTight, IsLevelStep}, Search.{level_at, LeadsOn, IsWalkOf, AreLevels, HasNoStep, IsFirstStepTo}};
 
 use crate::graph::Graph;
 use crate::links::Link;
@@ -40,7 +40,7 @@ fn leads_on<A: Allocator>(
 ) -> bool
     requires far { AreDistances graph.now.bounds start far.now }
     requires whole { length levels.now ≡ length far.now }
-    requires look { (event : ℕ) × IsLookOf graph.now event look.now }
+    requires look { (event : ℕ) × IsLook graph.now.bounds event look.now }
     ensures { IsTrue result ↔ LeadsOn graph.now.bounds start (level_at levels.now) look.now.link }
 {
     levels[usize::from(look.to.number())].is_none() && is_tight(graph, far, start, look.link)
@@ -57,7 +57,8 @@ fn follow<A: Allocator + Copy>(
 ) -> Result<(), Memory>
     requires far { AreDistances graph.now.bounds start far.now }
     requires few { length far.now ≤ most_events + 1 }
-    requires whole { length far.now ≡ graph.now.events + 1 }
+    requires long { length far.now ≡ graph.now.events + 1 }
+    requires whole { length graph.now.bounds ≤ graph.now.whole }
     requires there { place < length walk.old.reached.items }
     requires walk { IsWalkOf graph.now.bounds start (length far.now) place walk.old }
     ensures { OnOk result (IsWalkOf graph.now.bounds start (length far.now) (place + 1) walk.new) }
@@ -82,7 +83,8 @@ pub(crate) fn levels_from<A: Allocator + Copy>(
 ) -> Result<Vec<Option<u16>, A>, Memory>
     requires far { AreDistances graph.now.bounds start far.now }
     requires few { length far.now ≤ most_events + 1 }
-    requires whole { length far.now ≡ graph.now.events + 1 }
+    requires long { length far.now ≡ graph.now.events + 1 }
+    requires whole { length graph.now.bounds ≤ graph.now.whole }
     ensures { IfOk result (λ levels. AreLevels graph.now.bounds start (length far.now) levels.items) }
 {
     let mut walk = Walk {
@@ -130,7 +132,8 @@ pub(crate) fn first_step<A: Allocator>(
 ) -> Option<Link>
     requires far { AreDistances graph.now.bounds start far.now }
     requires few { length far.now ≤ most_events + 1 }
-    requires whole { length far.now ≡ graph.now.events + 1 }
+    requires long { length far.now ≡ graph.now.events + 1 }
+    requires whole { length graph.now.bounds ≤ graph.now.whole }
     requires levels { AreLevels graph.now.bounds start (length far.now) levels.now }
     requires event { event < length far.now }
     ensures { MatchOption result (HasNoStep graph.now.bounds start event) (IsFirstStepTo graph.now.bounds start event) }

@@ -9,9 +9,11 @@ pub use links::{
 pub use network::Network;
 pub use reach::distances;
 pub use search::cycle;
-pub use times::{earliest, earliest_and_latest, latest, soonest};
+pub use times::{earliest_and_latest, latest, soonest};
 pub use ways::both_ways;
+pub use windows::Windows;
 
+mod arcs;
 mod graph;
 mod levels;
 mod links;
@@ -22,3 +24,4 @@ mod relaxation;
 mod search;
 mod times;
 mod ways;
+mod windows;

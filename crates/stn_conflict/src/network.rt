@@ -1,8 +1,9 @@
 ghost use Rattle.std.specs.Prelude.{◌≡◌, ◌+◌, ◌≤◌, ◌↔◌, ◌++◌, ◌∷◌, [], false, take, All, IsTrue, IfOk, OnOk, OnErr, MatchOption};
 ghost use Rattle.stn_net.specs.{Event.most_events, Difference.NamesEvents, Schedule.HasSchedule, Horizon.horizon_bounds, Matrix.Tightest.IsTightest};
-ghost use Rattle.stn_conflict.specs.{Distances.TellsWithin, Relaxation.{AreDistances, AreFirstRows, IsRelaxedBut, IsSearch, IsPossibleGap, NamesAmong}};
+ghost use Rattle.stn_conflict.specs.{Distances.TellsWithin, Relaxation.{AreDistances, AreFirstRows, IsNetwork, IsRelaxedBut, IsSearch, IsPossibleGap}, declared.arcs.Direction.TheVariants.Forward};
 
-use crate::graph::{Direction, Graph};
+use crate::arcs::Direction;
+use crate::graph::Graph;
 use crate::outgoing::Rows;
 use crate::relaxation::Search;
 use std::alloc::Allocator;
@@ -44,7 +45,7 @@ impl<A: Allocator + Copy> Network<A> {
     {
         let mut bounds = Vec::from_slice(alloc, base)?;
         bounds.extend_from_slice(extra)?;
-        let rows = Rows::new(alloc, events, 0)?;
+        let rows = Rows::new(alloc, Direction::Forward, usize::from(events), events, 0)?;
         let mut latest = Search::new(alloc, usize::from(events) + 1)?;
         latest.begin(Event::origin());
         latest.fresh.fill(true);
@@ -138,13 +139,7 @@ impl<A: Allocator + Copy> Network<A> {
         ensures same { self.new ≡ self.old }
     {
         self.rows.add(&self.bounds, &[])?;
-        let graph = Graph::new(
-            Direction::Forward,
-            self.events,
-            &self.bounds,
-            &[],
-            &self.rows.outgoing,
-        );
+        let graph = Graph::new(self.events, &self.bounds, &[], &self.rows);
         if !self.search.find(&graph, from) {
             return Ok(None);
         }
@@ -160,17 +155,17 @@ fn extend<A: Allocator + Copy>(
     rows: &mut Rows<A>,
     latest: &mut Search<A>,
 ) -> Result<bool, Memory>
-    requires named { All (NamesAmong (events + 1)) bounds.now }
-    requires rows { AreFirstRows bounds.now (events + 1) rows.old }
+    requires network { IsNetwork events bounds.now }
+    requires rows { AreFirstRows Forward events bounds.now (events + 1) rows.old }
     requires late { IsSearch bounds.now 0 (events + 1) latest.old }
-    requires relaxed { IsRelaxedBut bounds.now latest.old.far.items latest.old.fresh.items }
-    ensures rows { AreFirstRows bounds.now (events + 1) rows.new }
+    requires relaxed { IsRelaxedBut events bounds.now latest.old.far.items latest.old.fresh.items }
+    ensures rows { AreFirstRows Forward events bounds.now (events + 1) rows.new }
     ensures late { IsSearch bounds.now 0 (events + 1) latest.new }
     ensures possible { IfOk result (λ fits. IsTrue fits ↔ HasSchedule bounds.now) }
     ensures distances { IfOk result (λ fits. IsTrue fits → AreDistances bounds.now 0 latest.new.far.items) }
     ensures err { OnErr result (latest.new ≡ latest.old) }
 {
     rows.add(bounds, &[])?;
-    let graph = Graph::new(Direction::Forward, events, bounds, &[], &rows.outgoing);
+    let graph = Graph::new(events, bounds, &[], rows);
     Ok(latest.go_on(&graph))
 }

@@ -7,12 +7,13 @@
 // What a search over other bounds left in `by` does no harm: a link counts only if it is one of these bounds, and ends at
 // the event.
 
-ghost use Rattle.std.specs.Prelude.{◌≡◌, ◌+◌, ◌<◌, ◌≤◌, ◌↔◌, ℕ, ℤ, false, length, All, IsTrue, IsErr, IfOk, IfSome, IfNone, OnOk, MatchOption, List};
+ghost use Rattle.std.specs.Prelude.{◌≡◌, ◌+◌, ◌<◌, ◌≤◌, ◌≤ℤ◌, ◌↔◌, ℕ, ℤ, false, length, All, IsTrue, IsErr, IfOk, IfSome, IfNone, OnOk, MatchOption, List};
 ghost use Rattle.stn_net.specs.{Event.most_events, Difference.Difference, Schedule.{HasSchedule, times_of}};
-ghost use Rattle.stn_conflict.specs.{Arcs.arc_of, Relaxation.{NamesAmong, AreEstimates, AreDistances, AreRelaxed, Freshens, HasFallen, HasTables, IsArcTo, IsBegun, IsFloor, IsLookOf, IsNetwork, IsRelaxedBut, IsRelaxedOf, IsSearch, Lowers, is_fresh}};
+ghost use Rattle.stn_conflict.specs.{Arcs.arc_of, Relaxation.{NamesAmong, AreEstimates, AreDistances, AreRelaxed, Freshens, HasFallen, HasTables, IsArcTo, IsBegun, IsFloor, IsListed, IsLook, IsNetwork, IsRelaxedBut, IsRelaxedOf, IsSearch, Lowers, is_fresh}};
 ghost use Rattle.stn_time.specs.Time.{horizon};
 
-use crate::graph::{Arc, Graph};
+use crate::arcs::Arc;
+use crate::graph::Graph;
 use crate::links::Link;
 use crate::outgoing::Look;
 use std::alloc::Allocator;
@@ -77,9 +78,10 @@ impl<A: Allocator + Copy> Search<A> {
     pub fn found(alloc: A, graph: &Graph<'_, A>, start: Event) -> Result<Option<Search<A>>, Memory>
         requires few { graph.now.events ≤ most_events }
         requires network { IsNetwork graph.now.events graph.now.bounds }
+        requires kept { graph.now.events ≤ graph.now.whole }
         requires start { start ≤ graph.now.events }
         ensures { IfOk result (λ found. MatchOption found (¬ HasSchedule graph.now.bounds)
-            (λ search. HasTables (graph.now.events + 1) search × AreDistances graph.now.bounds start search.far.items)) }
+            (λ search. HasTables (graph.now.events + 1) search × (search.start ≡ start) × AreDistances graph.now.bounds start search.far.items)) }
     {
         let mut search = Search::new(alloc, graph.count())?;
         if search.find(graph, start) {
@@ -94,8 +96,10 @@ impl<A: Allocator + Copy> Search<A> {
     pub fn find(&mut self, graph: &Graph<'_, A>, start: Event) -> bool
         requires tables { HasTables (graph.now.events + 1) self.old }
         requires network { IsNetwork graph.now.events graph.now.bounds }
+        requires kept { graph.now.events ≤ graph.now.whole }
         requires start { start ≤ graph.now.events }
         ensures tables { HasTables (graph.now.events + 1) self.new }
+        ensures start { self.new.start ≡ start }
         ensures possible { IsTrue result ↔ HasSchedule graph.now.bounds }
         ensures distances { IsTrue result → AreDistances graph.now.bounds start self.new.far.items }
     {
@@ -121,6 +125,8 @@ impl<A: Allocator + Copy> Search<A> {
     // rows have all links, have no schedule.
     #[tactic(auto, using(crate::proofs::Relaxing::all_fresh))]
     pub fn settle(&mut self, graph: &Graph<'_, A>) -> bool
+        requires network { IsNetwork graph.now.events graph.now.bounds }
+        requires kept { graph.now.events ≤ graph.now.whole }
         requires search { IsSearch graph.now.bounds self.old.start (graph.now.events + 1) self.old }
         ensures search { IsSearch graph.now.bounds self.old.start (graph.now.events + 1) self.new }
         ensures possible { IsTrue result ↔ HasSchedule graph.now.bounds }
@@ -132,8 +138,10 @@ impl<A: Allocator + Copy> Search<A> {
 
     // The same, where each link from an event whose estimate is not fresh is met already.
     pub fn go_on(&mut self, graph: &Graph<'_, A>) -> bool
+        requires network { IsNetwork graph.now.events graph.now.bounds }
+        requires kept { graph.now.events ≤ graph.now.whole }
         requires search { IsSearch graph.now.bounds self.old.start (graph.now.events + 1) self.old }
-        requires relaxed { IsRelaxedBut graph.now.bounds self.old.far.items self.old.fresh.items }
+        requires relaxed { IsRelaxedBut graph.now.whole graph.now.bounds self.old.far.items self.old.fresh.items }
         ensures search { IsSearch graph.now.bounds self.old.start (graph.now.events + 1) self.new }
         ensures possible { IsTrue result ↔ HasSchedule graph.now.bounds }
         ensures distances { IsTrue result → AreDistances graph.now.bounds self.old.start self.new.far.items }
@@ -141,11 +149,34 @@ impl<A: Allocator + Copy> Search<A> {
         self.relax_until_met(graph).is_ok()
     }
 
+    // Lowers the estimate of an event, if it is more than this, and then the others, where each link is met already.
+    pub fn lower(&mut self, graph: &Graph<'_, A>, event: Event, most: Ms)
+        requires begun { IsBegun graph.now self.old }
+        requires met { AreRelaxed graph.now.bounds (times_of self.old.far.items) }
+        requires event { event ≤ graph.now.events }
+        requires floor { (low : ℕ → ℤ) × IsFloor graph.now.bounds self.old.start self.old.far.items low × (low event ≤ℤ most) }
+        ensures begun { IsBegun graph.now self.new }
+        ensures start { self.new.start ≡ self.old.start }
+        ensures met { AreRelaxed graph.now.bounds (times_of self.new.far.items) }
+        ensures fall { (x : ℕ) → times_of self.new.far.items x ≤ℤ times_of self.old.far.items x }
+        ensures here { times_of self.new.far.items event ≤ℤ most }
+        ensures floors { (low : ℕ → ℤ) → IsFloor graph.now.bounds self.old.start self.old.far.items low → low event ≤ℤ most
+            → IsFloor graph.now.bounds self.old.start self.new.far.items low }
+    {
+        let place = usize::from(event.number());
+        if self.far[place].get() <= most.get() {
+            return;
+        }
+        self.far[place] = most;
+        self.fresh[place] = true;
+        let _ = self.relax_until_met(graph);
+    }
+
     // Relaxes the links from events with fresh estimates, back and forth through the events, until there is none.
     fn relax_until_met(&mut self, graph: &Graph<'_, A>) -> Result<(), NoSchedule>
-        requires begun { IsBegun graph.now.bounds (graph.now.events + 1) self.old }
-        requires relaxed { IsRelaxedBut graph.now.bounds self.old.far.items self.old.fresh.items }
-        ensures begun { IsBegun graph.now.bounds (graph.now.events + 1) self.new }
+        requires begun { IsBegun graph.now self.old }
+        requires relaxed { IsRelaxedBut graph.now.whole graph.now.bounds self.old.far.items self.old.fresh.items }
+        ensures begun { IsBegun graph.now self.new }
         ensures start { self.new.start ≡ self.old.start }
         ensures lowers { Lowers graph.now.bounds self.old.start self.old.far.items self.new.far.items }
         ensures refused { IsErr result → (low : ℕ → ℤ) → ¬ IsFloor graph.now.bounds self.old.start self.old.far.items low }
@@ -165,17 +196,17 @@ impl<A: Allocator + Copy> Search<A> {
     // Relaxes the links from each event with a fresh estimate, in the events' order or against it; the last event whose
     // estimate was lowered.
     fn sweep(&mut self, graph: &Graph<'_, A>, onward: bool) -> Result<Option<Event>, NoSchedule>
-        requires begun { IsBegun graph.now.bounds (graph.now.events + 1) self.old }
+        requires begun { IsBegun graph.now self.old }
         requires few { self.old.sweeps ≤ graph.now.events }
-        requires relaxed { IsRelaxedBut graph.now.bounds self.old.far.items self.old.fresh.items }
-        ensures begun { IsBegun graph.now.bounds (graph.now.events + 1) self.new }
+        requires relaxed { IsRelaxedBut graph.now.whole graph.now.bounds self.old.far.items self.old.fresh.items }
+        ensures begun { IsBegun graph.now self.new }
         ensures start { self.new.start ≡ self.old.start }
         ensures sweeps { self.new.sweeps ≡ self.old.sweeps + 1 }
         ensures lowers { Lowers graph.now.bounds self.old.start self.old.far.items self.new.far.items }
         ensures refused { IsErr result → (low : ℕ → ℤ) → ¬ IsFloor graph.now.bounds self.old.start self.old.far.items low }
         ensures fell { IfOk result (λ last. IfSome last (HasFallen self.old.far.items self.new.far.items)) }
         ensures same { IfOk result (λ last. IfNone last (self.new.far.items ≡ self.old.far.items)) }
-        ensures relaxed { OnOk result (IsRelaxedBut graph.now.bounds self.new.far.items self.new.fresh.items) }
+        ensures relaxed { OnOk result (IsRelaxedBut graph.now.whole graph.now.bounds self.new.far.items self.new.fresh.items) }
 
         // Only an event whose estimate fell is still fresh.
         ensures stale { OnOk result ((x : ℕ) → x < graph.now.events + 1 → times_of self.new.far.items x ≡ times_of self.old.far.items x
@@ -201,9 +232,9 @@ impl<A: Allocator + Copy> Search<A> {
         graph: &Graph<'_, A>,
         event: usize,
     ) -> Result<Option<Event>, NoSchedule>
-        requires begun { IsBegun graph.now.bounds (graph.now.events + 1) self.old }
+        requires begun { IsBegun graph.now self.old }
         requires event { event < graph.now.events + 1 }
-        ensures begun { IsBegun graph.now.bounds (graph.now.events + 1) self.new }
+        ensures begun { IsBegun graph.now self.new }
         ensures start { self.new.start ≡ self.old.start }
         ensures sweeps { self.new.sweeps ≡ self.old.sweeps }
         ensures lowers { Lowers graph.now.bounds self.old.start self.old.far.items self.new.far.items }
@@ -211,24 +242,34 @@ impl<A: Allocator + Copy> Search<A> {
         ensures refused { IsErr result → (low : ℕ → ℤ) → ¬ IsFloor graph.now.bounds self.old.start self.old.far.items low }
         ensures fell { IfOk result (λ last. IfSome last (HasFallen self.old.far.items self.new.far.items)) }
         ensures same { IfOk result (λ last. IfNone last (self.new.far.items ≡ self.old.far.items)) }
-        ensures relaxed { OnOk result ((link : Link) → link.place < length graph.now.bounds → (arc_of graph.now.bounds link).from ≡ event
-            → IsRelaxedOf graph.now.bounds self.new link) }
+        ensures relaxed { OnOk result ((link : Link) → link.place < length graph.now.bounds → IsListed graph.now.whole graph.now.bounds link
+            → (arc_of graph.now.bounds link).from ≡ event → IsRelaxedOf graph.now.bounds self.new link) }
     {
+        let here = self.far[event];
         let mut last = None;
         for look in graph.row(event) {
-            if self.relax(graph, event, look)? {
+            if self.relax(graph, event, here, look)? {
                 last = Some(look.to);
             }
         }
         Ok(last)
     }
 
-    // Lowers the estimate at the link's end to what the link allows, where that is less; whether it was.
+    // Lowers the estimate at the link's end to what the link allows, where that is less; whether it was. `here` was the estimate at
+    // its beginning, and still is unless that is fresh.
     #[tactic(auto, using(crate::proofs::Tightness::link_among, std::proofs::lemmas::List::get_or_read))]
-    fn relax(&mut self, graph: &Graph<'_, A>, event: usize, look: &Look) -> Result<bool, NoSchedule>
-        requires begun { IsBegun graph.now.bounds (graph.now.events + 1) self.old }
-        requires look { IsLookOf graph.now event look.now }
-        ensures begun { IsBegun graph.now.bounds (graph.now.events + 1) self.new }
+    fn relax(
+        &mut self,
+        graph: &Graph<'_, A>,
+        event: usize,
+        here: Ms,
+        look: &Look,
+    ) -> Result<bool, NoSchedule>
+        requires begun { IsBegun graph.now self.old }
+        requires look { IsLook graph.now.bounds event look.now }
+        requires here { times_of self.old.far.items event ≤ℤ here }
+        requires still { is_fresh self.old.fresh.items event ≡ false → times_of self.old.far.items event ≡ here }
+        ensures begun { IsBegun graph.now self.new }
         ensures start { self.new.start ≡ self.old.start }
         ensures sweeps { self.new.sweeps ≡ self.old.sweeps }
         ensures lowers { Lowers graph.now.bounds self.old.start self.old.far.items self.new.far.items }
@@ -239,7 +280,7 @@ impl<A: Allocator + Copy> Search<A> {
         ensures relaxed { OnOk result (IsRelaxedOf graph.now.bounds self.new look.now.link) }
     {
         let end = usize::from(look.to.number());
-        let way = self.far[event].get() + graph.weight(look).get();
+        let way = here.get() + look.weight.get();
         if self.far[end].get() <= way {
             return Ok(false);
         }

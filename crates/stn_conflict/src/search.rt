@@ -3,7 +3,8 @@ ghost use Rattle.stn_time.specs.Time.{horizon};
 ghost use Rattle.stn_net.specs.{Event.most_events, Difference.NamesEvents, Schedule.HasSchedule, Horizon.horizon_bounds};
 ghost use Rattle.stn_conflict.specs.{Arcs.{arc, bound_at, weight_of, IsNegativeCycle}, Culprit.IsRefusedSide, Relaxation.{AreDistances, AreEstimates, HasTables, IsNetwork}, Named.IsNamedCycle, Search.{IsCycleOf, IsFirstRefused}};
 
-use crate::graph::{Direction, Graph};
+use crate::arcs::Direction;
+use crate::graph::Graph;
 use crate::links::{Cycle, Link, Side};
 use crate::outgoing::Rows;
 use crate::relaxation::Search;
@@ -41,14 +42,17 @@ pub fn cycle<A: Allocator + Copy>(
     ensures short { IfOk result (λ found. IfSome found
         (λ cycle. length cycle.links.items ≤ events + 1)) }
 {
-    let rows = Rows::of(alloc, events, base, extra)?;
-    let graph = Graph::new(Direction::Forward, events, base, extra, &rows.outgoing);
+    let whole = base.len() + extra.len();
+    let rows = Rows::of(alloc, Direction::Forward, whole, events, base, extra)?;
+    let graph = Graph::new(events, base, extra, &rows);
     cycle_of(alloc, &graph)
 }
 
 // The named cycle of the bounds, or none where they have a schedule.
 fn cycle_of<A: Allocator + Copy>(alloc: A, graph: &Graph<'_, A>) -> Result<Option<Cycle<A>>, Memory>
     requires few { graph.now.events ≤ most_events }
+    requires kept { graph.now.events ≤ graph.now.whole }
+    requires whole { length graph.now.bounds ≤ graph.now.whole }
     requires begins { take graph.now.events graph.now.bounds ≡ horizon_bounds graph.now.events }
     requires named { All (NamesEvents graph.now.events) graph.now.bounds }
     ensures { IfOk result (λ found. MatchOption found (HasSchedule graph.now.bounds)
@@ -69,6 +73,7 @@ fn first_refused<A: Allocator + Copy>(
     graph: &Graph<'_, A>,
     search: &mut Search<A>,
 ) -> Result<Option<usize>, Memory>
+    requires kept { graph.now.events ≤ graph.now.whole }
     requires begins { take graph.now.events graph.now.bounds ≡ horizon_bounds graph.now.events }
     requires named { All (NamesEvents graph.now.events) graph.now.bounds }
     requires tables { HasTables (graph.now.events + 1) search.old }
@@ -91,6 +96,7 @@ fn first_between<A: Allocator + Copy>(
     search: &mut Search<A>,
     known: &mut [Ms],
 ) -> usize
+    requires kept { graph.now.events ≤ graph.now.whole }
     requires begins { take graph.now.events graph.now.bounds ≡ horizon_bounds graph.now.events }
     requires named { All (NamesEvents graph.now.events) graph.now.bounds }
     requires tables { HasTables (graph.now.events + 1) search.old }
@@ -122,6 +128,7 @@ fn refused_side<A: Allocator + Copy>(
     search: &mut Search<A>,
     place: usize,
 ) -> Side
+    requires kept { graph.now.events ≤ graph.now.whole }
     requires network { IsNetwork graph.now.events (take place graph.now.bounds) }
     requires tables { HasTables (graph.now.events + 1) search.old }
     requires there { place < length graph.now.bounds }
@@ -150,6 +157,8 @@ fn named<A: Allocator + Copy>(
     search: &mut Search<A>,
     place: usize,
 ) -> Result<Cycle<A>, Memory>
+    requires kept { graph.now.events ≤ graph.now.whole }
+    requires whole { length graph.now.bounds ≤ graph.now.whole }
     requires begins { take graph.now.events graph.now.bounds ≡ horizon_bounds graph.now.events }
     requires named { All (NamesEvents graph.now.events) graph.now.bounds }
     requires tables { HasTables (graph.now.events + 1) search.old }

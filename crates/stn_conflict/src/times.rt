@@ -1,38 +1,17 @@
 ghost use Rattle.std.specs.Prelude.{◌≡◌, ◌+◌, ◌≤◌, ◌++◌, neg_ℤ, ℤ, List, length, map, take, All, IfOk, OnOk, MatchOption};
 ghost use Rattle.stn_net.specs.{Difference.{Difference, NamesEvents}, Event.most_events, Horizon.horizon_bounds, Schedule.{HasSchedule, times_of}, Windows.{Dispatch.CanWaitUntil, Leading.AreFloorsBelow, Soonest.{AreEarliest, AreLatest, AreSoonest}}};
-ghost use Rattle.stn_conflict.specs.{Directions.facing, Distances.AreDistancesFrom, Relaxation.{AreDistances, AreRows, HasTables, IsNetwork}};
 
-use crate::graph::{Direction, Graph};
-use crate::outgoing::Rows;
-use crate::relaxation::{Search, horizon};
+use crate::arcs::Direction;
+use crate::reach::distances_from;
+use crate::relaxation::horizon;
 use std::alloc::Allocator;
 use stn_net::{Bound, Event, is_left};
 use stn_time::{Memory, Ms};
 
-/// The earliest times of the origin and of all events, by the bounds of `base` followed by those of
+/// The latest times of the origin and of all events, by the bounds of `base` followed by those of
 /// `extra`; none exactly where these have no schedule. There are so many `events` beside the origin,
 /// `base` begins with their horizon bounds, and all bounds are about them. It fails only if memory
 /// runs out.
-pub fn earliest<A: Allocator + Copy>(
-    alloc: A,
-    events: u16,
-    base: &[Bound],
-    extra: &[Bound],
-) -> Result<Option<Vec<Ms, A>>, Memory>
-    requires few { events ≤ most_events }
-    requires begins { take events base.now ≡ horizon_bounds events }
-    requires base_named { All (NamesEvents events) base.now }
-    requires extra_named { All (NamesEvents events) extra.now }
-    ensures { IfOk result (λ found. MatchOption found (¬ HasSchedule (base.now ++ extra.now))
-        (λ times. (length times.items ≡ events + 1) × AreEarliest (base.now ++ extra.now) events (times_of times.items))) }
-{
-    match from_origin(alloc, Direction::Backward, events, base, extra)? {
-        Some(far) => Ok(Some(opposite(alloc, &far)?)),
-        None => Ok(None),
-    }
-}
-
-/// The latest times of the origin and of all events, in the same way.
 pub fn latest<A: Allocator + Copy>(
     alloc: A,
     events: u16,
@@ -46,7 +25,14 @@ pub fn latest<A: Allocator + Copy>(
     ensures { IfOk result (λ found. MatchOption found (¬ HasSchedule (base.now ++ extra.now))
         (λ times. (length times.items ≡ events + 1) × AreLatest (base.now ++ extra.now) events (times_of times.items))) }
 {
-    from_origin(alloc, Direction::Forward, events, base, extra)
+    distances_from(
+        alloc,
+        Direction::Forward,
+        events,
+        base,
+        extra,
+        Event::origin(),
+    )
 }
 
 /// The earliest and the latest times, in the same way.
@@ -65,16 +51,13 @@ pub fn earliest_and_latest<A: Allocator + Copy>(
     ensures latest { IfOk result (λ found. MatchOption found (¬ HasSchedule (base.now ++ extra.now))
         (λ times. (length times.1.items ≡ events + 1) × AreLatest (base.now ++ extra.now) events (times_of times.1.items))) }
 {
-    let rows = Rows::of(alloc, events, base, extra)?;
-    let back = Direction::Backward;
-    let Some(early) = search_from_origin(alloc, back, events, base, extra, &rows)? else {
+    let Some(early) = earliest(alloc, events, base, extra)? else {
         return Ok(None);
     };
-    let onward = Direction::Forward;
-    let Some(late) = search_from_origin(alloc, onward, events, base, extra, &rows)? else {
-        return Ok(None);
-    };
-    Ok(Some((opposite(alloc, &early.far)?, late.far)))
+    match latest(alloc, events, base, extra)? {
+        Some(late) => Ok(Some((early, late))),
+        None => Ok(None),
+    }
 }
 
 /// The soonest times of all events from now on, where each event that is not done counts as left; none
@@ -100,46 +83,25 @@ pub fn soonest<A: Allocator + Copy>(
     earliest(alloc, events, base, &above)
 }
 
-// How long after the origin each event can come at the most, by the bounds or by the bounds turned round; none exactly where
-// the bounds have no schedule.
-fn from_origin<A: Allocator + Copy>(
+// The earliest times, in the same way.
+fn earliest<A: Allocator + Copy>(
     alloc: A,
-    direction: Direction,
     events: u16,
     base: &[Bound],
     extra: &[Bound],
 ) -> Result<Option<Vec<Ms, A>>, Memory>
     requires few { events ≤ most_events }
-    requires network { IsNetwork events (facing direction (base.now ++ extra.now)) }
-    requires named { All (NamesEvents events) (base.now ++ extra.now) }
-    ensures { IfOk result (λ found. MatchOption found (¬ HasSchedule (facing direction (base.now ++ extra.now)))
-        (λ far. AreDistancesFrom (facing direction (base.now ++ extra.now)) events 0 far.items)) }
+    requires begins { take events base.now ≡ horizon_bounds events }
+    requires base_named { All (NamesEvents events) base.now }
+    requires extra_named { All (NamesEvents events) extra.now }
+    ensures { IfOk result (λ found. MatchOption found (¬ HasSchedule (base.now ++ extra.now))
+        (λ times. (length times.items ≡ events + 1) × AreEarliest (base.now ++ extra.now) events (times_of times.items))) }
 {
-    let rows = Rows::of(alloc, events, base, extra)?;
-    match search_from_origin(alloc, direction, events, base, extra, &rows)? {
-        Some(search) => Ok(Some(search.far)),
+    let back = Direction::Backward;
+    match distances_from(alloc, back, events, base, extra, Event::origin())? {
+        Some(far) => Ok(Some(opposite(alloc, &far)?)),
         None => Ok(None),
     }
-}
-
-// The search that finds it, over the rows of the bounds.
-fn search_from_origin<A: Allocator + Copy>(
-    alloc: A,
-    direction: Direction,
-    events: u16,
-    base: &[Bound],
-    extra: &[Bound],
-    rows: &Rows<A>,
-) -> Result<Option<Search<A>>, Memory>
-    requires few { events ≤ most_events }
-    requires network { IsNetwork events (facing direction (base.now ++ extra.now)) }
-    requires named { All (NamesEvents events) (base.now ++ extra.now) }
-    requires rows { AreRows (base.now ++ extra.now) (events + 1) rows.now.outgoing.items }
-    ensures { IfOk result (λ found. MatchOption found (¬ HasSchedule (facing direction (base.now ++ extra.now)))
-        (λ search. HasTables (events + 1) search × AreDistances (facing direction (base.now ++ extra.now)) 0 search.far.items)) }
-{
-    let graph = Graph::new(direction, events, base, extra, &rows.outgoing);
-    Search::found(alloc, &graph, Event::origin())
 }
 
 // The times with their signs changed.

@@ -2,7 +2,8 @@ ghost use Rattle.std.specs.Prelude.{◌≡◌, ◌+◌, ◌<◌, ◌≤◌, ◌�
 ghost use Rattle.stn_net.specs.{Event.most_events, Difference.NamesEvents, Schedule.HasSchedule, Horizon.horizon_bounds};
 ghost use Rattle.stn_conflict.specs.{Relaxation.{AreDistances, IsNetwork}, Named.{IsWay, IsWayOf}};
 
-use crate::graph::{Direction, Graph};
+use crate::arcs::Direction;
+use crate::graph::Graph;
 use crate::levels::{first_step, levels_from};
 use crate::links::{BothWays, Link, Way};
 use crate::outgoing::Rows;
@@ -35,8 +36,9 @@ pub fn both_ways<A: Allocator + Copy>(
     ensures back { IfOk result (λ found. IfSome found
         (λ both. IsWayOf (base.now ++ extra.now) to from (events + 1) both.back.links.items both.back.sum)) }
 {
-    let rows = Rows::of(alloc, events, base, extra)?;
-    let graph = Graph::new(Direction::Forward, events, base, extra, &rows.outgoing);
+    let whole = base.len() + extra.len();
+    let rows = Rows::of(alloc, Direction::Forward, whole, events, base, extra)?;
+    let graph = Graph::new(events, base, extra, &rows);
     let Some(onward) = way(alloc, &graph, from, to)? else {
         return Ok(None);
     };
@@ -54,6 +56,8 @@ fn way<A: Allocator + Copy>(
     to: Event,
 ) -> Result<Option<Way<A>>, Memory>
     requires few { graph.now.events ≤ most_events }
+    requires kept { graph.now.events ≤ graph.now.whole }
+    requires whole { length graph.now.bounds ≤ graph.now.whole }
     requires network { IsNetwork graph.now.events graph.now.bounds }
     requires from { from ≤ graph.now.events }
     requires to { to ≤ graph.now.events }
@@ -76,7 +80,8 @@ fn way_to<A: Allocator + Copy>(
 ) -> Result<Way<A>, Memory>
     requires far { AreDistances graph.now.bounds start far.now }
     requires few { length far.now ≤ most_events + 1 }
-    requires whole { length far.now ≡ graph.now.events + 1 }
+    requires long { length far.now ≡ graph.now.events + 1 }
+    requires whole { length graph.now.bounds ≤ graph.now.whole }
     requires end { end < length far.now }
     ensures { IfOk result (λ way. IsWayOf graph.now.bounds start end (length far.now) way.links.items way.sum) }
 {
@@ -98,7 +103,8 @@ pub(crate) fn way_back<A: Allocator + Copy>(
 ) -> Result<Vec<Link, A>, Memory>
     requires far { AreDistances graph.now.bounds start far.now }
     requires few { length far.now ≤ most_events + 1 }
-    requires whole { length far.now ≡ graph.now.events + 1 }
+    requires long { length far.now ≡ graph.now.events + 1 }
+    requires whole { length graph.now.bounds ≤ graph.now.whole }
     requires end { end < length far.now }
     ensures way { IfOk result (λ links. IsWay graph.now.bounds start end (reverse links.items)) }
     ensures short { IfOk result (λ links. length links.items < length far.now) }

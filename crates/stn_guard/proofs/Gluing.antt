@@ -1,5 +1,5 @@
 use Rattle.std.{proofs.{Common.{◌≡◌, ℕ, ℤ, pos, true, cond, eqb, List, ◌++◌, inl, inr, refl, sym, ap, subst, ◌∙◌}, lemmas.{Bool.{and_parts, Decides.eqb_tells}, List.Elements.{All-append, All-weaker, All-filter}}}, specs.Prelude.{◌↔◌, All, flat_map}}
-use Rattle.stn_replica.proofs.Live.{All-passing, All-filter_passing}
+use Rattle.stn_site.proofs.Live.{All-passing, All-filter_passing}
 use Rattle.stn_time.proofs.Each.{All-left, All-right}
 use Rattle.stn_net.specs.{Difference.Difference, Schedule.{Meets, IsSchedule, HasSchedule}, Windows.Window.IsInWindow}
 use Rattle.stn_guard.{specs.{Owners.{is_at, is_owned, own_bounds}, Guard.Guards}, proofs.Owned.{all_pieces, at_cases, at_owner}}

@@ -3,9 +3,6 @@ pub mod Gluing
 pub mod Split
 pub mod Made
 pub mod OneGuard
-pub mod Lowering
-pub mod Rows
-pub mod Told
 pub mod Steps
 pub mod Restricting
 pub mod Named

@@ -1,6 +1,6 @@
 -- The guard that is made of bounds guards them.
 use Rattle.std.{proofs.{Common.{◌≡◌, ◌≢◌, ℕ, zero, suc, ◌+◌, ◌-◌, ◌<◌, ◌≤◌, ℤ, pos, neg_ℤ, ◌≤ℤ◌, Bool, true, false, ◌&&◌, ◌||◌, eqb, List, [], ◌∷◌, ◌++◌, length, get_or, take, map, inl, inr, refl, sym, ap, subst, arith}, lemmas.{Int.ints, Bool.{eq-eqb, and_from, or_right, Decides.eqb_tells}, List.{Folds.list_any_at, FromFn.{length-map-range_with_len, get_or-map-range_with_len}, Elements.{All-nil, All-cons, All-head, All-tail, All-append, All-take, All-filter}}}}, specs.{Prelude.{All, filter}, List.range_with_len}}
-use Rattle.stn_replica.proofs.Live.{All-passing, All-filter_passing}
+use Rattle.stn_site.proofs.Live.{All-passing, All-filter_passing}
 use Rattle.stn_time.{proofs.Each.{All-left, All-right}, specs.Time.horizon}
 use Rattle.stn_net.specs.{Difference.{Difference, NamesEvents}, Horizon.{horizon_bound, horizon_bounds}, Schedule.{Meets, IsSchedule, HasSchedule}, Windows.Window.IsInWindow}
 use Rattle.stn_guard.{specs.{declared.splitting.Arc.Arc, Owners.{is_owned, own_bounds, is_shared}, Guard.Guards, Making.{arcs_of, shared_arcs, window_bound, names_event, says_more, AreSharedWindows, IsGuardOf}}, proofs.{Owned.{all_pieces, all_of_pieces, at_owner, at_origin, own_or_shared, shared_parts}, Gluing.own_met, Split.{Implies, IsApart, AreLeft, are_left}}}

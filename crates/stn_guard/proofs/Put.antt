@@ -1,11 +1,10 @@
 -- Records that are put to a content one after the other.
 use Rattle.std.{proofs.{Common.{◌≡◌, inl, inr, ⊎_elim, ℕ, true, false, not, List, [], ◌∷◌, ◌++◌, map, Some, refl, sym, ap, subst, ◌∙◌}, lemmas.{List.{map_push, Elements.{All-nil, All-cons, All-head, All-tail, All-append}}, Bool.and_parts}}, specs.Prelude.All}
-use Rattle.stn_replica.proofs.{Live.{All-passing, All-filter_passing, LiveHold, live_from_bounds, bounds_from_live, new_hold, old_hold}, Changes.{IsGrown, grown_with_record}}
+use Rattle.stn_site.{proofs.{Live.{All-passing, All-filter_passing, LiveHold, live_from_bounds, bounds_from_live, new_hold, old_hold}, Changes.{IsGrown, grown_with_record}, Items.addition_items}, specs.{Bounds.{live_bounds, all_bounds}, Held.Held, Calls.{added, took, Leaves, AllLeave}}}
 use Rattle.stn_time.proofs.Each.{All-left, All-right}
 use Rattle.stn_net.specs.{Difference.Difference, Schedule.Meets}
 use Rattle.stn_lift.specs.PlanSource.{PlanSource, base_bounds}
 use Rattle.stn_records.{specs.{Id.SiteCounter, declared.record.Record.Record, ContentLaws.contents_join, Content.{Content, HasItem, IsPart, join_contents, is_known, is_live, next_counter, with_record, plain}}, proofs.Counters.next_is_new}
-use Rattle.stn_site.{specs.{Bounds.{live_bounds, all_bounds}, Held.Held, Calls.{added, took, Leaves, AllLeave}}, proofs.Items.addition_items}
 use Rattle.stn_guard.specs.{Owners.is_owned, Guard.Guards, Adding.AddsEach, Putting.{AllPut, PutsEach}}
 
 abbrev pub Numbered : Type 0

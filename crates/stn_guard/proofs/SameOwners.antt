@@ -1,6 +1,6 @@
 -- Owners that agree on the events that bounds name have the same guard.
 use Rattle.std.{proofs.{Common.{◌≡◌, ℕ, ◌+◌, ◌<◌, ◌≤◌, Bool, not, ◌&&◌, ◌||◌, eqb, List, [], ◌∷◌, ◌++◌, get_or, map, inl, inr, refl, sym, ap, subst, ◌∙◌, arith}, lemmas.{Bool.Decides.eqb_tells, List.{FromFn.{length-map-range_with_len, get_or-map-range_with_len}, Elements.{All-head, All-tail, All-append}}}, Math.Nat.pos_of_ne-zero}, specs.{Prelude.{All, flat_map}, List.{list_any, range_with_len}}}
-use Rattle.stn_replica.proofs.Live.{All-filter_passing}
+use Rattle.stn_site.proofs.Live.{All-filter_passing}
 use Rattle.stn_net.specs.{Difference.{Difference, NamesEvents}, Schedule.IsSchedule}
 use Rattle.stn_guard.{specs.{Owners.{is_at, is_owned, own_bounds, is_shared}, Guard.Guards, Making.{arcs_of, shared_arcs, window_bound, names_event, says_more, AreSplit, AreSharedWindows, IsGuardOf}}, proofs.Whole.filter_same}
 

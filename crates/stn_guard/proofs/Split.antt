@@ -1,9 +1,9 @@
 -- What splitting an arc leaves.
 use Rattle.std.{proofs.{Common.{◌≡◌, ℕ, ℤ, pos, negsuc, ◌+ℤ◌, ◌-ℤ◌, ◌≤ℤ◌, ◌<ℤ◌, Bool, true, false, cond, List, [], ◌∷◌, ◌++◌, refl, sym, subst, arith, append-nil}, lemmas.{Int.{ints, clamps}, List.Elements.{All-nil, All-cons, All-head, All-tail, All-append, All-weaker}}}, specs.{Prelude.All, Int.{int_min, int_max, int_div_euclid}}}
-use Rattle.stn_replica.proofs.Schedules.{schedule_before}
+use Rattle.stn_net.{proofs.{Closure.schedule_before, WindowEnds.lesser_schedule}, specs.{Difference.Difference, Schedule.{Meets, IsSchedule, HasSchedule}, Windows.Window.{IsInWindow, IsWindow}}}
 use Rattle.stn_time.proofs.Each.{All-right}
 use Rattle.stn_net.{specs.{Difference.Difference, Schedule.{Meets, IsSchedule, HasSchedule}, Windows.Window.{IsInWindow, IsWindow}}, proofs.WindowEnds.lesser_schedule}
-use Rattle.stn_guard.specs.{declared.splitting.Arc.Arc, Making.{window_bound, is_implied, split_time, IsSplit, AreSplit}, Narrowing.MeetsArc, Splitting.LeavesTime}
+use Rattle.stn_guard.specs.{declared.splitting.Arc.Arc, Making.{window_bound, is_implied, split_time, IsSplit, AreSplit}, Splitting.{LeavesTime, MeetsArc}}
 
 -- half of a number, rounded down
 pub half_of : (z : ℤ) → ((int_div_euclid z (pos 2) +ℤ int_div_euclid z (pos 2)) ≤ℤ z) × (z ≤ℤ ((int_div_euclid z (pos 2) +ℤ int_div_euclid z (pos 2)) +ℤ pos 1))

@@ -1,9 +1,10 @@
 -- The windows once all shared bounds were split are the guard.
-use Rattle.std.{proofs.{Common.{◌≡◌, ℕ, take, replicate, ◌+◌, ◌<◌, ◌≤◌, ℤ, Bool, false, cond, ◌&&◌, ◌||◌, eqb, List, [], ◌∷◌, ◌++◌, length, get_or, map, refl, sym, ap, subst, ◌∙◌, arith}, lemmas.{Option.MatchOption-at_some, List.{length-take, take-append-le, Folds.list_any-append, FromFn.{length-map-range_with_len, get_or-map-range_with_len}, Elements.{All-head, All-tail, All-weaker}}}}, specs.{Prelude.{All, Option, Some, MatchOption, filter}, List.range_with_len}}
+use Rattle.std.{proofs.{Common.{◌≡◌, ℕ, take, replicate, ◌+◌, ◌<◌, ◌≤◌, ℤ, Bool, false, cond, ◌&&◌, ◌||◌, eqb, List, [], ◌∷◌, ◌++◌, length, get_or, map, refl, sym, ap, subst, ◌∙◌, arith}, lemmas.List.{length-take, take-append-le, Folds.list_any-append, FromFn.{length-map-range_with_len, get_or-map-range_with_len}, Elements.{All-head, All-tail, All-weaker}}}, specs.{Prelude.{All, Option, Some, MatchOption, filter}, List.range_with_len}}
 use Rattle.stn_site.proofs.Flags.{get_or-replicate_same}
 use Rattle.stn_time.proofs.Each.{All-left, All-right}
 use Rattle.stn_net.{specs.{Difference.{Difference, NamesEvents}, Schedule.HasSchedule, Horizon.horizon_bounds}, proofs.Horizons.length-horizon_bounds}
-use Rattle.stn_guard.{specs.{declared.{splitting.Arc.Arc, windows.Windows.Windows}, Owners.is_shared, Making.{shared_arcs, window_bound, names_event, says_more, IsGuardOf}, Narrowing.{AreToldBy, ends_of}, Splitting.{HasOwners, CanSplit, Splits, is_kept, windows_of}}, proofs.{Steps.{some_front, some_behind, splits_on, can_shared, arcs_append}, Told.window_told}}
+use Rattle.stn_conflict.specs.Listing.{ListedBounds}
+use Rattle.stn_guard.{specs.{declared.splitting.Arc.Arc, Owners.is_shared, Making.{shared_arcs, window_bound, names_event, says_more, AreSplit, IsGuardOf}, Splitting.{AreNamedWindows, HasOwners, CanSplit, Splits, is_kept, windows_of}}, proofs.{Split.are_left, Steps.{each_implied, can_behind, can_front, splits_on, can_shared, arcs_append}}}
 
 -- tests that agree on the elements of a list keep the same ones
 pub filter_same : {X : Type 0} (p q : X → Bool) (xs : List X) → All (λ x. p x ≡ q x) xs → filter p xs ≡ filter q xs
@@ -36,22 +37,18 @@ windows_named owner bounds named ends events long are =
     at : ℕ → Difference
     at event = window_bound event (ends event)
 
-pub whole_guard : {A : Type 0} (owner : ℕ → ℕ) (base extra : List Difference) (old middle new : Windows A) (named : List Bool) (guard : List Difference) → AreToldBy (base ++ extra) old
-    → Splits (shared_arcs owner base) old middle → middle.events ≡ old.events → Splits (shared_arcs owner extra) middle new → new.events ≡ old.events
-    → length named ≡ new.events + 1 → AreNamed owner (base ++ extra) named → guard ≡ windows_of named (ends_of new) new.events
-    → IsGuardOf owner old.events (base ++ extra) guard
-whole_guard owner base extra old middle new named guard told first middle_same second new_same long are guard_is =
-    let bounds = base ++ extra in
-    let splits : Splits (shared_arcs owner bounds) old new =
-    subst (λ arcs. Splits arcs old new) (sym (arcs_append owner base extra)) (splits_on (shared_arcs owner base) (shared_arcs owner extra) old middle new first middle_same second) in
-    let done = splits bounds (can_shared owner bounds old told) in
-    subst (λ events. IsGuardOf owner events bounds guard) new_same (record {
-      split = done.0;
-      are_split = done.1;
+pub whole_guard : (owner : ℕ → ℕ) (events : ℕ) (base extra : List Difference) (middle new : ListedBounds) (named : List Bool) (guard : List Difference)
+    → Splits (shared_arcs owner base) (record { events = events; bounds = base ++ extra }) middle → Splits (shared_arcs owner extra) middle new
+    → length named ≡ new.events + 1 → AreNamed owner (base ++ extra) named → AreNamedWindows new named guard → IsGuardOf owner events (base ++ extra) guard
+whole_guard owner events base extra middle new named guard first second long are found =
+    let splits = splits_on (shared_arcs owner base) (shared_arcs owner extra) (record { events = events; bounds = base ++ extra }) middle new first second in
+    subst (λ n. IsGuardOf owner n (base ++ extra) guard) splits.events (record {
+      split = new.bounds;
+      are_split = subst (λ arcs. AreSplit (base ++ extra) arcs new.bounds) (sym (arcs_append owner base extra)) splits.split;
       windows = record {
-        ends = ends_of new;
-        true_ends = λ event most. window_told done.0 new event done.2 most;
-        windows_are = guard_is ∙ windows_named owner bounds named (ends_of new) new.events long are;
+        ends = found.ends;
+        true_ends = found.true_ends;
+        windows_are = found.found_are ∙ windows_named owner (base ++ extra) named found.ends new.events long are;
       };
     })
 
@@ -67,21 +64,24 @@ pub owned_behind : (owners : List ℕ) (events : ℕ) (base extra : List Differe
 owned_behind owners events base extra long named = owned owners events extra long (All-right (NamesEvents events) base extra named)
 
 -- the sides of both parts can be split
-can_both : {A : Type 0} (owner : ℕ → ℕ) (base extra : List Difference) (windows : Windows A) → AreToldBy (base ++ extra) windows
-    → (known : List Difference) × CanSplit known (shared_arcs owner base ++ shared_arcs owner extra) windows
-can_both owner base extra windows told =
-    (base ++ extra, subst (λ arcs. CanSplit (base ++ extra) arcs windows) (arcs_append owner base extra) (can_shared owner (base ++ extra) windows told))
+can_both : (owner : ℕ → ℕ) (events : ℕ) (base extra : List Difference) → HasSchedule (base ++ extra) → All (NamesEvents events) (base ++ extra)
+    → CanSplit (shared_arcs owner base ++ shared_arcs owner extra) (record { events = events; bounds = base ++ extra })
+can_both owner events base extra possible named =
+    subst (λ arcs. CanSplit arcs (record { events = events; bounds = base ++ extra })) (arcs_append owner base extra) (can_shared owner events (base ++ extra) possible named)
 
-pub can_first : {A : Type 0} (owner : ℕ → ℕ) (base extra : List Difference) (windows : Windows A) → AreToldBy (base ++ extra) windows → (known : List Difference) × CanSplit known (shared_arcs owner base) windows
-can_first owner base extra windows told = some_front (shared_arcs owner base) (shared_arcs owner extra) windows (can_both owner base extra windows told)
+pub can_first : (owner : ℕ → ℕ) (events : ℕ) (base extra : List Difference) → HasSchedule (base ++ extra) → All (NamesEvents events) (base ++ extra)
+    → CanSplit (shared_arcs owner base) (record { events = events; bounds = base ++ extra })
+can_first owner events base extra possible named =
+    can_front (shared_arcs owner base) (shared_arcs owner extra) (record { events = events; bounds = base ++ extra }) (can_both owner events base extra possible named)
 
-pub can_second : {A : Type 0} (owner : ℕ → ℕ) (base extra : List Difference) (old new : Windows A) → AreToldBy (base ++ extra) old → Splits (shared_arcs owner base) old new → new.events ≡ old.events
-    → (known : List Difference) × CanSplit known (shared_arcs owner extra) new
-can_second owner base extra old new told splits same = some_behind (shared_arcs owner base) (shared_arcs owner extra) old new (can_both owner base extra old told) splits same
+pub can_second : (owner : ℕ → ℕ) (events : ℕ) (base extra : List Difference) (new : ListedBounds) → HasSchedule (base ++ extra) → All (NamesEvents events) (base ++ extra)
+    → Splits (shared_arcs owner base) (record { events = events; bounds = base ++ extra }) new → CanSplit (shared_arcs owner extra) new
+can_second owner events base extra new possible named splits =
+    can_behind (shared_arcs owner base) (shared_arcs owner extra) (record { events = events; bounds = base ++ extra }) new (can_both owner events base extra possible named) splits
 
--- then the windows are those of some bounds
-pub told_in_the_end : {A : Type 0} (arcs : List Arc) (old new : Windows A) → (known : List Difference) × CanSplit known arcs old → Splits arcs old new → (known : List Difference) × AreToldBy known new
-told_in_the_end arcs old new can splits = let done = splits can.0 can.1 in (done.0, done.2)
+-- once arcs were split, there is a schedule still
+pub still_possible : (arcs : List Arc) (old new : ListedBounds) → CanSplit arcs old → Splits arcs old new → HasSchedule new.bounds
+still_possible arcs old new can splits = (are_left old.bounds arcs new.bounds splits.split can.possible (each_implied old.bounds arcs can.implied)).possible
 
 -- what is noted of both parts, in a list that was false
 pub noted : (owner : ℕ → ℕ) (base extra : List Difference) (n : ℕ) (items none first again second last : List Bool) → items ≡ replicate n false → none ≡ items
@@ -100,8 +100,3 @@ pub begins_both : (events : ℕ) (base extra : List Difference) → take events 
 begins_both events base extra begins =
     let within : events ≤ length base = omega (arith, ap length begins, length-take events base, length-horizon_bounds events) in
     take-append-le events base extra within ∙ begins
-
--- windows that were found
-pub told_at : {A : Type 0} (found : Option (Windows A)) (windows : Windows A) (bounds : List Difference) (events : ℕ) → found ≡ Some windows
-    → MatchOption found (¬ HasSchedule bounds) (λ w. (w.events ≡ events) × AreToldBy bounds w) → (windows.events ≡ events) × AreToldBy bounds windows
-told_at found windows bounds events is told = MatchOption-at_some (¬ HasSchedule bounds) (λ w. (w.events ≡ events) × AreToldBy bounds w) windows is told

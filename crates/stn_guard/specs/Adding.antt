@@ -3,8 +3,7 @@ use Rattle.std.specs.{Prelude.{◌≡◌, ℕ, zero, suc, ◌+◌, nat_lt, Bool,
 use Rattle.stn_net.specs.{Difference.Difference, declared.bound.BoundFault.TheVariants.NoEvent, Schedule.HasSchedule}
 use Rattle.stn_lift.specs.PlanSource.{steps_of, events_of}
 use Rattle.stn_records.specs.{Id.{SiteCounter, most_counter}, Content.{most_known, known_count, next_counter}}
-use Rattle.stn_site.specs.{declared.faults.ReplicaFault.{ReplicaFault, TheVariants.{Bound, CounterSpent, Full}}, Bounds.all_bounds, Held.{Held, plain}, Calls.{added, AllLeave}}
-use Rattle.stn_replica.specs.Own.{has, is_within}
+use Rattle.stn_site.specs.{declared.faults.ReplicaFault.{ReplicaFault, TheVariants.{Bound, CounterSpent, Full}}, Bounds.all_bounds, Held.{Held, plain}, Calls.{added, AllLeave}, Own.{has, is_within}}
 use Rattle.stn_guard.specs.{declared.owners.OwnedSteps.OwnedSteps, Making.IsGuardOf}
 
 -- the owner of an event: the site of the first of the lists that has the event's step, or else this site

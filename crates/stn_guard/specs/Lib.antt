@@ -3,5 +3,4 @@ pub mod Guard
 pub mod Making
 pub mod Adding
 pub mod Putting
-pub mod Narrowing
 pub mod Splitting

@@ -1,7 +1,8 @@
 -- For proofs alone: no public clause cites these words.
-use Rattle.std.specs.{Prelude.{◌≢◌, ℕ, ◌<◌, ◌≤◌, ℤ, ◌+ℤ◌, ◌≤ℤ◌, Bool, false, ◌&&◌, if◌then◌else◌, List, [], ◌∷◌, length, map, filter, slice_index_or, All}, List.range_with_len}
-use Rattle.stn_net.specs.{Difference.Difference, Schedule.IsSchedule}
-use Rattle.stn_guard.specs.{declared.{splitting.Arc.Arc, windows.Windows.Windows}, Making.{AreSplit, says_more, window_bound}, Narrowing.{AreToldBy, MeetsArc}}
+use Rattle.std.specs.{Prelude.{◌≡◌, ◌≢◌, ℕ, ◌<◌, ◌≤◌, ℤ, ◌+ℤ◌, ◌-ℤ◌, ◌≤ℤ◌, Bool, false, ◌&&◌, if◌then◌else◌, List, [], ◌∷◌, length, map, filter, slice_index_or, All}, List.range_with_len}
+use Rattle.stn_net.specs.{Difference.Difference, Schedule.{IsSchedule, HasSchedule}, Windows.Window.IsWindow}
+use Rattle.stn_conflict.specs.Listing.{ListedBounds}
+use Rattle.stn_guard.specs.{declared.splitting.Arc.Arc, Making.{AreSplit, says_more, window_bound}}
 
 -- both events of the bound have an owner
 pub record HasOwners (owners : List ℕ) (bound : Difference) : Type 0 where
@@ -22,19 +23,20 @@ pub record LeavesTime (arc : Arc) (from to : ℤ × ℤ) (time : ℤ) : Type 0 w
   pub from_first : (from.0 +ℤ arc.weight) ≤ℤ time
   pub from_last : time ≤ℤ (from.1 +ℤ arc.weight)
 
--- the windows are those of the bounds, and these imply the arcs, which are about their events
-pub record CanSplit {A : Type 0} (bounds : List Difference) (arcs : List Arc) (windows : Windows A) : Type 0 where
-  pub told : AreToldBy bounds windows
-  pub implied : (time : ℕ → ℤ) → IsSchedule bounds time → All (MeetsArc time) arcs
-  pub named : All (NamesEnds windows.events) arcs
+-- the times meet the arc
+abbrev pub MeetsArc : (ℕ → ℤ) → Arc → Type 0
+MeetsArc time arc = (time arc.to -ℤ time arc.from) ≤ℤ arc.weight
 
--- the windows are those of the bounds once the arcs were split
-abbrev pub AreToldBySplit : {A : Type 0} → List Difference → List Arc → Windows A → Type 0
-AreToldBySplit bounds arcs windows = (split : List Difference) × AreSplit bounds arcs split × AreToldBy split windows
+-- the bounds have a schedule and imply the arcs, which are about their events
+pub record CanSplit (arcs : List Arc) (listed : ListedBounds) : Type 0 where
+  pub possible : HasSchedule listed.bounds
+  pub implied : (time : ℕ → ℤ) → IsSchedule listed.bounds time → All (MeetsArc time) arcs
+  pub named : All (NamesEnds listed.events) arcs
 
--- the new windows are the old ones once the arcs were split, whatever bounds they are those of
-abbrev pub Splits : {A : Type 0} → List Arc → Windows A → Windows A → Type 0
-Splits arcs old new = (bounds : List Difference) → CanSplit bounds arcs old → AreToldBySplit bounds arcs new
+-- the bounds are the old ones and what splits the arcs
+pub record Splits (arcs : List Arc) (old new : ListedBounds) : Type 0 where
+  pub split : AreSplit old.bounds arcs new.bounds
+  pub events : new.events ≡ old.events
 
 -- the event of the window is named, and it says more than the horizon
 abbrev pub is_kept : List Bool → Difference → Bool
@@ -47,3 +49,9 @@ kept named window = if is_kept named window then window ∷ [] else []
 -- those of so many events
 abbrev pub windows_of : List Bool → (ℕ → ℤ × ℤ) → ℕ → List Difference
 windows_of named ends events = filter (is_kept named) (map (λ event. window_bound event (ends event)) (range_with_len 1 events))
+
+-- those of the events that are named
+pub record AreNamedWindows (listed : ListedBounds) (named : List Bool) (found : List Difference) : Type 0 where
+  pub ends : ℕ → ℤ × ℤ
+  pub true_ends : (event : ℕ) → event ≤ listed.events → IsWindow listed.bounds event (ends event).0 (ends event).1
+  pub found_are : found ≡ windows_of named ends listed.events

@@ -1,10 +1,10 @@
-ghost use Rattle.std.specs.Prelude.{◌≡◌, ◌≢◌, ◌+◌, ◌<◌, ◌≤◌, ◌↔◌, ◌++◌, ◌&&◌, ◌||◌, false, ℕ, List, length, take, slice_index_or, All, IsNone, IfOk, IfSome, OnOk};
-ghost use Rattle.stn_net.specs.{Event.most_events, Difference.{Difference, NamesEvents}, Schedule.HasSchedule, Horizon.horizon_bounds};
-ghost use Rattle.stn_guard.specs.{Owners.owner_of, Guard.Guards, Making.{names_event, says_more, window_bound, AreSharedWindows, IsGuardOf}, Narrowing.{AreToldBy, ends_of}, Splitting.{HasOwners, is_kept, kept, windows_of}};
+ghost use Rattle.std.specs.Prelude.{◌≡◌, ◌≢◌, ◌+◌, ◌<◌, ◌≤◌, ◌↔◌, ◌++◌, ◌&&◌, ◌||◌, false, ℕ, ℤ, length, take, slice_index_or, All, IsNone, IfOk, IfSome, OnOk};
+ghost use Rattle.stn_net.specs.{Event.most_events, Difference.{NamesEvents}, Schedule.HasSchedule, Horizon.horizon_bounds, Windows.Window.IsWindow};
+ghost use Rattle.stn_guard.specs.{Owners.owner_of, Guard.Guards, Making.{names_event, says_more, window_bound, AreSharedWindows, IsGuardOf}, Splitting.{AreNamedWindows, HasOwners, is_kept, kept}};
 
 use crate::splitting::{is_shared, split_shared, window_bound};
-use crate::windows::Windows;
 use std::alloc::Allocator;
+use stn_conflict::Windows;
 use stn_net::{Bound, Event};
 use stn_records::Site;
 use stn_time::{HORIZON, Memory};
@@ -39,8 +39,8 @@ pub fn guard<A: Allocator + Copy>(
     let Some(mut windows) = Windows::of(alloc, events, base, extra)? else {
         return Ok(None);
     };
-    split_shared(&mut windows, base, owners);
-    split_shared(&mut windows, extra, owners);
+    split_shared(&mut windows, base, owners)?;
+    split_shared(&mut windows, extra, owners)?;
     let mut named = vec![in alloc; false; owners.len()]?;
     note_named(&mut named, base, owners);
     note_named(&mut named, extra, owners);
@@ -71,11 +71,11 @@ fn named_windows<A: Allocator + Copy>(
 ) -> Result<Vec<Bound, A>, Memory>
     requires few { windows.now.events ≤ most_events }
     requires one_each { length named.now ≡ windows.now.events + 1 }
-    requires told { (known : List Difference) × AreToldBy known windows.now }
-    ensures { IfOk result (λ found. found.items ≡ windows_of named.now (ends_of windows.now) windows.now.events) }
+    requires possible { HasSchedule windows.now.bounds }
+    ensures { IfOk result (λ found. AreNamedWindows windows.now named.now found.items) }
 {
     let mut found = Vec::new(alloc);
-    for number in 1..windows.events + 1 {
+    for number in 1..windows.events() + 1 {
         let event = Event::new(number).unwrap();
         keep(&mut found, named, window_of(windows, event))?;
     }
@@ -110,11 +110,11 @@ fn is_kept(named: &[bool], window: &Bound) -> bool
 fn window_of<A: Allocator + Copy>(windows: &Windows<A>, event: Event) -> Bound
     requires beside { event ≢ 0 }
     requires within { event ≤ windows.now.events }
-    requires told { (known : List Difference) × AreToldBy known windows.now }
-    ensures { result ≡ window_bound event (ends_of windows.now event) }
+    requires possible { HasSchedule windows.now.bounds }
+    ensures { (ends : ℤ × ℤ) × IsWindow windows.now.bounds event ends.0 ends.1 × (result ≡ window_bound event ends) }
 {
     let (earliest, latest) = windows.window(event);
-    window_bound(windows.events, event, earliest, latest)
+    window_bound(windows.events(), event, earliest, latest)
 }
 
 // Whether the bound says more of an event than the horizon does.

@@ -13,8 +13,6 @@ pub use owners::OwnedSteps;
 
 mod adding;
 mod guarding;
-mod latest;
 mod laws;
 mod owners;
 mod splitting;
-mod windows;

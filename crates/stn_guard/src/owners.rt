@@ -5,7 +5,7 @@ ghost use Rattle.stn_guard.specs.Adding as adding;
 use std::alloc::Allocator;
 use stn_net::Event;
 use stn_records::Site;
-use stn_replica::StepRange;
+use stn_site::StepRange;
 use stn_time::Memory;
 
 /// Steps that a site owns.

@@ -1,13 +1,13 @@
-ghost use Rattle.std.specs.Prelude.{◌≡◌, ◌≢◌, ◌≤◌, ◌-ℤ◌, ◌≤ℤ◌, List, [], ◌∷◌, All};
-ghost use Rattle.stn_net.specs.Difference.{Difference, NamesEvents};
+ghost use Rattle.std.specs.Prelude.{◌≡◌, ◌≢◌, ◌≤◌, ◌-ℤ◌, ◌≤ℤ◌, [], ◌∷◌, All, OnOk};
+ghost use Rattle.stn_net.specs.Difference.{NamesEvents};
 ghost use Rattle.stn_time.specs.Time.{IsWithinHorizon};
 ghost use Rattle.stn_guard.specs.{Owners.{owner_of, is_shared}, Making.{arcs_of, shared_arcs, split_time, window_bound}, Splitting.{CanSplit, HasOwners, LeavesTime, Splits}};
 
-use crate::windows::Windows;
 use std::alloc::Allocator;
+use stn_conflict::Windows;
 use stn_net::{Bound, Event};
 use stn_records::Site;
-use stn_time::Ms;
+use stn_time::{Memory, Ms};
 
 // What a side of a bound says: `to` comes at most `weight` after `from`.
 #[derive(Clone, Copy)]
@@ -22,28 +22,31 @@ pub(crate) fn split_shared<A: Allocator + Copy>(
     windows: &mut Windows<A>,
     bounds: &[Bound],
     owners: &[Site],
-)
+) -> Result<(), Memory>
     requires owned { All (HasOwners owners.now) bounds.now }
-    requires can { (known : List Difference) × CanSplit known (shared_arcs (owner_of owners.now) bounds.now) windows.old }
-    ensures splits { Splits (shared_arcs (owner_of owners.now) bounds.now) windows.old windows.new }
-    ensures events { windows.new.events ≡ windows.old.events }
+    requires can { CanSplit (shared_arcs (owner_of owners.now) bounds.now) windows.old }
+    ensures { OnOk result (Splits (shared_arcs (owner_of owners.now) bounds.now) windows.old windows.new) }
 {
     for bound in bounds {
-        split_bound(windows, bound, owners);
+        split_bound(windows, bound, owners)?;
     }
+    Ok(())
 }
 
 // Splits each side of the bound, where it is shared.
-fn split_bound<A: Allocator + Copy>(windows: &mut Windows<A>, bound: &Bound, owners: &[Site])
+fn split_bound<A: Allocator + Copy>(
+    windows: &mut Windows<A>,
+    bound: &Bound,
+    owners: &[Site],
+) -> Result<(), Memory>
     requires owned { HasOwners owners.now bound.now }
-    requires can { (known : List Difference) × CanSplit known (shared_arcs (owner_of owners.now) (bound.now ∷ [])) windows.old }
-    ensures splits { Splits (shared_arcs (owner_of owners.now) (bound.now ∷ [])) windows.old windows.new }
-    ensures events { windows.new.events ≡ windows.old.events }
+    requires can { CanSplit (shared_arcs (owner_of owners.now) (bound.now ∷ [])) windows.old }
+    ensures { OnOk result (Splits (shared_arcs (owner_of owners.now) (bound.now ∷ [])) windows.old windows.new) }
 {
     if !is_shared(bound, owners) {
-        return;
+        return Ok(());
     }
-    split_sides(windows, bound);
+    split_sides(windows, bound)
 }
 
 // Whether the bound is no site's own.
@@ -57,10 +60,9 @@ pub(crate) fn is_shared(bound: &Bound, owners: &[Site]) -> bool
 }
 
 // Splits both sides of the bound, the upper first.
-fn split_sides<A: Allocator + Copy>(windows: &mut Windows<A>, bound: &Bound)
-    requires can { (known : List Difference) × CanSplit known (arcs_of bound.now) windows.old }
-    ensures splits { Splits (arcs_of bound.now) windows.old windows.new }
-    ensures events { windows.new.events ≡ windows.old.events }
+fn split_sides<A: Allocator + Copy>(windows: &mut Windows<A>, bound: &Bound) -> Result<(), Memory>
+    requires { CanSplit (arcs_of bound.now) windows.old }
+    ensures { OnOk result (Splits (arcs_of bound.now) windows.old windows.new) }
 {
     let upper = Arc {
         from: bound.from(),
@@ -72,25 +74,25 @@ fn split_sides<A: Allocator + Copy>(windows: &mut Windows<A>, bound: &Bound)
         to: bound.from(),
         weight: -bound.lo(),
     };
-    split(windows, upper);
-    split(windows, lower);
+    split(windows, upper)?;
+    split(windows, lower)
 }
 
 // Takes what splits the arc: nothing where the windows of its events imply it; else that `to` comes by a time in the
 // middle, and `from` no earlier than `weight` before that.
-fn split<A: Allocator + Copy>(windows: &mut Windows<A>, arc: Arc)
-    requires can { (known : List Difference) × CanSplit known (arc ∷ []) windows.old }
-    ensures splits { Splits (arc ∷ []) windows.old windows.new }
-    ensures events { windows.new.events ≡ windows.old.events }
+fn split<A: Allocator + Copy>(windows: &mut Windows<A>, arc: Arc) -> Result<(), Memory>
+    requires { CanSplit (arc ∷ []) windows.old }
+    ensures { OnOk result (Splits (arc ∷ []) windows.old windows.new) }
 {
     let from = windows.window(arc.from);
     let to = windows.window(arc.to);
     if to.1.get() - from.0.get() <= arc.weight.get() {
-        return;
+        return Ok(());
     }
     let (latest, earliest) = middle(&arc, &from, &to);
-    windows.narrow(arc.to, to.0, latest);
-    windows.narrow(arc.from, earliest, from.1);
+    let events = windows.events();
+    windows.narrow(window_bound(events, arc.to, to.0, latest))?;
+    windows.narrow(window_bound(events, arc.from, earliest, from.1))
 }
 
 // The time in the middle of those by which `to` may come, rounded down, and the time `weight` before it.

@@ -17,3 +17,5 @@ pub mod Fixed
 pub mod SomeNext
 pub mod SomeRehearsal
 pub mod Soonest
+pub mod Schedules
+pub mod Ranges

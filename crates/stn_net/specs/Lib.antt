@@ -5,3 +5,4 @@ pub mod Schedule
 pub mod Horizon
 pub mod Failures
 pub mod Windows
+pub mod Ranges

@@ -13,7 +13,7 @@ returns-then-is_step g c =
     let look : Look = c.look-item.result in
     let into = c.across-into.ensures in
     let step : IsLevelStep searched.bounds start (across look.link) = subst (IsLevelStep searched.bounds start) into (c.is_step.ensures.0 c.if-is_step.true) in
-    subst (IsFirstStepTo searched.bounds start c.args.event) (sym into) (first_in_row searched start c.args.event index looks is look c.loop-look-test.true (sym c.look-item.is) c.loop-look.invariant step)
+    subst (IsFirstStepTo searched.bounds start c.args.event) (sym into) (first_in_row searched start c.args.event index looks c.requires.whole is look c.loop-look-test.true (sym c.look-item.is) c.loop-look.invariant step)
 
 pub is_step-requires-clause-there : goal.is_step-requires-clause-there
 is_step-requires-clause-there g c =
@@ -35,4 +35,4 @@ returns g c =
     let looks = c.row-look-items.result.now in
     let place = c.from.ensures ∙ c.number.ensures.value in
     let is : IsRow searched c.args.event looks = subst (λ x. IsRow searched x looks) place c.row-look-items.ensures in
-    none_in_row searched c.args.start c.args.event c.loop-look.look-index looks is c.loop-look-test.false c.loop-look.invariant
+    none_in_row searched c.args.start c.args.event c.loop-look.look-index looks c.requires.whole is c.loop-look-test.false c.loop-look.invariant

@@ -1,5 +1,5 @@
 use Rattle.std.{proofs.{Common.{◌≡◌, ℕ, Some, ◌<◌, ◌∷◌, ◌++◌, [], None, length, take, refl, sym, subst, ap, ◌+◌, ◌∙◌, arith}, lemmas.{Bool.false≢true, List.{get_or_read, take_more, take_all}}}, specs.List.Contains}
-use Rattle.stn_conflict.{specs.{declared.levels.Walk.Walk, Arcs.arc_of, Relaxation.IsLookOf, Search.{event_at, level_at, LeadsOn}}, proofs.{Tightness.link_among, Rows.in_row, levels.follow.{Given.Over, Goals.{After-from-event, After-look-item, then-leads_on+in_ok-push, else-leads_on}}, Walks.{IsFollowing, reached_at, level_low, following_begins, following_reaches, following_passes, following_ends}}}
+use Rattle.stn_conflict.{specs.{declared.levels.Walk.Walk, Arcs.arc_of, Relaxation.IsLook, Search.{event_at, level_at, LeadsOn}}, proofs.{Tightness.link_among, Rows.in_row, levels.follow.{Given.Over, Goals.{After-from-event, After-look-item, then-leads_on+in_ok-push, else-leads_on}}, Walks.{IsFollowing, reached_at, level_low, following_begins, following_reaches, following_passes, following_ends}}}
 use Rattle.stn_conflict.proofs.levels.follow.Goals as goal
 
 -- the event at the place
@@ -25,7 +25,7 @@ unwrap-level-requires g c =
 pub row-look-items-requires : goal.row-look-items-requires
 row-look-items-requires g c =
     let (i, within, at) = reached g (goal.at.row-look-items-requires g c).After-from-event in
-    omega (arith, within, c.requires.whole)
+    omega (arith, within, c.requires.long)
 
 pub loop-look-init : goal.loop-look-init
 loop-look-init g c =
@@ -43,7 +43,7 @@ overflow_add-level g c =
     omega (arith, low, c.requires.few)
 
 -- the look whose turn it is
-looked : (g : Over) (c : After-look-item g) → IsLookOf c.args.graph.now c.from-event.result c.look-item.result
+looked : (g : Over) (c : After-look-item g) → IsLook c.args.graph.now.bounds c.from-event.result c.look-item.result
 looked g c =
     let looks = c.row-look-items.result.now in
     c.row-look-items.ensures.each c.look-item.result (subst (Contains looks) (sym c.look-item.is) (in_row looks c.loop-look.look-index c.look-item.result c.loop-look-test.true))
@@ -91,6 +91,6 @@ loop-look-preserved g c =
 
 pub returns : goal.returns
 returns g c =
-    following_ends c.args.graph.now c.args.start (length c.args.far.now) c.args.place c.unwrap-level.result c.from-event.result c.row-look-items.result.now c.loop-look.walk c.row-look-items.ensures
+    following_ends c.args.graph.now c.args.start (length c.args.far.now) c.args.place c.unwrap-level.result c.from-event.result c.row-look-items.result.now c.loop-look.walk c.requires.whole c.row-look-items.ensures
     (subst (λ l. IsFollowing c.args.graph.now.bounds c.args.start (length c.args.far.now) c.args.place c.unwrap-level.result c.from-event.result l c.loop-look.walk)
     (take_all c.loop-look.look-index c.row-look-items.result.now c.loop-look-test.false) c.loop-look.invariant)

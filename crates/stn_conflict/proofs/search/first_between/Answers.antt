@@ -1,6 +1,6 @@
 use Rattle.std.proofs.{Common.{◌≡◌, ◌+◌, ◌-◌, ◌/◌, ◌∙◌, length, take, ap, refl, sym, subst, arith}, lemmas.Bool.false≢true}
 use Rattle.stn_net.specs.Schedule.{HasSchedule}
-use Rattle.stn_conflict.proofs.Relaxing.{estimates_of_more}
+use Rattle.stn_conflict.proofs.Relaxing.{estimates_of_more, network_before}
 use Rattle.stn_conflict.proofs.search.first_between.Goals as goal
 
 pub settle-requires : goal.settle-requires
@@ -8,7 +8,10 @@ settle-requires g c =
     let middle = c.loop-high.low + (c.loop-high.high - c.loop-high.low) / 2 in
     let h = c.loop-high.invariant in
     let items : c.copy_from_slice.new.self.items ≡ c.loop-high.known = c.copy_from_slice.ensures.items in
+    let graph = c.args.graph.now in
     rw c.before-in-loop-high.ensures (record {
+      kept = c.requires.kept;
+      network = network_before graph.events middle graph.bounds (omega (arith, h.past)) c.requires.begins c.requires.named;
       search = record {
         tables = record { few = h.tables.few; far = ap length items ∙ h.long; by = h.tables.by; fresh = h.tables.fresh };
         from = refl;

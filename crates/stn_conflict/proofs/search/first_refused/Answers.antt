@@ -6,6 +6,8 @@ pub settle-requires : goal.settle-requires
 settle-requires g c =
     let graph = c.args.graph.now in
     record {
+      kept = c.requires.kept;
+      network = network_known graph.events graph.bounds c.requires.begins c.requires.named;
       search = record {
         tables = subst (λ n. HasTables n c.begin.new.self) c.requires.tables.far c.begin.ensures.tables;
         from = refl;
@@ -20,6 +22,7 @@ first_between-requires g c =
     let copied : c.in_ok-known.known.items ≡ c.begin.new.self.far.items = c.in_ok-known.ensures.items ∙ c.deref.ensures.value in
     let start = c.settle.ensures.search.from ∙ c.begin.ensures.start in
     rw (c.deref_mut.ensures.value, copied) (record {
+      kept = c.requires.kept;
       begins = c.requires.begins;
       named = c.requires.named;
       tables = c.settle.ensures.search.tables;

@@ -1,4 +1,4 @@
-use Rattle.std.{proofs.{Common.{◌≡◌, ◌∷◌, [], arith, ap, length, ◌∙◌}, lemmas.{Int.ints, List.{reverse-append, length-reverse, get_or_read}}}, specs.Prelude.{pos, reverse}}
+use Rattle.std.{proofs.{Common.{◌≡◌, ◌∷◌, [], arith, ap, length, ◌∙◌}, lemmas.{Int.ints, List.{length-take, reverse-append, length-reverse, get_or_read}}}, specs.Prelude.{pos, reverse}}
 use Rattle.stn_net.specs.Schedule.{times_of}
 use Rattle.stn_conflict.{specs.{declared.links.Link.Link, Arcs.arc_of, Culprit.IsCulprit}, proofs.{CycleSums.cycle_of_way, Tightness.link_among, Relaxing.{among_events, network_before}}}
 use Rattle.stn_conflict.proofs.search.named.Goals as goal
@@ -7,6 +7,7 @@ pub refused_side-side-requires : goal.refused_side-side-requires
 refused_side-side-requires g c =
     let first = c.requires.first in
     record {
+      kept = c.requires.kept;
       network = network_before c.args.graph.now.events c.args.place c.args.graph.now.bounds first.past c.requires.begins c.requires.named;
       tables = c.requires.tables;
       there = first.there;
@@ -24,7 +25,8 @@ way_back-requires g c =
     rw (c.before-before.ensures, c.deref.ensures.value, c.arc-arc.ensures.to, c.arc-arc.ensures.from) (record {
       far = side.ensures.distances;
       few = omega (arith, side.ensures.tables.few, long);
-      whole = long;
+      long = long;
+      whole = omega (arith, c.requires.whole, length-take c.args.place bounds);
       end = ends.0;
     })
 

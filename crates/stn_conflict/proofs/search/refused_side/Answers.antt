@@ -4,11 +4,11 @@ use Rattle.stn_conflict.{specs.{Arcs.bound_at, Relaxation.{AreDistances, Searche
 use Rattle.stn_conflict.proofs.search.refused_side.Goals as goal
 
 pub find-requires : goal.find-requires
-find-requires g c = rw c.before-before.ensures (record { tables = c.requires.tables; network = c.requires.network; start = rw c.arc-upper.ensures.to c.requires.named.to })
+find-requires g c = rw c.before-before.ensures (record { tables = c.requires.tables; kept = c.requires.kept; network = c.requires.network; start = rw c.arc-upper.ensures.to c.requires.named.to })
 
 pub find-requires-2 : goal.find-requires-2
 find-requires-2 g c =
-    rw c.before-before.ensures (record { tables = rw c.before-before.ensures at c.find.ensures.tables; network = c.requires.network; start = rw c.arc-upper.ensures.from c.requires.named.from })
+    rw c.before-before.ensures (record { tables = rw c.before-before.ensures at c.find.ensures.tables; kept = c.requires.kept; network = c.requires.network; start = rw c.arc-upper.ensures.from c.requires.named.from })
 
 -- the distance that is read is that to the event at which the upper side's link begins
 record Found (bounds : List Difference) (bound : Difference) (far : List ℤ) (read : ℤ) : Type 0 where

@@ -1,10 +1,27 @@
-use Rattle.std.proofs.Common.{◌≡◌, ap, ◌∙◌, arith, rules}
-use Rattle.stn_guard.{specs.{Making.window_bound, Narrowing.ends_of}, proofs.Named.windows_step}
+use Rattle.std.proofs.Common.{◌≡◌, ℤ, ◌+◌, ◌-◌, ◌≤◌, refl, sym, subst, arith, rules}
+use Rattle.stn_net.specs.Windows.Window.{IsWindow}
+use Rattle.stn_guard.{specs.Making.window_bound, proofs.Named.{AreNamedTo, named_more, origin_alone}}
 use Rattle.stn_guard.proofs.guarding.named_windows.Goals as goal
+
+pub loop-number-init : goal.loop-number-init
+loop-number-init g c = origin_alone c.args.windows.now.bounds c.args.named.now _ c.requires.possible c.new-found.ensures.items
 
 pub loop-number-preserved : goal.loop-number-preserved
 loop-number-preserved g c =
+    let bounds = c.args.windows.now.bounds in
+    let named = c.args.named.now in
+    let number = c.loop-number.number in
     let event : c.unwrap-event.result ≡ c.loop-number.number = search rules in
     let first = c.loop-number.auto.number in
-    windows_step c.args.named.now (ends_of c.args.windows.now) c.loop-number.number c.window_of.result c.loop-number.found.items _ (omega (arith, first)) c.loop-number.invariant
-    (c.window_of.ensures ∙ ap (λ e. window_bound e (ends_of c.args.windows.now e)) event) c.in_ok-keep.ensures
+    let next : (c.loop-number.number - 1) + 1 ≡ c.loop-number.number = omega (arith, first) in
+    let same : c.unwrap-event.result ≡ (c.loop-number.number - 1) + 1 = omega (arith, first, event) in
+    let step = named_more bounds named (number - 1) c.window_of.result c.loop-number.found.items c.keep.new.windows.items c.loop-number.invariant (rw same at c.window_of.ensures) c.in_ok-keep.ensures in
+    subst (λ n. AreNamedTo bounds named n c.keep.new.windows.items) (omega (arith, first)) step
+
+pub returns : goal.returns
+returns g c =
+    let h = c.loop-number.invariant in
+    let all : c.loop-number.number - 1 ≡ c.args.windows.now.events = search rules in
+    let done : AreNamedTo c.args.windows.now.bounds c.args.named.now c.args.windows.now.events c.loop-number.found.items =
+    subst (λ n. AreNamedTo c.args.windows.now.bounds c.args.named.now n c.loop-number.found.items) all h in
+    record { ends = done.ends; true_ends = done.true_ends; found_are = done.found_are }

@@ -1,19 +1,18 @@
-use Rattle.std.proofs.Common.{◌≡◌, true, false, List, sym, subst, rules}
-use Rattle.stn_net.specs.Difference.{Difference}
+use Rattle.std.{proofs.Common.{◌≡◌, true, false, sym, subst, rules}, specs.Prelude.OnOk}
 use Rattle.stn_guard.{specs.{Owners.{owner_of, is_shared}, Splitting.{CanSplit, Splits}}, proofs.Steps.{splits_none, arcs_of_one}}
 use Rattle.stn_guard.proofs.splitting.split_bound.Goals as goal
 
-pub returns-then-not-is_shared-clause-splits : goal.returns-then-not-is_shared-clause-splits
-returns-then-not-is_shared-clause-splits g c =
+pub returns-then-not-is_shared : goal.returns-then-not-is_shared
+returns-then-not-is_shared g c =
     let own : is_shared (owner_of c.args.owners.now) c.args.bound.now ≡ false = first_of (cc, search rules) in
     subst (λ arcs. Splits arcs c.args.windows.now c.args.windows.now) (sym (arcs_of_one (owner_of c.args.owners.now) c.args.bound.now false own)) (splits_none c.args.windows.now)
 
 pub split_sides-requires : goal.split_sides-requires
 split_sides-requires g c =
     let shared : is_shared (owner_of c.args.owners.now) c.args.bound.now ≡ true = first_of (cc, search rules) in
-    record { can = subst (λ arcs. (known : List Difference) × CanSplit known arcs c.args.windows.now) (arcs_of_one (owner_of c.args.owners.now) c.args.bound.now true shared) c.requires.can }
+    subst (λ arcs. CanSplit arcs c.args.windows.now) (arcs_of_one (owner_of c.args.owners.now) c.args.bound.now true shared) c.requires.can
 
-pub returns-clause-splits : goal.returns-clause-splits
-returns-clause-splits g c =
+pub returns : goal.returns
+returns g c =
     let shared : is_shared (owner_of c.args.owners.now) c.args.bound.now ≡ true = first_of (cc, search rules) in
-    subst (λ arcs. Splits arcs c.args.windows.now c.split_sides.new.windows) (sym (arcs_of_one (owner_of c.args.owners.now) c.args.bound.now true shared)) c.split_sides.ensures.splits
+    subst (λ arcs. OnOk c.split_sides.result (Splits arcs c.args.windows.now c.split_sides.new.windows)) (sym (arcs_of_one (owner_of c.args.owners.now) c.args.bound.now true shared)) c.split_sides.ensures

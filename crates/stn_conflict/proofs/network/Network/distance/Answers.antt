@@ -1,13 +1,14 @@
-use Rattle.std.proofs.{Common.{◌≡◌, ◌<◌, pos, get_or, length, append-nil, sym, ap, subst, ◌∙◌, arith}, lemmas.List.get_or_default}
+use Rattle.std.proofs.{Common.{◌≡◌, ◌<◌, [], ◌++◌, pos, get_or, length, append-nil, sym, ap, subst, ◌∙◌, arith}, lemmas.List.get_or_default}
 use Rattle.stn_net.specs.{Schedule.times_of, Matrix.Tightest.IsTightest}
-use Rattle.stn_conflict.specs.{Listing.ListedBounds, Relaxation.{AreDistances, Searched}}
+use Rattle.stn_conflict.specs.{Directions.facing, Listing.ListedBounds, Relaxation.{AreDistances, Searched}}
 use Rattle.stn_conflict.proofs.network.Network.distance.Goals as goal
 
 pub returns-clause-found : goal.returns-clause-found
 returns-clause-found g c =
     let far = c.find.new.self.far.items in
+    let faced = c.add.ensures.rows.faced ∙ c.self.invariant.first.faced in
     let whole : c.new-graph.result.bounds ≡ c.args.self.now.bounds =
-    ap (λ (v : Searched). v.bounds) c.new-graph.ensures ∙ append-nil c.deref-2.result.now ∙ c.deref-2.ensures.value ∙ ap (λ (l : ListedBounds). l.bounds) c.self.view_is in
+    ap (λ (v : Searched). v.bounds) c.new-graph.ensures ∙ ap (λ d. facing d (c.deref-2.result.now ++ [])) faced ∙ append-nil c.deref-2.result.now ∙ c.deref-2.ensures.value ∙ ap (λ (l : ListedBounds). l.bounds) c.self.view_is in
     let exact : AreDistances c.new-graph.result.bounds c.args.from c.find.new.self.far.items = c.find.ensures.distances c.if-not-find.false in
     let long = c.find.ensures.tables.far in
     let events = ap (λ (v : Searched). v.events) c.new-graph.ensures ∙ ap (λ (l : ListedBounds). l.events) c.self.view_is in

@@ -1,6 +1,6 @@
 use Rattle.std.proofs.{Common.{◌≡◌, ◌+◌, pos, true, get_or, length, replicate, refl, rules, ap, subst, ◌∙◌, arith}, lemmas.{Int.ints, List.{get_or_default, length-replicate}}}
 use Rattle.stn_net.specs.Schedule.{times_of}
-use Rattle.stn_conflict.{specs.{Listing.ListedBounds, Relaxation.{AreDistances, AreFirstRows, IsSearch}}, proofs.Relaxing.{all_fresh, among_events, distances_relaxed, distances_taken}}
+use Rattle.stn_conflict.{specs.{declared.arcs.Direction.TheVariants.Forward, Listing.ListedBounds, Relaxation.{AreDistances, AreFirstRows, IsSearch}}, proofs.Relaxing.{all_fresh, among_events, distances_relaxed, distances_taken}}
 use Rattle.stn_conflict.proofs.network.Network.latest_apart.Goals as goal
 
 pub invariant_of-self-then-not-branch : goal.invariant_of-self-then-not-branch
@@ -14,13 +14,13 @@ invariant_of-self-then-not-branch g c =
     record {
       few = old.few;
       network = old.network;
-      first = subst (λ l. AreFirstRows l (is.events + 1) c.extend.new.rows) whole c.extend.ensures.rows;
+      first = subst (λ l. AreFirstRows Forward is.events l (is.events + 1) c.extend.new.rows) whole c.extend.ensures.rows;
       late = record {
         tables = record { few = late.tables.few; far = late.tables.far; by = late.tables.by; fresh = ap length filled ∙ length-replicate (is.events + 1) true };
         from = late.from;
         estimates = late.estimates;
       };
-      relaxed = all_fresh is.bounds.items c.extend.new.latest.far.items c.fill.new.self.items (is.events + 1) filled (among_events is.bounds.items is.events (is.events + 1) refl old.network.named);
+      relaxed = all_fresh is.events is.bounds.items c.extend.new.latest.far.items c.fill.new.self.items (is.events + 1) filled (among_events is.bounds.items is.events (is.events + 1) refl old.network.named);
       tables = old.tables;
     }
 
@@ -35,9 +35,9 @@ invariant_of-self-2 g c =
     record {
       few = old.few;
       network = old.network;
-      first = subst (λ l. AreFirstRows l (is.events + 1) c.extend.new.rows) whole c.extend.ensures.rows;
+      first = subst (λ l. AreFirstRows Forward is.events l (is.events + 1) c.extend.new.rows) whole c.extend.ensures.rows;
       late = subst (λ l. IsSearch l 0 (is.events + 1) c.extend.new.latest) whole c.extend.ensures.late;
-      relaxed = λ link there stale. met link there;
+      relaxed = λ link there listed stale. met link there;
       tables = old.tables;
     }
 

@@ -11,7 +11,7 @@ invariant_of-result g c =
     c.in_ok-extend_from_slice.ensures.items ∙ ap (λ l. l ++ c.args.extra.now) c.in_ok-bounds.ensures.items in
     let network : IsNetwork c.args.events c.extend_from_slice.new.self.items =
     rw whole (network_of c.args.events c.args.base.now c.args.extra.now c.requires.begins c.requires.base_named c.requires.extra_named) in
-    let long : length c.in_ok-latest.latest.far.items ≡ c.args.events + 1 = c.in_ok-latest.ensures.far ∙ ap (λ n. n + 1) c.from.ensures in
+    let long : length c.in_ok-latest.latest.far.items ≡ c.args.events + 1 = c.in_ok-latest.ensures.far ∙ ap (λ n. n + 1) c.from-2.ensures in
     let tables = c.begin.ensures.tables in
     let counted : c.begin.new.self.fresh.len ≡ c.args.events + 1 = search rules ∙ tables.fresh ∙ long in
     let filled : c.fill.new.self.items ≡ replicate (c.args.events + 1) true = rw counted at (c.fill.ensures.items (λ _ e. e)) in
@@ -20,13 +20,13 @@ invariant_of-result g c =
     record {
       few = c.requires.few;
       network = network;
-      first = c.in_ok-rows.ensures c.extend_from_slice.new.self.items;
+      first = rw c.from.ensures at (c.in_ok-rows.ensures c.extend_from_slice.new.self.items);
       late = record {
         tables = record { few = omega arith; far = tables.far ∙ long; by = tables.by ∙ long; fresh = ap length filled ∙ length-replicate (c.args.events + 1) true };
         from = c.begin.ensures.start ∙ c.origin.ensures;
         estimates = estimates;
       };
-      relaxed = all_fresh c.extend_from_slice.new.self.items c.begin.new.self.far.items c.fill.new.self.items (c.args.events + 1) filled
+      relaxed = all_fresh c.args.events c.extend_from_slice.new.self.items c.begin.new.self.far.items c.fill.new.self.items (c.args.events + 1) filled
           (among_events c.extend_from_slice.new.self.items c.args.events (c.args.events + 1) refl network.named);
-      tables = rw (← c.from-2.ensures) c.in_ok-search.ensures;
+      tables = rw (← c.from-3.ensures) c.in_ok-search.ensures;
     }

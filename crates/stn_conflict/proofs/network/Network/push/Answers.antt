@@ -1,6 +1,6 @@
 use Rattle.std.proofs.{Common.{◌≡◌, ◌+◌, [], ◌∷◌, ◌++◌, true, set, sym, subst, ◌∙◌, arith}, lemmas.List.length-set}
 use Rattle.stn_net.specs.Difference.{NamesEvents}
-use Rattle.stn_conflict.{specs.{Listing.ListedBounds, Relaxation.IsRelaxedBut}, proofs.{Relaxing.{network_more, estimates_push, relaxed_push}, Rows.rows_longer}}
+use Rattle.stn_conflict.{specs.{declared.arcs.Direction.TheVariants.Forward, Listing.ListedBounds, Relaxation.IsRelaxedBut}, proofs.{Relaxing.{network_more, estimates_push, relaxed_push}, Rows.rows_longer}}
 use Rattle.stn_conflict.proofs.network.Network.push.Goals as goal
 
 pub invariant_of-self-2 : goal.invariant_of-self-2
@@ -13,12 +13,12 @@ invariant_of-self-2 g c =
     let named : NamesEvents is.events bound = subst (λ (l : ListedBounds). NamesEvents l.events bound) (sym c.self.view_is) c.requires in
     let from : c.from-2.result ≡ bound.from = c.from-2.ensures ∙ c.number.ensures.value ∙ c.from.ensures.value in
     let to : c.from-3.result ≡ bound.to = c.from-3.ensures ∙ c.number-2.ensures.value ∙ c.to.ensures.value in
-    let relaxed : IsRelaxedBut (bounds ++ bound ∷ []) is.latest.far.items (set (set fresh bound.from true) bound.to true) =
-    relaxed_push is.bounds.items c.args.bound is.latest.far.items is.latest.fresh.items (omega (arith, old.late.tables.fresh, named.from)) (omega (arith, old.late.tables.fresh, named.to)) old.relaxed in
+    let relaxed : IsRelaxedBut is.events (bounds ++ bound ∷ []) is.latest.far.items (set (set fresh bound.from true) bound.to true) =
+    relaxed_push is.events is.bounds.items c.args.bound is.latest.far.items is.latest.fresh.items (omega (arith, old.late.tables.fresh, named.from)) (omega (arith, old.late.tables.fresh, named.to)) old.relaxed in
     rw c.in_ok-push.ensures.items (record {
       few = old.few;
       network = network_more is.events is.bounds.items c.args.bound old.network named;
-      first = rows_longer is.bounds.items (c.args.bound ∷ []) (is.events + 1) is.rows old.first;
+      first = rows_longer Forward is.events is.bounds.items (c.args.bound ∷ []) (is.events + 1) is.rows old.first;
       late = record {
         tables = record {
           few = old.late.tables.few;

@@ -1,6 +1,6 @@
 use Rattle.std.proofs.{Common.{◌≡◌, ◌+◌, [], ◌∷◌, ◌++◌, true, set, refl, sym, subst, ap, length, take, ◌∙◌, arith}, Math.Seq.take-append_seam, lemmas.{Bool.true≢false, List.length-set}}
 use Rattle.stn_net.specs.{Difference.NamesEvents, Schedule.HasSchedule}
-use Rattle.stn_conflict.{specs.{Listing.ListedBounds, Relaxation.{AreDistances, AreFirstRows, HasTables, IsRelaxedBut, IsSearch}}, proofs.{Relaxing.{distances_relaxed, estimates_push, network_more, relaxed_push}, Rows.rows_longer, network.Network.take.{Given.Over, Goals.After-deref}}}
+use Rattle.stn_conflict.{specs.{declared.arcs.Direction.TheVariants.Forward, Listing.ListedBounds, Relaxation.{AreDistances, AreFirstRows, HasTables, IsRelaxedBut, IsSearch}}, proofs.{Relaxing.{distances_relaxed, estimates_push, network_more, relaxed_push}, Rows.{first_own, rows_longer}, network.Network.take.{Given.Over, Goals.After-deref}}}
 use Rattle.stn_conflict.proofs.network.Network.take.Goals as goal
 
 -- the bound is about the events
@@ -11,10 +11,16 @@ named g c = subst (λ (l : ListedBounds). NamesEvents l.events c.args.bound) (sy
 longer : (g : Over) (c : After-deref g) → c.deref.result.now ≡ c.self.inside.bounds.items ++ c.args.bound ∷ []
 longer g c = c.deref.ensures.value ∙ c.in_ok-push.ensures.items
 
+pub extend-fits-requires-clause-network : goal.extend-fits-requires-clause-network
+extend-fits-requires-clause-network g c =
+    let is = c.self.inside in
+    let place = (goal.at.extend-fits-requires-clause-network g c).After-deref in
+    rw (longer g place) (network_more is.events is.bounds.items c.args.bound c.self.invariant.network (named g place))
+
 pub extend-fits-requires-clause-rows : goal.extend-fits-requires-clause-rows
 extend-fits-requires-clause-rows g c =
     let is = c.self.inside in
-    rw (longer g (goal.at.extend-fits-requires-clause-rows g c).After-deref) (rows_longer is.bounds.items (c.args.bound ∷ []) (is.events + 1) is.rows c.self.invariant.first)
+    rw (longer g (goal.at.extend-fits-requires-clause-rows g c).After-deref) (rows_longer Forward is.events is.bounds.items (c.args.bound ∷ []) (is.events + 1) is.rows c.self.invariant.first)
 
 pub extend-fits-requires-clause-late : goal.extend-fits-requires-clause-late
 extend-fits-requires-clause-late g c =
@@ -41,8 +47,8 @@ extend-fits-requires-clause-relaxed g c =
     let ends = named g place in
     let from : c.from-2.result ≡ bound.from = c.from-2.ensures ∙ c.number.ensures.value ∙ c.from.ensures.value in
     let to : c.from-3.result ≡ bound.to = c.from-3.ensures ∙ c.number-2.ensures.value ∙ c.to.ensures.value in
-    let relaxed : IsRelaxedBut (is.bounds.items ++ bound ∷ []) is.latest.far.items (set (set is.latest.fresh.items bound.from true) bound.to true) =
-    relaxed_push is.bounds.items bound is.latest.far.items is.latest.fresh.items (omega (arith, old.late.tables.fresh, ends.from)) (omega (arith, old.late.tables.fresh, ends.to)) old.relaxed in
+    let relaxed : IsRelaxedBut is.events (is.bounds.items ++ bound ∷ []) is.latest.far.items (set (set is.latest.fresh.items bound.from true) bound.to true) =
+    relaxed_push is.events is.bounds.items bound is.latest.far.items is.latest.fresh.items (omega (arith, old.late.tables.fresh, ends.from)) (omega (arith, old.late.tables.fresh, ends.to)) old.relaxed in
     rw (longer g place, from, to) relaxed
 
 pub invariant_of-self-in-Ok-true : goal.invariant_of-self-in-Ok-true
@@ -58,9 +64,9 @@ invariant_of-self-in-Ok-true g c =
     record {
       few = old.few;
       network = rw c.in_ok-push.ensures.items (network_more is.events is.bounds.items c.args.bound old.network (named g place));
-      first = subst (λ l. AreFirstRows l (is.events + 1) c.extend-fits.new.rows) whole c.extend-fits.ensures.rows;
+      first = subst (λ l. AreFirstRows Forward is.events l (is.events + 1) c.extend-fits.new.rows) whole c.extend-fits.ensures.rows;
       late = subst (λ l. IsSearch l 0 (is.events + 1) c.extend-fits.new.latest) whole c.extend-fits.ensures.late;
-      relaxed = λ link there stale. met link there;
+      relaxed = λ link there listed stale. met link there;
       tables = rw old.late.tables.far at c.copy_from.ensures.tables;
     }
 
@@ -74,14 +80,14 @@ invariant_of-self-2 g c =
     let count : c.len-count.result ≡ length is.bounds.items = omega (arith, c.len-count.ensures, is.bounds.ok.0) in
     let back : c.truncate.new.self.items ≡ is.bounds.items =
     c.truncate.ensures.items ∙ ap (take c.len-count.result) c.in_ok-push.ensures.items ∙ ap (λ n. take n (is.bounds.items ++ c.args.bound ∷ [])) count ∙ take-append_seam is.bounds.items (c.args.bound ∷ []) in
-    let rows : AreFirstRows (is.bounds.items ++ c.args.bound ∷ []) (is.events + 1) c.extend-fits.new.rows =
-    subst (λ l. AreFirstRows l (is.events + 1) c.extend-fits.new.rows) (longer g place) c.extend-fits.ensures.rows in
+    let rows : AreFirstRows Forward is.events (is.bounds.items ++ c.args.bound ∷ []) (is.events + 1) c.extend-fits.new.rows =
+    subst (λ l. AreFirstRows Forward is.events l (is.events + 1) c.extend-fits.new.rows) (longer g place) c.extend-fits.ensures.rows in
     let kept : HasTables (is.events + 1) saved = rw old.late.tables.far at c.copy_from.ensures.tables in
     rw back (record {
       few = old.few;
       network = old.network;
-      first = subst (λ n. AreFirstRows is.bounds.items n c.cut.new.self) rows.stand.long
-          (c.cut.ensures.rows is.bounds.items (c.args.bound ∷ []) count (subst (λ n. AreFirstRows (is.bounds.items ++ c.args.bound ∷ []) n c.extend-fits.new.rows) (sym rows.stand.long) rows));
+      first = rw (rows.faced, rows.choice, rows.stand.long) at (c.cut.ensures.rows is.bounds.items (c.args.bound ∷ []) count
+          (first_own Forward is.events (is.bounds.items ++ c.args.bound ∷ []) (is.events + 1) c.extend-fits.new.rows rows));
       late = record {
         tables = rw kept.far at again.tables;
         from = again.start ∙ c.copy_from.ensures.start ∙ old.late.from;

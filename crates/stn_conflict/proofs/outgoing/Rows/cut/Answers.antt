@@ -1,6 +1,17 @@
 use Rattle.std.proofs.{Common.{◌≡◌, inl, inr, ◌*◌, ◌<◌, length, set, take, sym, subst, ap, ◌∙◌, arith}, lemmas.{Bool.cases_eq, List.length-set}}
+use Rattle.std.specs.List.Sorted.{IsNonDecreasingBy}
 use Rattle.stn_conflict.{specs.Relaxation.{row_of, IsCutAt}, proofs.Rows.{AreCut, replaced_here, replaced_other, row_is, rows_cut}}
 use Rattle.stn_conflict.proofs.outgoing.Rows.cut.Goals as goal
+
+pub looks_before-kept-requires : goal.looks_before-kept-requires
+looks_before-kept-requires g c =
+    let rows = c.loop-event.self.outgoing.items in
+    let event = c.loop-event.event in
+    let h = c.loop-event.invariant in
+    let there : event < length rows = omega (arith, c.loop-event-test.true, c.len-event-end.ensures, h.long) in
+    let read : c.deref.result.now ≡ row_of c.args.self.now.outgoing.items event =
+    c.deref.ensures.value ∙ sym (row_is rows event c.index.result.now there c.index.ensures) ∙ h.rest event (omega arith) in
+    subst (IsNonDecreasingBy (λ look. look.link.place)) (sym read) (c.requires.1.stand.ordered event)
 
 pub loop-event-preserved : goal.loop-event-preserved
 loop-event-preserved g c =
@@ -17,6 +28,8 @@ loop-event-preserved g c =
     let here : row_of (set rows event new) event ≡ take kept (row_of initial event) =
     replaced_here rows event new there ∙ c.truncate.ensures.items ∙ ap (take kept) (sym (row_is rows event c.index_mut.result.now there c.index_mut.ensures.value) ∙ was) in
     record {
+      turned = h.turned;
+      chosen = h.chosen;
       long = length-set rows event new ∙ h.long;
       added = h.added;
       cut = λ x below. elim (cases_eq x event) [
@@ -31,7 +44,8 @@ returns-then-place-self g c =
     let h = c.loop-event.invariant in
     record {
       rows = λ bounds more is first.
-          rows_cut bounds more (length c.args.self.now.outgoing.items) c.args.place c.args.self.now (record { outgoing = c.loop-event.self.outgoing; added = 2 * c.args.place }) is first h.long
+          rows_cut c.args.self.now.direction c.args.self.now.whole bounds more (length c.args.self.now.outgoing.items) c.args.place c.args.self.now
+          (record { direction = c.loop-event.self.direction; whole = c.loop-event.self.whole; outgoing = c.loop-event.self.outgoing; added = 2 * c.args.place }) is first h.turned h.chosen h.long
           (λ x below. h.cut x (omega (arith, below, c.loop-event-test.false, c.len-event-end.ensures))) (omega arith) (λ rank before front. front) (omega (arith, c.if-place-self.true, h.added));
     }
 
@@ -40,7 +54,7 @@ returns-else-place-self g c =
     let h = c.loop-event.invariant in
     record {
       rows = λ bounds more is first.
-          rows_cut bounds more (length c.args.self.now.outgoing.items) c.args.place c.args.self.now c.loop-event.self is first h.long
+          rows_cut c.args.self.now.direction c.args.self.now.whole bounds more (length c.args.self.now.outgoing.items) c.args.place c.args.self.now c.loop-event.self is first h.turned h.chosen h.long
           (λ x below. h.cut x (omega (arith, below, c.loop-event-test.false, c.len-event-end.ensures))) (omega (arith, c.if-place-self.false)) (λ rank before front. omega (arith, before, h.added))
           (omega (arith, h.added));
     }

@@ -4,6 +4,8 @@ use Rattle.stn_conflict.proofs.relaxation.Search.find.Goals as goal
 
 pub settle-requires : goal.settle-requires
 settle-requires g c = record {
+  network = c.requires.network;
+  kept = c.requires.kept;
   search = record {
     tables = subst (λ n. HasTables n c.begin.new.self) c.requires.tables.far c.begin.ensures.tables;
     from = refl;

@@ -1,13 +1,21 @@
-use Rattle.std.{proofs.{Common.{◌≡◌, inl, inr, ℕ, ◌+◌, ◌<◌, refl, sym, subst, ◌∙◌, arith}, lemmas.{Bool.cases_lt, List.get_or_default}}, specs.{List.Contains, Prelude.slice_index_or}}
+use Rattle.std.{proofs.{Common.{◌≡◌, inl, inr, ℕ, pos, ◌+◌, ◌<◌, length, refl, sym, subst, ◌∙◌, arith}, lemmas.{Int.ints, Bool.cases_lt, List.{get_or_default, get_or_read}}}, specs.{List.Contains, Prelude.slice_index_or}}
+use Rattle.stn_net.specs.Schedule.{times_of}
 use Rattle.stn_conflict.{specs.{declared.outgoing.Look.Look, Relaxation.{IsFloor, IsRelaxedOf, Lowers}}, proofs.{Rows.in_row, Lowering.{fallen_since, freshens_on, lowers_on, still_relaxed}, relaxation.Search.relax_from.{Given.Over, Goals.{After-relax, then-branch, else-branch}}}}
 use Rattle.stn_conflict.proofs.relaxation.Search.relax_from.Goals as goal
 
 pub relax-requires : goal.relax-requires
-relax-requires g c = record {
-  begun = c.loop-look.invariant.begun;
-  look = c.row-look-items.ensures.each c.look-item.result
-      (subst (Contains c.row-look-items.result.now) (sym c.look-item.is) (in_row c.row-look-items.result.now c.loop-look.look-index c.look-item.result c.loop-look-test.true));
-}
+relax-requires g c =
+    let far = c.args.self.now.far.items in
+    let h = c.loop-look.invariant in
+    let there : c.args.event < length far = omega (arith, c.requires.event, c.requires.begun.tables.far) in
+    let here : c.index-here.result.now ≡ times_of far c.args.event = get_or_read far _ _ there c.index-here.ensures (pos 0) in
+    record {
+      begun = h.begun;
+      here = (let fall = h.lowers.fall c.args.event in omega (arith, ints));
+      still = λ stale. (h.freshens.kept c.args.event stale).1 ∙ sym here;
+      look = c.row-look-items.ensures.each c.look-item.result
+          (subst (Contains c.row-look-items.result.now) (sym c.look-item.is) (in_row c.row-look-items.result.now c.loop-look.look-index c.look-item.result c.loop-look-test.true));
+    }
 
 -- the next link lowers the estimates as one from the same start
 next : (g : Over) (c : After-relax g) → Lowers c.args.graph.now.bounds c.args.self.now.start c.loop-look.self.far.items c.relax.new.self.far.items
@@ -30,7 +38,7 @@ loop-look-preserved g c =
     let freshens = freshens_on bounds start first.far.items old.far.items new.far.items h.lowers step first.fresh.items old.fresh.items new.fresh.items h.freshens e.freshens in
     let relaxed : (k : ℕ) (look : Look) → k < index + 1 → slice_index_or looks k look ≡ look → IsRelaxedOf bounds new look.link = λ k look below at.
     elim (cases_lt k index) [
-      | inl before ↦ λ there stale. still_relaxed bounds start look.link old.far.items old.fresh.items new.far.items new.fresh.items step e.freshens stale (h.relaxed k look before at there)
+      | inl before ↦ λ stale. still_relaxed bounds start look.link old.far.items old.fresh.items new.far.items new.fresh.items step e.freshens stale (h.relaxed k look before at)
       | inr past ↦
           let here : k ≡ index = omega arith in
           let same : c.look-item.result ≡ look = c.look-item.is ∙ get_or_default looks index c.look-item.result look c.loop-look-test.true ∙ subst (λ n. slice_index_or looks n look ≡ look) here at in

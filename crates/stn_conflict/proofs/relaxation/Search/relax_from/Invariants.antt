@@ -1,10 +1,10 @@
-use Rattle.std.{proofs.Common.{◌≡◌, ℕ, ◌+◌, ◌<◌}, specs.Prelude.{IfSome, IfNone, slice_index_or}}
+use Rattle.std.{proofs.Common.{◌≡◌, ℕ, ◌<◌}, specs.Prelude.{IfSome, IfNone, slice_index_or}}
 use Rattle.stn_conflict.specs.{declared.outgoing.Look.Look, Relaxation.{Freshens, HasFallen, IsBegun, IsRelaxedOf, Lowers}}
 use Rattle.stn_conflict.proofs.relaxation.Search.relax_from.Given as goal
 
 abbrev pub invariant-loop-look : goal.invariant-loop-look
 invariant-loop-look g l = record {
-  begun : IsBegun l.graph.bounds (l.graph.events + 1) l.self;
+  begun : IsBegun l.graph l.self;
   start : l.self.start ≡ l.fn.self.start;
   sweeps : l.self.sweeps ≡ l.fn.self.sweeps;
   lowers : Lowers l.graph.bounds l.fn.self.start l.fn.self.far.items l.self.far.items;

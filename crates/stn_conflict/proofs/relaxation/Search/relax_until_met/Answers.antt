@@ -1,13 +1,13 @@
 use Rattle.std.{proofs.{Common.{◌≡◌, ◌+◌, ◌≤◌, ◌<◌, ℕ, List, length, refl, ap, sym, subst, ◌∙◌, arith}, lemmas.Int.ints}, specs.Prelude.{ℤ, pos, All}}
 use Rattle.stn_net.specs.{Difference.Difference, Schedule.times_of}
-use Rattle.stn_conflict.{specs.Relaxation.{HasFallen, IsFloor, Lowers, NamesAmong}, proofs.{Lowering.{lowers_none, lowers_on}, Sweeps.{IsHighest, above, above_most, fewer_above, some_highest}, relaxation.Search.relax_until_met.{Given.Over, Goals.{In-Some, then-self-count-via-then-self-count, then-self-count-via-else-self-count+then-goes_round}}}}
+use Rattle.stn_conflict.{specs.Relaxation.{HasFallen, IsFloor, Lowers, NamesAmong}, proofs.{Lowering.{lowers_none, lowers_on}, Relaxing.all_met, Sweeps.{IsHighest, above, above_most, fewer_above, some_highest}, relaxation.Search.relax_until_met.{Given.Over, Goals.{In-Some, then-self-count-via-then-self-count, then-self-count-via-else-self-count+then-goes_round}}}}
 use Rattle.stn_conflict.proofs.relaxation.Search.relax_until_met.Goals as goal
 
 pub loop-event-init : goal.loop-event-init
 loop-event-init g c =
     let begun = c.requires.begun in
     record {
-      begun = record { tables = record { few = begun.tables.few; far = begun.tables.far; by = begun.tables.by; fresh = begun.tables.fresh }; named = begun.named; start_named = begun.start_named; own = begun.own };
+      begun = record { tables = record { few = begun.tables.few; far = begun.tables.far; by = begun.tables.by; fresh = begun.tables.fresh }; network = begun.network; kept = begun.kept; named = begun.named; start_named = begun.start_named; own = begun.own };
       start = refl;
       lowers = lowers_none _ _ _;
       relaxed = c.requires.relaxed;
@@ -52,7 +52,7 @@ swept g c =
     record {
       lowers = lowers_on bounds start first mid far h.lowers step;
       counted = λ top highest.
-          let fewer = fewer_above bounds start first mid far c.sweep.new.self.fresh.items top highest h.lowers step named own c.in_ok-event.ensures.relaxed
+          let fewer = fewer_above c.args.graph.now.whole c.args.graph.now.events bounds start first mid far c.sweep.new.self.fresh.items top e.begun.kept e.begun.network highest h.lowers step named own c.in_ok-event.ensures.relaxed
           (λ x there. c.in_ok-event.ensures.stale x (omega arith)) c.in-Some.event fell in
           let less : above (c.args.graph.now.events + 1) top far < above (c.args.graph.now.events + 1) top mid = subst (λ n. above n top far < above n top mid) long fewer in
           omega (arith, h.counted top highest);
@@ -84,3 +84,10 @@ loop-event-preserved g c =
       few = omega (arith, e.sweeps, h.few, c.if-self-count.false);
       counted = λ top highest. omega (arith, s.counted top highest, e.sweeps);
     }
+
+pub returns-clause-met : goal.returns-clause-met
+returns-clause-met g c =
+    let e = c.in_ok-event.ensures in
+    let begun = c.sweep.ensures.begun in
+    all_met c.args.graph.now.whole c.args.graph.now.bounds c.args.graph.now.events c.loop-event.self.far.items c.sweep.new.self.far.items c.sweep.new.self.fresh.items begun.kept begun.network begun.named e.relaxed e.stale
+    (rw c.in_default.is at e.same)

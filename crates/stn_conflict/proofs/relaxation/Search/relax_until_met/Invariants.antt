@@ -4,10 +4,10 @@ use Rattle.stn_conflict.proofs.relaxation.Search.relax_until_met.Given as goal
 
 abbrev pub invariant-loop-event : goal.invariant-loop-event
 invariant-loop-event g l = record {
-  begun : IsBegun l.graph.bounds (l.graph.events + 1) l.self;
+  begun : IsBegun l.graph l.self;
   start : l.self.start ≡ l.fn.self.start;
   lowers : Lowers l.graph.bounds l.fn.self.start l.fn.self.far.items l.self.far.items;
-  relaxed : IsRelaxedBut l.graph.bounds l.self.far.items l.self.fresh.items;
+  relaxed : IsRelaxedBut l.graph.whole l.graph.bounds l.self.far.items l.self.fresh.items;
   few : l.self.sweeps ≤ l.graph.events;
   counted : (top : ℕ → ℤ) → IsHighest l.graph.bounds l.fn.self.start l.fn.self.far.items top
       → above (l.graph.events + 1) top l.self.far.items + l.self.sweeps ≤ l.graph.events;

@@ -39,7 +39,7 @@ loop-index-preserved g c =
                 (IfSome_then found ok.fell (λ event fell. fallen_since bounds start old mid far h.lowers step event fell))
                 (IfSome_then c.loop-index.last h.fell (λ event fell. fallen_on bounds start old mid far h.lowers step event fell));
             same = none_or _ _ _ found c.loop-index.last ok.same h.same (λ now before. now ∙ before);
-            relaxed = row_relaxed bounds start event mid fresh far new.fresh.items h.relaxed step e.freshens ok.relaxed;
+            relaxed = row_relaxed c.args.graph.now.whole bounds start event mid fresh far new.fresh.items h.relaxed step e.freshens ok.relaxed;
             swept = swept_more bounds start c.args.onward count index event old mid fresh far new.fresh.items turn there h.lowers step e.freshens h.swept;
           })
       | else-index w ↦

@@ -1,0 +1,80 @@
+use Rattle.std.{proofs.{Common.{◌≡◌, ℕ, ℤ, ◌+◌, ◌*◌, ◌<◌, ◌≤◌, Bool, true, false, le-ltb, List, length, refl, sym, subst, ap, ◌∙◌, arith}, lemmas.{Int.ints, Bool.false≢true}}, specs.Prelude.{◌||◌, ◌≤ℤ◌, ◌<ℤ◌, nat_lt, int_lt}}
+use Rattle.stn_time.specs.Time.{horizon}
+use Rattle.stn_net.specs.Difference.{Difference}
+use Rattle.stn_conflict.{specs.{declared.{links.Link.Link, outgoing.Look.Look}, Arcs.{arc, arc_of, bound_at, rank}, Directions.{faced, facing}, Relaxation.{IsListed, IsLook, NamesAmong}}, proofs.{Rows.{rows_kept, rows_over, rows_push}, Steps.{rank_within}, Turned.{bound_facing, length_facing, faced_among}, outgoing.Rows.add_next.{Given.Over, Goals.{After-side_of-arc, then-link-self+in_ok-push, else-link-self+else-weight-lt-HORIZON}}}}
+use Rattle.stn_conflict.proofs.outgoing.Rows.add_next.Goals as goal
+
+-- the link begins at one of the events
+among : (g : Over) (c : After-side_of-arc g) → c.side_of-arc.result.from < length c.args.self.now.outgoing.items
+among g c = omega (arith, c.side_of-arc.ensures.from, faced_among (length c.args.self.now.outgoing.items) c.args.self.now.direction c.args.bound.now c.args.link.side c.requires.named)
+
+-- what the link says of all bounds
+record Says (bounds : List Difference) (link : Link) (from to : ℕ) (weight : ℤ) : Type 0 where
+  there : link.place < length bounds
+  from_is : from ≡ (arc_of bounds link).from
+  to_is : to ≡ (arc_of bounds link).to
+  weight_is : weight ≡ (arc_of bounds link).weight
+
+says : (g : Over) (c : After-side_of-arc g) (bounds : List Difference) → c.args.link.place < length bounds → bound_at bounds c.args.link.place ≡ c.args.bound.now
+    → Says (facing c.args.self.now.direction bounds) c.args.link c.side_of-arc.result.from c.side_of-arc.result.to c.side_of-arc.result.weight
+says g c bounds there is =
+    let direction = c.args.self.now.direction in
+    let link = c.args.link in
+    let e = c.side_of-arc.ensures in
+    let at : faced direction c.args.bound.now ≡ bound_at (facing direction bounds) link.place = ap (faced direction) (sym is) ∙ sym (bound_facing direction bounds link.place there) in
+    record {
+      there = omega (arith, there, length_facing direction bounds);
+      from_is = e.from ∙ ap (λ b. (arc b link.side).from) at;
+      to_is = e.to ∙ ap (λ b. (arc b link.side).to) at;
+      weight_is = e.weight ∙ ap (λ b. (arc b link.side).weight) at;
+    }
+
+-- a link that is left out
+unlisted : (place whole : ℕ) (weight : ℤ) → whole ≤ place → horizon ≤ℤ weight → (nat_lt place whole || int_lt weight horizon) ≡ false
+unlisted place whole weight past wide = rw (le-ltb place whole past) (by_test (int_lt weight horizon) refl)
+  where
+    by_test : (b : Bool) → int_lt weight horizon ≡ b → b ≡ false
+    by_test false is = refl
+    by_test true is = (let less : weight <ℤ horizon = grind (arith, ints) in absurd (omega (arith, ints)))
+
+pub index_mut-requires : goal.index_mut-requires
+index_mut-requires g c = omega (arith, among g (goal.at.index_mut-requires g c).After-side_of-arc, c.from.ensures, c.number.ensures.value, c.args.self.now.outgoing.ok.0)
+
+pub returns-in_err-push-clause-rows : goal.returns-in_err-push-clause-rows
+returns-in_err-push-clause-rows g c = λ bounds there is h.
+    let at : c.from.result ≡ c.side_of-arc.result.from = c.from.ensures ∙ c.number.ensures.value in
+    record {
+      faced = h.faced;
+      choice = h.choice;
+      within = h.within;
+      stand = rows_kept c.args.self.now.whole (facing c.args.self.now.direction bounds) (length c.args.self.now.outgoing.items) c.args.self.now.added c.from.result
+          c.args.self.now.outgoing.items c.index_mut.result.now c.push.new.self h.stand (rw at (among g (goal.at.returns-in_err-push-clause-rows g c).After-side_of-arc)) c.index_mut.ensures.value c.in_err-push.ensures.items;
+    }
+
+pub returns-clause-rows : goal.returns-clause-rows
+returns-clause-rows g c = λ bounds there is h.
+    let self = c.args.self.now in
+    let all = facing self.direction bounds in
+    let count = length self.outgoing.items in
+    let link = c.args.link in
+    let arc = c.side_of-arc.result in
+    let place = (goal.at.returns-clause-rows g c).After-side_of-arc in
+    let n = says g place bounds there is in
+    let fits : self.added + 1 ≤ 2 * length bounds = omega (arith, rank_within (length bounds) link there, c.requires.next) in
+    elim c.if-link-self.branch [
+      | then-link-self+in_ok-push w ↦
+          let at : w.from.result ≡ arc.from = w.from.ensures ∙ w.number.ensures.value in
+          let look : Look = record { link = link; to = arc.to; weight = arc.weight } in
+          let looked : IsLook all w.from.result look = record { there = n.there; from = sym (at ∙ n.from_is); to = sym n.to_is; weight = sym n.weight_is } in
+          rw w.self-is (record {
+            faced = h.faced;
+            choice = h.choice;
+            within = fits;
+            stand = rows_push self.whole all count self.added w.from.result self.outgoing.items w.index_mut.result.now w.push.new.self look h.stand c.requires.next looked (rw at (among g place))
+                w.index_mut.ensures.value w.in_ok-push.ensures.items;
+          })
+      | else-link-self+else-weight-lt-HORIZON w ↦
+          let none : ¬ IsListed self.whole all link = λ listed.
+          false≢true (sym (unlisted link.place self.whole arc.weight w.if-link-self.false (omega (arith, ints, c.get-weight.ensures.value, c.get-weight.ensures.within, w.if-weight-lt-HORIZON.false))) ∙ rw n.weight_is listed) in
+          rw w.self-is (record { faced = h.faced; choice = h.choice; within = fits; stand = rows_over self.whole all count self.added self.outgoing.items link h.stand c.requires.next none })
+    ]

@@ -1,0 +1,51 @@
+use Rattle.std.{proofs.{Common.{◌≡◌, ℕ, List, Bool, ◌<◌, length, set, sym, ap, ◌∙◌, arith}, lemmas.{Int.ints, List.get_or_read}}, specs.Prelude.{ℤ, pos, ◌≤ℤ◌, ◌<ℤ◌}}
+use Rattle.stn_net.specs.Schedule.{times_of}
+use Rattle.stn_conflict.{specs.Relaxation.{AreRelaxed, IsFloor}, proofs.{Lowering.{falls, floor_kept, relaxed_elsewhere}, Searches.unrefused, relaxation.Search.lower.{Given.Over, Goals.After-index_mut}}}
+use Rattle.stn_conflict.proofs.relaxation.Search.lower.Goals as goal
+
+-- the event's estimate was more
+record Lowered (far : List ℤ) (fresh : List Bool) (event place : ℕ) (most : ℤ) : Type 0 where
+  at : place ≡ event
+  there : place < length far
+  fresh_there : place < length fresh
+  less : most <ℤ times_of far place
+
+lowered : (g : Over) (c : After-index_mut g) → Lowered c.args.self.now.far.items c.args.self.now.fresh.items c.args.event c.from-place.result c.args.most
+lowered g c =
+    let tables = c.requires.begun.tables in
+    let far = c.args.self.now.far.items in
+    let at : c.from-place.result ≡ c.args.event = c.from-place.ensures ∙ c.number.ensures.value in
+    let there : c.from-place.result < length far = omega (arith, at, c.requires.event, tables.far) in
+    let read : c.get.result ≡ times_of far c.from-place.result = c.get.ensures.value ∙ get_or_read far _ _ there c.index.ensures (pos 0) in
+    let value = c.get-2.ensures.value in
+    let first = c.get.ensures.within in
+    let second = c.get-2.ensures.within in
+    let test = c.if-get.false in
+    record { at = at; there = there; fresh_there = omega (arith, there, tables.far, tables.fresh); less = omega (arith, ints) }
+
+pub relax_until_met-requires-clause-relaxed : goal.relax_until_met-requires-clause-relaxed
+relax_until_met-requires-clause-relaxed g c =
+    let l = lowered g (goal.at.relax_until_met-requires-clause-relaxed g c).After-index_mut in
+    relaxed_elsewhere c.args.self.now.far.items c.from-place.result c.args.most l.there l.less c.args.graph.now.whole c.args.graph.now.bounds c.args.self.now.fresh.items l.fresh_there c.requires.met
+
+pub returns-clause-fall : goal.returns-clause-fall
+returns-clause-fall g c = λ x.
+    let far = c.args.self.now.far.items in
+    let l = lowered g (goal.at.returns-clause-fall g c).After-index_mut in
+    let first = falls far c.from-place.result c.args.most l.there l.less x in
+    let next = c.relax_until_met.ensures.lowers.fall x in
+    omega (arith, ints)
+
+pub returns-clause-floors : goal.returns-clause-floors
+returns-clause-floors g c = λ low floor under.
+    let l = lowered g (goal.at.returns-clause-floors g c).After-index_mut in
+    c.relax_until_met.ensures.lowers.floors low
+    (floor_kept c.args.self.now.far.items c.from-place.result c.args.most l.there l.less c.args.graph.now.bounds c.args.self.now.start low floor (rw l.at under))
+
+pub returns-clause-met : goal.returns-clause-met
+returns-clause-met g c =
+    let l = lowered g (goal.at.returns-clause-met g c).After-index_mut in
+    let (low, floor, under) = c.requires.floor in
+    unrefused c.relax_until_met.result (AreRelaxed c.args.graph.now.bounds (times_of c.relax_until_met.new.self.far.items)) (λ e. c.relax_until_met.ensures.refused e low
+    (floor_kept c.args.self.now.far.items c.from-place.result c.args.most l.there l.less c.args.graph.now.bounds c.args.self.now.start low floor (rw l.at under)))
+    c.relax_until_met.ensures.met

@@ -1,0 +1,41 @@
+use Rattle.std.proofs.{Common.{◌≡◌, ◌+◌, [], ◌++◌, append-nil, refl, sym, subst, ap, ◌∙◌, length, arith}, lemmas.Int.ints}
+use Rattle.stn_net.specs.{Difference.Difference, Schedule.times_of}
+use Rattle.stn_conflict.{specs.{Directions.facing, Relaxation.{AreRelaxed, IsBegun, IsFloor, IsEnds, NamesAmong, Searched}}, proofs.{Narrowing.{ends_floor, ends_narrowed, ends_own, ends_relaxed}, Relaxing.among_events, Turned.{named_facing, network_facing}}}
+use Rattle.stn_conflict.proofs.windows.Ends.narrow.Goals as goal
+
+-- the graph is that of the given bounds
+pub lower-requires-clause-begun : goal.lower-requires-clause-begun
+lower-requires-clause-begun g c =
+    let self = c.args.self.now in
+    let direction = self.rows.direction in
+    let given = c.args.given.now in
+    let (bounds, taken, single, are, possible) = c.requires.ends in
+    rw (c.new-graph.ensures, append-nil c.args.given.now) (record {
+      tables = are.tables;
+      network = network_facing direction c.args.events given c.requires.network;
+      kept = omega (arith, are.rows_are.first.choice);
+      named = named_facing direction (c.args.events + 1) given (among_events given c.args.events (c.args.events + 1) refl c.requires.network.named);
+      start_named = omega (arith, are.start);
+      own = ap (times_of self.search.far.items) are.start ∙ ends_own direction c.args.events given bounds c.args.bound.now self taken single are c.requires.single c.requires.named c.requires.network possible;
+    })
+
+pub lower-requires-clause-met : goal.lower-requires-clause-met
+lower-requires-clause-met g c =
+    let self = c.args.self.now in
+    let (bounds, taken, single, are, possible) = c.requires.ends in
+    rw (c.new-graph.ensures, append-nil c.args.given.now)
+    (ends_relaxed self.rows.direction c.args.events c.args.given.now bounds c.args.bound.now self taken single are c.requires.single c.requires.named c.requires.network possible)
+
+pub lower-requires-clause-floor : goal.lower-requires-clause-floor
+lower-requires-clause-floor g c =
+    let self = c.args.self.now in
+    let (bounds, taken, single, are, possible) = c.requires.ends in
+    rw (c.new-graph.ensures, append-nil c.args.given.now, are.start, c.to.ensures.value, c.side_of-most.ensures.weight)
+    (ends_floor self.rows.direction c.args.events c.args.given.now bounds c.args.bound.now self taken single are c.requires.single c.requires.named c.requires.network possible)
+
+pub returns : goal.returns
+returns g c = λ bounds taken single are possible.
+    let self = c.args.self.now in
+    let e = rw (c.new-graph.ensures, append-nil c.args.given.now, are.start, c.to.ensures.value, c.side_of-most.ensures.weight) at c.lower.ensures in
+    ends_narrowed self.rows.direction c.args.events c.args.given.now bounds c.args.bound.now self taken single are c.requires.single c.requires.named c.requires.network possible
+    (record { rows = self.rows; search = c.lower.new.self }) refl e.begun.tables e.start (ap (times_of c.lower.new.self.far.items) (sym e.start) ∙ e.begun.own) e.met e.fall e.here e.floors
