@@ -3,8 +3,8 @@ use Rattle.std.{proofs.{Common.{◌≡◌, ◌≤◌, Bool, true, false, not, Li
 use Rattle.stn_net.specs.{Difference.Difference, Matrix.{Table.Table, Tightest.IsExact}}
 use Rattle.stn_lift.specs.PlanSource.{PlanSource, events_of}
 use Rattle.stn_records.{specs.{Id.SiteCounter, declared.record.Record.Record, ContentLaws.contents_join, Content.{Content, is_known, is_live, replacement, plain, one_amendment, next_counter}}, proofs.{Counters.next_is_new, OneItem.inserted_here}}
-use Rattle.stn_site.{specs.{Bounds.{live_bounds, RecordsName}, Held.{Held, next_id, executed}, Calls.{added, amended, Leaves}, Change.{change_call, change_id, change_refusal, IsAgain}, declared.change.Change.{Change, TheVariants.{Add, Amend, Withdraw, Done}}}, proofs.Refused.amended_known}
-use Rattle.stn_replica.{specs.{Invariant.{IsSettled, IsSoundReplica, stops_live}, Work.KeepsLive}, proofs.{Changes.{IsGrown, grown_with_record, grown_with_amendment, falls_with_amendment, replaced_dead, withdrawn_replaced, withdrawn_dead}, Sound.{sound_added, sound_rebuilt, sound_dead, falls_withdrawn}}}
+use Rattle.stn_site.{specs.{Bounds.{live_bounds, RecordsName}, Held.{Held, next_id, executed}, Calls.{added, amended, Leaves}, Change.{change_call, change_id, change_refusal, IsAgain}, declared.change.Change.{Change, TheVariants.{Add, Amend, Withdraw, Done}}, Growth.KeepsLive}, proofs.{Refused.amended_known, Changes.{IsGrown, grown_with_record, grown_with_amendment, falls_with_amendment, replaced_dead, withdrawn_replaced, withdrawn_dead}}}
+use Rattle.stn_replica.{specs.Invariant.{IsSettled, IsSoundReplica, stops_live}, proofs.Sound.{sound_added, sound_rebuilt, sound_dead, falls_withdrawn}}
 
 -- the site's next id is not known
 next_unknown : (held : Held) (id : SiteCounter) → id ≡ next_id held → is_known held.state id ≡ false
@@ -65,13 +65,6 @@ never_live (Add bound) state next again = absurd again
 never_live (Amend old bound) state next again = absurd again
 never_live (Withdraw gone) state next again = let dead = replaced_dead state gone (withdrawn_replaced state gone again) in (dead, dead)
 never_live (Done event time) state next again = absurd again
-
--- ---- the records of the changed plan name the matrix's events
-pub named_after : (old new : Held) (current : Table) (state : Content) → new.source ≡ old.source → current.events ≡ events_of old.source → state ≡ new.state
-    → RecordsName (events_of new.source) new.state → RecordsName current.events state
-named_after old new current state same events is named =
-    subst (λ (s : Content). RecordsName current.events s) (sym is)
-    (subst (λ n. RecordsName n new.state) (ap events_of same ∙ sym events) named)
 
 -- the matrix has taken the bound of the record of an id
 pub record TookOne (state : Content) (id : SiteCounter) (current next : Table) (possible result : Bool) : Type 0 where

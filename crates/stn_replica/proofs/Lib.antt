@@ -1,11 +1,7 @@
 pub mod CatchingUp
-pub mod Changes
-pub mod Live
 pub mod Opening
-pub mod AllOwn
-pub mod Rest
 pub mod Rising
-pub mod Schedules
+pub mod Settled
 pub mod Sound
 pub mod Tightening
 pub mod Rows

@@ -1,14 +1,8 @@
 -- The matrix of the plan's own bounds.
 use Rattle.std.{proofs.{Common.{◌≡◌, ℕ, ◌+◌, ◌-◌, ◌<◌, ◌≤◌, ◌↔◌, Bool, IsTrue, List, [], ◌∷◌, ◌++◌, length, take, drop, get_or, sym, ap, subst, ◌∙◌, arith, length-take, length-drop, append_assoc, append-nil}, lemmas.List.{take_more, take_all, take-append-drop, Sorted.{All-permutation, IsPermutation-sym, IsPermutation-append_right}}}, specs.{Prelude.All, List.Sorted.IsPermutation}}
 use Rattle.stn_time.proofs.Each.{All-right}
-use Rattle.stn_net.{specs.{Difference.{Difference, NamesEvents}, Horizon.horizon_bounds, Schedule.{HasSchedule, IsSchedule}, Matrix.{Table.Table, Tightest.IsExact}}, proofs.Horizons.length-horizon_bounds}
+use Rattle.stn_net.{specs.{Difference.{Difference, NamesEvents}, Horizon.horizon_bounds, Schedule.{HasSchedule, IsSchedule}, Matrix.{Table.Table, Tightest.IsExact}}, proofs.{Horizons.length-horizon_bounds, Closure.schedule_before, Schedules.{schedule_permuted, exact_permuted}}}
 use Rattle.stn_lift.specs.PlanSource.{PlanSource, base_bounds, events_of, planned_of, IsSoundSource}
-use Rattle.stn_replica.proofs.Schedules.{schedule_before, schedule_permuted, exact_permuted}
-
--- the bounds are no fewer than the events
-pub horizon_within : (source : PlanSource) → IsSoundSource source → events_of source ≤ length (base_bounds source)
-horizon_within source sound =
-    omega (arith, ap length sound.horizon, length-horizon_bounds (events_of source), length-take (events_of source) (base_bounds source))
 
 -- the bounds after those of the horizon name the events of the plan
 pub rest_named : (source : PlanSource) → IsSoundSource source → All (NamesEvents (events_of source)) (drop (events_of source) (base_bounds source))

@@ -3,8 +3,8 @@ use Rattle.std.proofs.{Common.{◌≡◌, ◌+◌, ◌≤◌, Bool, true, false,
 use Rattle.stn_net.specs.{Difference.{Difference, NamesEvents}, Schedule.HasSchedule, Matrix.{Table.Table, Tightest.IsExact}}
 use Rattle.stn_lift.specs.PlanSource.{PlanSource, base_bounds, events_of}
 use Rattle.stn_records.specs.{Id.SiteCounter, declared.record.Record.Record, Content.{Content, is_live, with_tombstone}}
-use Rattle.stn_site.{specs.{Bounds.{all_bounds, live_bounds, bounds_of, RecordsName}, Held.Held}, proofs.Named.live_named}
-use Rattle.stn_replica.{specs.{Invariant.{IsSettled, IsSoundReplica}, Work.{Extends, risen, KeepsLive, SparesWork}}, proofs.{Changes.{IsGrown, one_risen, settled_added, withdrawn_dead, same_live}, Live.{settled_alike, settled_grown, conflict_stays}}}
+use Rattle.stn_site.{specs.{Bounds.{all_bounds, live_bounds, bounds_of, RecordsName}, Held.Held, Growth.{Extends, risen, KeepsLive}}, proofs.{Named.live_named, Changes.{IsGrown, one_risen, withdrawn_dead, same_live}, Live.conflict_stays}}
+use Rattle.stn_replica.{specs.{Invariant.{IsSettled, IsSoundReplica}, Work.SparesWork}, proofs.Settled.{settled_added, settled_alike, settled_grown}}
 
 -- the table is exact where the bounds have a schedule
 pub settled_exact : (bounds : List Difference) (table : Table) (possible : Bool) → possible ≡ true → IsSettled bounds table possible → IsExact bounds table

@@ -1,9 +1,8 @@
 -- Tightening a matrix by the bounds of records, one after another.
 use Rattle.std.proofs.{Common.{◌≡◌, ◌+◌, ◌≤◌, List, [], ◌∷◌, ◌++◌, length, min, sym, ap, subst, ◌∙◌, arith, append_assoc, append-nil, length-append, All}, lemmas.List.map-append}
-use Rattle.stn_net.specs.{Difference.{Difference, NamesEvents}, Schedule.{HasSchedule, IsSchedule}, Matrix.{Table.Table, Tightest.IsExact}}
+use Rattle.stn_net.{specs.{Difference.{Difference, NamesEvents}, Schedule.{HasSchedule, IsSchedule}, Matrix.{Table.Table, Tightest.IsExact}}, proofs.Closure.schedule_before}
 use Rattle.stn_records.specs.{Id.SiteCounter, declared.record.Record.Record}
 use Rattle.stn_site.{specs.Bounds.bounds_of, proofs.Walk.next_has}
-use Rattle.stn_replica.proofs.Schedules.{schedule_before}
 
 -- the matrix has taken the bounds of the first of the records, and no more
 pub record IsTightenedBy (records seen ahead : List (SiteCounter × Record)) (first now : Table) : Type 0 where

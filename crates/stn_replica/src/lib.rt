@@ -1,14 +1,13 @@
 //! One site's replica of a plan: what it holds, with how far apart its events can be, and the rest of its plan.
 #![tactic(auto)]
 
-pub use own::{Own, StepRange, flags_among, flags_of};
+pub use dispatch::flags_of;
 pub use replica::Replica;
 pub use stn_site::{BoundName, ReplicaFault};
 
 mod closest;
 mod dispatch;
 mod matrices;
-mod own;
 mod plan_matrix;
 mod replica;
 mod report;

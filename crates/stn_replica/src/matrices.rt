@@ -1,9 +1,9 @@
-ghost use Rattle.std.specs.{Prelude.{◌≡◌, ◌+◌, ◌≤◌, ◌++◌, ◌↔◌, List, [], ◌∷◌, length, Some, IsTrue, IfOk}, FinMap.{get, contains_key}};
-ghost use Rattle.stn_net.specs.{Difference.Difference, Matrix.Tightest.IsExact};
+ghost use Rattle.std.specs.{Prelude.{◌≡◌, ◌+◌, ◌≤◌, ◌++◌, ◌↔◌, List, [], ◌∷◌, length, All, Some, IsTrue, IfOk}, FinMap.{get, contains_key}};
+ghost use Rattle.stn_net.specs.{Difference.{Difference, NamesEvents}, Matrix.Tightest.IsExact};
 ghost use Rattle.stn_lift.specs.PlanSource.{PlanSource, base_bounds, events_of};
 ghost use Rattle.stn_records.specs.declared.record.Record.{Record};
-ghost use Rattle.stn_site.specs.Bounds.{bounds_of, live_bounds, RecordsName};
-ghost use Rattle.stn_replica.specs.{Invariant.{IsSettled, IsSoundReplica}, Work.{risen, Extends, KeepsLive, GainsLive}};
+ghost use Rattle.stn_site.specs.{Bounds.{bounds_of, live_bounds, RecordsName}, Growth.{risen, Extends, KeepsLive}};
+ghost use Rattle.stn_replica.specs.{Invariant.{IsSettled, IsSoundReplica}, Work.GainsLive};
 
 use crate::closest::closest_first;
 use crate::plan_matrix::PlanMatrix;
@@ -44,43 +44,20 @@ pub fn rebuild<A: Allocator + Copy>(
     ensures counted { current.new.steps ≤ u64.MAX }
 {
     current.copy_from(opening.matrix());
-    tighten_live(current, records)
+    tighten_each(current, Risen::of_all(records))
 }
 
-// Takes the bounds of the live records, up to one with which the bounds have no schedule. Whether
-// there is no such bound.
-pub fn tighten_live<A: Allocator + Copy>(matrix: &mut Matrix<A>, records: &Records<A>) -> bool
-    requires named { RecordsName matrix.old.events records.now }
+// Takes the bounds of records that have become live, up to one with which the bounds have no schedule. Whether there is no such bound.
+fn tighten_each<A: Allocator + Copy>(matrix: &mut Matrix<A>, records: Risen<'_>) -> bool
+    requires named { All (λ entry. NamesEvents matrix.old.events entry.1.bound) records }
     requires counted { matrix.old.steps ≤ u64.MAX }
-    ensures settled { (bounds : List Difference) → IsExact bounds matrix.old → IsSettled (bounds ++ live_bounds records.now) matrix.new result }
-    ensures events { matrix.new.events ≡ matrix.old.events }
-    ensures counted { matrix.new.steps ≤ u64.MAX }
-{
-    for (_, record) in records.live_records() {
-        if !matrix.tighten(record.bound) {
-            return false;
-        }
-    }
-    true
-}
-
-// Takes the bounds of the records that have become live, up to one with which the bounds have no
-// schedule. Whether there is no such bound.
-fn tighten_risen<A: Allocator + Copy>(
-    matrix: &mut Matrix<A>,
-    before: &Records<A>,
-    after: &Records<A>,
-) -> bool
-    requires named { RecordsName matrix.old.events after.now }
-    requires counted { matrix.old.steps ≤ u64.MAX }
-    ensures settled { (bounds : List Difference) → IsExact bounds matrix.old
-        → IsSettled (bounds ++ bounds_of (risen before.now after.now)) matrix.new result }
+    ensures settled { (bounds : List Difference) → IsExact bounds matrix.old → IsSettled (bounds ++ bounds_of records.entry) matrix.new result }
     ensures events { matrix.new.events ≡ matrix.old.events }
     ensures counted { matrix.new.steps ≤ u64.MAX }
     ensures least { matrix.old.steps ≤ matrix.new.steps }
-    ensures most { matrix.new.steps ≤ matrix.old.steps + length (risen before.now after.now) }
+    ensures most { matrix.new.steps ≤ matrix.old.steps + length records.entry }
 {
-    for (_, record) in Risen::between(before, after) {
+    for (_, record) in records {
         if !matrix.tighten(record.bound) {
             return false;
         }
@@ -129,7 +106,7 @@ pub fn catch_up<A: Allocator + Copy>(
     if !keeps_live(before, after) {
         rebuild(opening, current, after)
     } else if possible {
-        tighten_risen(current, before, after)
+        tighten_each(current, Risen::between(before, after))
     } else {
         false
     }

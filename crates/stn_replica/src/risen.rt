@@ -1,5 +1,6 @@
 ghost use Rattle.std.specs.{Prelude.{◌≡◌, length}, Iterator.at_most, Map.Iter.TakesFirst};
-ghost use Rattle.stn_replica.specs.Work.{risen};
+ghost use Rattle.stn_records.specs.Content.{live_of};
+ghost use Rattle.stn_site.specs.Growth.{risen};
 
 use std::alloc::Allocator;
 use std::cmp::Ordering;
@@ -40,6 +41,17 @@ impl<'a> Risen<'a> {
             after: after.live_records(),
             next_before,
             before: were,
+        }
+    }
+
+    // All live records, where none was live before.
+    pub fn of_all<A: Allocator + Copy>(records: &'a Records<A>) -> Risen<'a>
+        ensures { result ≡ live_of records.now }
+    {
+        Risen {
+            after: records.live_records(),
+            next_before: None,
+            before: records.live_records(),
         }
     }
 }

@@ -14,3 +14,7 @@ pub mod Values
 pub mod Walk
 pub mod Windowing
 pub mod Behind
+pub mod Live
+pub mod Changes
+pub mod AllOwn
+pub mod Rest

@@ -1,5 +1,5 @@
 -- The parts of a report, from what was appended.
-use Rattle.std.{proofs.{Common.{◌≡◌, ℕ, ℤ, suc, ◌+◌, Bool, List, [], ◌∷◌, ◌++◌, length, map, Option, Some, IfSome, refl, sym, ap, subst, ◌∙◌, add-one, All}, lemmas.List.length-map}, specs.{Prelude.{Result, Ok, Err, is_ok, OnOk, OnErr, if◌then◌else◌}, List.flat_map}}
+use Rattle.std.{proofs.{Common.{◌≡◌, ℕ, ℤ, suc, ◌+◌, Bool, None, IsNone, IsSome, List, [], ◌∷◌, ◌++◌, length, map, Option, Some, IfSome, refl, sym, ap, subst, ◌∙◌, add-one, All}, lemmas.List.length-map}, specs.{Prelude.{Result, Ok, Err, is_ok, OnOk, OnErr, if◌then◌else◌}, List.flat_map}}
 use Rattle.stn_net.specs.{Difference.{Difference, NamesEvents}, Windows.Window.IsWindow}
 use Rattle.stn_lift.specs.PlanSource.{PlanSource, base_bounds}
 use Rattle.stn_records.specs.{Id.SiteCounter, declared.record.{Mark.Mark, Record.Record}, Content.{Content, live_of, listed}}
@@ -62,6 +62,17 @@ appended_ok (Err _) new old text is = tt
 pub kept_err : {T E : Type 0} (r : Result T E) (new old text : List ℕ) → new ≡ (if is_ok r then old ++ text else old) → OnErr r (new ≡ old)
 kept_err (Ok _) new old text is = tt
 kept_err (Err _) new old text is = is
+
+-- where it is that of a vector, which has these bytes
+pub appended_part : {T E : Type 0} (r : Result T E) (new old part text : List ℕ) → part ≡ text → new ≡ (if is_ok r then old ++ part else old) → (P : List ℕ → Type 0) → P text
+    → OnOk r ((text : List ℕ) × P text × (new ≡ old ++ text))
+appended_part (Ok _) new old part text same is P holds = (text, holds, is ∙ ap (λ l. old ++ l) same)
+appended_part (Err _) new old part text same is P holds = tt
+
+-- an option that is not none holds a value
+pub some_if : {X : Type 0} (o : Option X) → (IsNone o → ⊥) → IsSome o
+some_if None h = absurd (h refl)
+some_if (Some x) h = refl
 
 -- what holds of the value that an option holds
 pub if_some : {X : Type 0} (o : Option X) (x : X) (P : X → Type 0) → o ≡ Some x → IfSome o P → P x

@@ -11,3 +11,6 @@ pub mod Report
 pub mod Windows
 pub mod Calls
 pub mod Change
+pub mod Growth
+pub mod Own
+pub mod Dispatch

@@ -29,6 +29,10 @@ times_text earliest latest = printed earliest ++ codes " " ++ printed latest
 abbrev pub window_line : ℕ → ℤ → ℤ → Bool → List ℕ
 window_line event earliest latest done = line (event_text event ++ codes " " ++ times_text earliest latest ++ done_text done)
 
+-- `<from> <to> <least> <greatest>`
+abbrev pub range_line : ℕ → ℕ → ℤ → ℤ → List ℕ
+range_line from to least greatest = line (event_text from ++ codes " " ++ event_text to ++ codes " " ++ times_text least greatest)
+
 -- `conflict <sum>`
 abbrev pub conflict_line : ℤ → List ℕ
 conflict_line sum = line (codes "conflict " ++ printed sum)

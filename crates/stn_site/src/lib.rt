@@ -7,11 +7,13 @@ pub use faults::ReplicaFault;
 pub use laws::{
     one_report, same_counts_same_bytes, same_items_same_bytes, state_is_union, took_same_same_bytes,
 };
-pub use lines::{append_window_line, bound_at, bound_name};
+pub use lines::{append_range_line, append_window_line, bound_at, bound_name};
 pub use names::BoundName;
+pub use own::{Own, StepRange, flags_among};
 pub use report::append_link_lines;
 pub use site_copy::SiteCopy;
 pub use site_plan::SitePlan;
+pub use windows::windows_with;
 
 mod change;
 mod done;
@@ -19,6 +21,7 @@ mod faults;
 mod laws;
 mod lines;
 mod names;
+mod own;
 mod parts;
 mod report;
 mod site_copy;

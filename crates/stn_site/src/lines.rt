@@ -1,5 +1,5 @@
-ghost use Rattle.std.specs.Prelude.{◌≡◌, ◌+◌, ◌^◌, ◌<◌, ◌≤◌, ◌++◌, codes, length, take, vec_len, OnOk, OnErr};
-ghost use Rattle.stn_site.specs.{Lines.{plan_line, records_line, done_text, times_text, window_line, conflict_line, side_text, side_limit, limit_text, link_line}, Names.name_in};
+ghost use Rattle.std.specs.Prelude.{◌≡◌, ◌+◌, ◌^◌, ◌<◌, ◌≤◌, ◌++◌, codes, decimal, length, take, vec_len, OnOk, OnErr};
+ghost use Rattle.stn_site.specs.{Lines.{done_text, times_text, window_line, range_line, conflict_line, side_text, side_limit, limit_text, link_line}, Names.name_in};
 ghost use Rattle.stn_net.specs.Event.{event_text};
 ghost use Rattle.stn_conflict.specs.Arcs.{bound_at};
 
@@ -16,31 +16,21 @@ pub const MOST_LINE: usize = 64;
 
 // If memory runs out, a part of a line may stand in the output, unless a clause says that it is kept.
 
-pub fn append_plan_line<B: Allocator>(
+// Two numbers, with texts before, between and after them.
+pub fn append_counts<B: Allocator>(
     out: &mut Vec<u8, B>,
-    steps: u16,
-    events: u16,
+    before: &[u8],
+    one: u16,
+    between: &[u8],
+    other: u16,
+    after: &[u8],
 ) -> Result<(), Memory>
-    ensures line { OnOk result (out.new.items ≡ out.old.items ++ plan_line steps events) }
-    ensures short { OnOk result (length out.new.items ≤ length out.old.items + MOST_LINE) }
+    ensures text { OnOk result (out.new.items ≡ out.old.items ++ (before.now ++ decimal one ++ between.now ++ decimal other ++ after.now)) }
+    ensures short { OnOk result (length out.new.items ≤ length out.old.items + 10 + length before.now + length between.now + length after.now) }
 {
-    append_decimal(out, b"plan ", steps)?;
-    append_decimal(out, b" steps ", events)?;
-    out.extend_from_slice(b" events\n")?;
-    Ok(())
-}
-
-pub fn append_records_line<B: Allocator>(
-    out: &mut Vec<u8, B>,
-    live: u16,
-    withdrawn: u16,
-) -> Result<(), Memory>
-    ensures line { OnOk result (out.new.items ≡ out.old.items ++ records_line live withdrawn) }
-    ensures short { OnOk result (length out.new.items ≤ length out.old.items + MOST_LINE) }
-{
-    append_decimal(out, b"records ", live)?;
-    append_decimal(out, b" live ", withdrawn)?;
-    out.extend_from_slice(b" withdrawn\n")?;
+    append_decimal(out, before, one)?;
+    append_decimal(out, between, other)?;
+    out.extend_from_slice(after)?;
     Ok(())
 }
 
@@ -97,6 +87,42 @@ fn append_times<B: Allocator>(out: &mut Vec<u8, B>, earliest: Ms, latest: Ms) ->
     earliest.print(out)?;
     out.extend_from_slice(b" ")?;
     latest.print(out)?;
+    Ok(())
+}
+
+/// Appends the line of two events and the least and the greatest time from the one to the other. If memory runs out, it
+/// appends nothing.
+pub fn append_range_line<B: Allocator>(
+    out: &mut Vec<u8, B>,
+    from: Event,
+    to: Event,
+    least: Ms,
+    greatest: Ms,
+) -> Result<(), Memory>
+    ensures line { OnOk result (out.new.items ≡ out.old.items ++ range_line from to least greatest) }
+    ensures kept { OnErr result (out.new.items ≡ out.old.items) }
+{
+    let before = out.len();
+    let appended = append_range(out, from, to, least, greatest);
+    all_or_nothing(out, before, appended)
+}
+
+fn append_range<B: Allocator>(
+    out: &mut Vec<u8, B>,
+    from: Event,
+    to: Event,
+    least: Ms,
+    greatest: Ms,
+) -> Result<(), Memory>
+    ensures line { OnOk result (out.new.items ≡ out.old.items ++ range_line from to least greatest) }
+    ensures behind { take (vec_len out.old) out.new.items ≡ out.old.items }
+{
+    append_event(out, from)?;
+    out.extend_from_slice(b" ")?;
+    append_event(out, to)?;
+    out.extend_from_slice(b" ")?;
+    append_times(out, least, greatest)?;
+    out.extend_from_slice(b"\n")?;
     Ok(())
 }
 

@@ -36,18 +36,9 @@ impl<A: Allocator + Copy> SitePlan<A> {
         ensures part { OnOk result ((text : List ℕ) × IsConflictPart self.now.source self.now.state text × (out.new.items ≡ out.old.items ++ text)) }
         ensures kept { OnErr result (out.new.items ≡ out.old.items) }
     {
-        let text = self.conflict_text()?;
-        out.extend_from_slice(&text)
-    }
-
-    // What the report says of bounds that have no schedule.
-    fn conflict_text(&self) -> Result<Vec<u8, A>, Memory>
-        requires { ¬ HasSchedule (all_bounds self.now.source self.now.state) }
-        ensures { IfOk result (λ text. IsConflictPart self.now.source self.now.state text.items) }
-    {
         let live = self.records().live()?;
         let mut text = Vec::new(self.alloc());
         self.append_conflict(&live, &mut text)?;
-        Ok(text)
+        out.extend_from_slice(&text)
     }
 }

@@ -1,16 +1,15 @@
-ghost use Rattle.std.specs.{Prelude.{◌≡◌, ℕ, ◌+◌, ◌*◌, ◌<◌, ◌≤◌, ◌++◌, ◌^◌, ◌⊎◌, List, length, map, take, vec_len, All, IfOk, OnOk, OnErr, MatchOption}, List.flat_map};
+ghost use Rattle.std.specs.{Prelude.{◌≡◌, ℕ, ◌+◌, ◌*◌, ◌<◌, ◌≤◌, ◌++◌, ◌^◌, List, length, map, All, IfOk, OnOk, OnErr, MatchOption}, List.flat_map};
 ghost use Rattle.stn_net.specs.{Event.most_events, Schedule.HasSchedule};
 ghost use Rattle.stn_lift.specs.PlanSource.{events_of};
 ghost use Rattle.stn_records.specs.Content.{most_known, known_count, live_of, listed, replaced_count as replaced_count_of};
-ghost use Rattle.stn_site.specs.{Bounds.{all_bounds, live_bounds, RecordsName}, Names.live_ids, Lines.{conflict_line, link_line}, Windows.AreWindows, Report.{most_report, IsWindowsPart, IsReport, IsConflictPart, heading}};
+ghost use Rattle.stn_site.specs.{Bounds.{all_bounds, RecordsName}, Lines.link_line, Windows.AreWindows, Report.{most_report, IsWindowsPart, IsReport, IsConflictPart, heading}};
 
 use crate::lines::{
-    MOST_LINE, append_conflict_line, append_link_line, append_plan_line, append_records_line,
-    append_window_line,
+    MOST_LINE, append_conflict_line, append_counts, append_link_line, append_window_line,
 };
 use crate::site_plan::SitePlan;
 use std::alloc::Allocator;
-use stn_conflict::{Cycle, Link, cycle};
+use stn_conflict::{Link, cycle};
 use stn_net::{Bound, Event};
 use stn_records::{Id, Mark, Records};
 use stn_text::all_or_nothing;
@@ -47,7 +46,10 @@ impl<A: Allocator + Copy> SitePlan<A> {
         let live = self.records().live()?;
         let mut text = Vec::new(self.alloc());
         self.append_heading(&live, &mut text)?;
-        self.append_part(windows, &live, &mut text)?;
+        match windows {
+            Some(known) => self.append_windows(known, &mut text)?,
+            None => self.append_conflict(&live, &mut text)?,
+        }
         Ok(text)
     }
 
@@ -57,30 +59,17 @@ impl<A: Allocator + Copy> SitePlan<A> {
         ensures short { OnOk result (length out.new.items ≤ length out.old.items + MOST_LINE * 2) }
     {
         let replaced = replaced_count(self.records());
-        append_plan_line(out, self.base().steps(), self.base().events())?;
-        append_records_line(out, live.len() as u16, replaced)?;
-        Ok(())
-    }
-
-    // The windows where all bounds have a schedule, and else the cycle.
-    fn append_part(
-        &self,
-        windows: Option<&[(Ms, Ms)]>,
-        live: &[(Id, Mark, Bound)],
-        out: &mut Vec<u8, A>,
-    ) -> Result<(), Memory>
-        requires windows { MatchOption windows (¬ HasSchedule (all_bounds self.now.source self.now.state))
-            (λ windows. AreWindows (all_bounds self.now.source self.now.state) (events_of self.now.source) windows.now) }
-        requires live { live.now ≡ map listed (live_of self.now.state) }
-        requires named { RecordsName (events_of self.now.source) self.now.state }
-        ensures part { OnOk result ((text : List ℕ) × (IsWindowsPart self.now.source self.now.state text ⊎ IsConflictPart self.now.source self.now.state text)
-            × (out.new.items ≡ out.old.items ++ text)) }
-        ensures short { OnOk result (length out.new.items ≤ length out.old.items + MOST_LINE * (most_events + 2)) }
-    {
-        match windows {
-            Some(known) => self.append_windows(known, out),
-            None => self.append_conflict(live, out),
-        }
+        let (steps, events) = (self.base().steps(), self.base().events());
+        append_counts(out, b"plan ", steps, b" steps ", events, b" events\n")?;
+        let count = live.len() as u16;
+        append_counts(
+            out,
+            b"records ",
+            count,
+            b" live ",
+            replaced,
+            b" withdrawn\n",
+        )
     }
 
     // `ok` and the windows of the events.
@@ -99,6 +88,7 @@ impl<A: Allocator + Copy> SitePlan<A> {
         Ok(())
     }
 
+    // The sum of the named cycle of all bounds, and then its links.
     pub(crate) fn append_conflict(
         &self,
         live: &[(Id, Mark, Bound)],
@@ -112,27 +102,13 @@ impl<A: Allocator + Copy> SitePlan<A> {
     {
         let all_ids = ids_of(self.alloc(), live)?;
         let all_others = bounds_of(self.alloc(), live)?;
-        self.append_named_cycle(&all_ids, &all_others, out)
-    }
-
-    // The named cycle of all bounds, by the ids and the bounds of the live records.
-    fn append_named_cycle(
-        &self,
-        ids: &[Id],
-        others: &[Bound],
-        out: &mut Vec<u8, A>,
-    ) -> Result<(), Memory>
-        requires ids { ids.now ≡ live_ids self.now.state }
-        requires others { others.now ≡ live_bounds self.now.state }
-        requires named { RecordsName (events_of self.now.source) self.now.state }
-        requires conflict { ¬ HasSchedule (all_bounds self.now.source self.now.state) }
-        ensures part { OnOk result ((text : List ℕ) × IsConflictPart self.now.source self.now.state text × (out.new.items ≡ out.old.items ++ text)) }
-        ensures short { OnOk result (length out.new.items ≤ length out.old.items + MOST_LINE * (most_events + 2)) }
-    {
+        let ids = all_ids.as_slice();
+        let others = all_others.as_slice();
         let base = self.base().bounds();
         let found = cycle(self.alloc(), self.base().events(), base, others)?;
         let named = found.unwrap();
-        append_cycle(base, ids, others, &named, out)
+        append_conflict_line(out, named.sum)?;
+        append_link_lines(base, ids, others, &named.links, out)
     }
 }
 
@@ -159,26 +135,6 @@ fn replaced_count<A: Allocator + Copy>(records: &Records<A>) -> u16
     records.replaced().len() as u16
 }
 
-// The sum of the cycle, and then its links.
-fn append_cycle<A: Allocator>(
-    base: &[Bound],
-    ids: &[Id],
-    others: &[Bound],
-    found: &Cycle<A>,
-    out: &mut Vec<u8, A>,
-) -> Result<(), Memory>
-    requires there { All (λ link. link.place < length base.now + length others.now) found.now.links.items }
-    requires few { length base.now < 2 ^ 32 }
-    requires one_each { length ids.now ≡ length others.now }
-    ensures text { OnOk result (out.new.items ≡ out.old.items
-        ++ (conflict_line found.now.sum ++ flat_map (link_line base.now ids.now others.now) found.now.links.items)) }
-    ensures short { OnOk result (length out.new.items ≤ length out.old.items + MOST_LINE * (length found.now.links.items + 1)) }
-{
-    append_conflict_line(out, found.sum)?;
-    append_link_lines(base, ids, others, &found.links, out)?;
-    Ok(())
-}
-
 /// Appends the line of each link, whose place is one of the plan's bounds followed by the others. If
 /// memory runs out, it appends nothing.
 pub fn append_link_lines<B: Allocator>(
@@ -196,26 +152,9 @@ pub fn append_link_lines<B: Allocator>(
     ensures kept { OnErr result (out.new.items ≡ out.old.items) }
 {
     let before = out.len();
-    let outcome = append_links(base, ids, others, links, out);
-    all_or_nothing(out, before, outcome)
-}
-
-fn append_links<B: Allocator>(
-    base: &[Bound],
-    ids: &[Id],
-    others: &[Bound],
-    links: &[Link],
-    out: &mut Vec<u8, B>,
-) -> Result<(), Memory>
-    requires there { All (λ link. link.place < length base.now + length others.now) links.now }
-    requires few { length base.now < 2 ^ 32 }
-    requires one_each { length ids.now ≡ length others.now }
-    ensures text { OnOk result (out.new.items ≡ out.old.items ++ flat_map (link_line base.now ids.now others.now) links.now) }
-    ensures short { OnOk result (length out.new.items ≤ length out.old.items + MOST_LINE * length links.now) }
-    ensures behind { take (vec_len out.old) out.new.items ≡ out.old.items }
-{
     for link in links {
-        append_link_line(out, base, ids, others, *link)?;
+        let outcome = append_link_line(out, base, ids, others, *link);
+        all_or_nothing(out, before, outcome)?;
     }
     Ok(())
 }

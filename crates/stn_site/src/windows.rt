@@ -1,13 +1,14 @@
-ghost use Rattle.std.specs.Prelude.{◌≡◌, ℕ, ◌+◌, ◌≤◌, ◌++◌, List, length, IfOk, OnOk, OnErr, MatchOption};
-ghost use Rattle.stn_net.specs.{Difference.Difference, Schedule.HasSchedule};
-ghost use Rattle.stn_lift.specs.PlanSource.{events_of};
+ghost use Rattle.std.specs.Prelude.{◌≡◌, ℕ, ◌+◌, ◌≤◌, ◌++◌, List, length, All, IfOk, OnOk, OnErr, MatchOption};
+ghost use Rattle.stn_net.specs.{Difference.{Difference, NamesEvents}, Schedule.HasSchedule};
+ghost use Rattle.stn_lift.specs.PlanSource.{base_bounds, events_of};
 ghost use Rattle.stn_conflict.specs.Distances.{AreDistancesFrom, AreDistancesTo};
 ghost use Rattle.stn_site.specs.{Bounds.all_bounds, Report.{most_report, IsReport}, Windows.AreWindows};
 
 use crate::site_plan::SitePlan;
 use std::alloc::Allocator;
 use stn_conflict::{Distances, distances};
-use stn_net::Event;
+use stn_lift::Base;
+use stn_net::{Bound, Event};
 use stn_time::{Memory, Ms};
 
 impl<A: Allocator + Copy> SitePlan<A> {
@@ -18,12 +19,7 @@ impl<A: Allocator + Copy> SitePlan<A> {
             (λ windows. AreWindows (all_bounds self.now.source self.now.state) (events_of self.now.source) windows.items)) }
     {
         let live = self.live_bounds()?;
-        let base = self.base();
-        let origin = Event::origin();
-        match distances(self.alloc(), base.events(), base.bounds(), &live, origin)? {
-            Some(found) => Ok(Some(windows_of(self.alloc(), &found)?)),
-            None => Ok(None),
-        }
+        windows_with(self.alloc(), self.base(), &live)
     }
 
     /// Appends the report: how many steps, events, live records and replaced ids there are; then, where
@@ -39,6 +35,23 @@ impl<A: Allocator + Copy> SitePlan<A> {
             Some(windows) => self.report_with(Some(&windows), out),
             None => self.report_with(None, out),
         }
+    }
+}
+
+/// The windows of the origin and of all events of a plan, in their order, where more bounds hold beside its own: the earliest and the
+/// latest time of each; none exactly where all these have no schedule. It fails only if memory runs out.
+pub fn windows_with<A: Allocator + Copy>(
+    alloc: A,
+    base: &Base<A>,
+    more: &[Bound],
+) -> Result<Option<Vec<(Ms, Ms), A>>, Memory>
+    requires { All (NamesEvents (events_of base.now)) more.now }
+    ensures { IfOk result (λ found. MatchOption found (¬ HasSchedule (base_bounds base.now ++ more.now))
+        (λ windows. AreWindows (base_bounds base.now ++ more.now) (events_of base.now) windows.items)) }
+{
+    match distances(alloc, base.events(), base.bounds(), more, Event::origin())? {
+        Some(found) => Ok(Some(windows_of(alloc, &found)?)),
+        None => Ok(None),
     }
 }
 

@@ -1,7 +1,7 @@
 use Rattle.std.{proofs.Common.{length, ap, arith, subst, ◌∙◌}, specs.Prelude.All}
 use Rattle.stn_net.specs.{Difference.NamesEvents, Horizon.horizon_bounds, Matrix.Tightest.IsExact}
-use Rattle.stn_lift.specs.PlanSource.{base_bounds, events_of}
-use Rattle.stn_replica.proofs.Opening.{horizon_within, rest_named, slice_is, others_are, other_named, opened, opened_more, all_opened}
+use Rattle.stn_lift.{specs.PlanSource.{base_bounds, events_of}, proofs.PlanHorizon.horizon_within}
+use Rattle.stn_replica.proofs.Opening.{rest_named, slice_is, others_are, other_named, opened, opened_more, all_opened}
 use Rattle.stn_replica.proofs.matrices.opening_matrix.Goals as goal
 
 pub slice_bounds-others-start : goal.slice_bounds-others-start

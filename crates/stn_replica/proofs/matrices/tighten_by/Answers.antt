@@ -1,7 +1,7 @@
 use Rattle.std.{proofs.{Common.{[], ◌≡◌, ◌++◌, ◌∷◌, sym, ap, subst, ◌∙◌}, lemmas.Option.same_Some}, specs.FinMap.get}
 use Rattle.stn_records.{specs.{declared.record.Record.Record, Content.Content, ContentLaws.{ids_total, ids_exact}}, proofs.Gets.get_from_entries}
-use Rattle.stn_net.specs.Difference.{NamesEvents}
-use Rattle.stn_replica.{specs.Invariant.IsSettled, proofs.{Schedules.{schedule_before, settled_tightened}, Sound.{settled_exact, settled_conflict}}}
+use Rattle.stn_net.{specs.Difference.NamesEvents, proofs.Closure.schedule_before}
+use Rattle.stn_replica.{specs.Invariant.IsSettled, proofs.{Settled.settled_tightened, Sound.{settled_exact, settled_conflict}}}
 use Rattle.stn_replica.proofs.matrices.tighten_by.Goals as goal
 
 pub tighten-requires : goal.tighten-requires

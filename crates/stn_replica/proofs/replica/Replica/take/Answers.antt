@@ -1,7 +1,7 @@
 use Rattle.std.{proofs.{Common.{◌≡◌, is_some, refl, sym, ap, subst, ◌∙◌, arith}, lemmas.Bool.false≢true}, specs.Prelude.MatchOption}
 use Rattle.stn_records.specs.Content.{Content, IsPart}
-use Rattle.stn_site.specs.Held.{Held}
-use Rattle.stn_replica.{specs.Work.Extends, proofs.{Changes.extends_joined, replica.Replica.take.Goals.{in-Some, in_default}}}
+use Rattle.stn_site.{specs.{Held.Held, Growth.Extends}, proofs.Changes.extends_joined}
+use Rattle.stn_replica.proofs.replica.Replica.take.Goals.{in-Some, in_default}
 use Rattle.stn_replica.proofs.replica.Replica.take.Goals as goal
 
 pub catch_up-self-inside-requires-clause-extends : goal.catch_up-self-inside-requires-clause-extends

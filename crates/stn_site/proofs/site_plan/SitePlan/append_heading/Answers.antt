@@ -3,5 +3,5 @@ use Rattle.stn_records.specs.Content.{known_count}
 use Rattle.stn_site.proofs.Count.{live_within}
 use Rattle.stn_site.proofs.site_plan.SitePlan.append_heading.Goals as goal
 
-pub overflow_cast-live : goal.overflow_cast-live
-overflow_cast-live g c = omega (arith, live_within c.args.self.now.state, ap length c.requires, ap known_count c.records.ensures.value, c.replaced_count-replaced.ensures.limited)
+pub overflow_cast-count : goal.overflow_cast-count
+overflow_cast-count g c = omega (arith, live_within c.args.self.now.state, ap length c.requires, ap known_count c.records.ensures.value, c.replaced_count-replaced.ensures.limited)

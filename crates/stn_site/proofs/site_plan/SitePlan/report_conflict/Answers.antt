@@ -1,15 +1,13 @@
-use Rattle.std.{proofs.{Common.{◌≡◌, ◌++◌, ap, ◌∙◌}, lemmas.Result.on_ok_weaker}, specs.Prelude.{is_ok, if◌then◌else◌}}
-use Rattle.stn_site.proofs.Printing.{appended_ok, kept_err}
+use Rattle.std.proofs.Common.{◌++◌, ap, ◌∙◌}
+use Rattle.stn_site.{specs.Report.IsConflictPart, proofs.Printing.{appended_part, kept_err}}
 use Rattle.stn_site.proofs.site_plan.SitePlan.report_conflict.Goals as goal
 
 pub returns : goal.returns
 returns g c =
-    let old = c.args.out.now.items in
-    let text = c.in_ok-text.text.items in
-    let new = c.extend_from_slice.new.self.items in
-    let result = c.extend_from_slice.result in
-    let is : new ≡ (if is_ok result then old ++ text else old) = c.extend_from_slice.ensures.items ∙ ap (λ part. if is_ok result then old ++ part else old) c.deref.ensures.value in
+    let grown = c.extend_from_slice in
+    let part = c.in_ok-append_conflict.ensures.part in
     record {
-      part = on_ok_weaker result (λ grown. (text, c.in_ok-text.ensures, grown)) (appended_ok result new old text is);
-      kept = kept_err result new old text is;
+      part = appended_part grown.result grown.new.self.items c.args.out.now.items c.deref-2.result.now part.0 (c.deref-2.ensures.value ∙ part.2 ∙ ap (λ l. l ++ part.0) c.new-text.ensures.items)
+          grown.ensures.items (IsConflictPart c.args.self.now.source c.args.self.now.state) part.1;
+      kept = kept_err grown.result grown.new.self.items c.args.out.now.items c.deref-2.result.now grown.ensures.items;
     }

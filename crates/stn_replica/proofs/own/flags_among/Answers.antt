@@ -1,8 +1,0 @@
-use Rattle.std.proofs.Common.{◌≡◌, rules}
-use Rattle.stn_replica.proofs.own.flags_among.Goals as goal
-
-pub loop-number-preserved : goal.loop-number-preserved
-loop-number-preserved g c =
-    let is : c.unwrap-event.result ≡ c.loop-number.number = rw c.unwrap-event.ensures at c.new.ensures.value in
-    let own = rw is at c.has.ensures in
-    search rules
