@@ -1,9 +1,9 @@
 -- Which bounds a matrix shows to be implied, and the matrix with one bound more.
-use Rattle.std.proofs.{Common.{◌≡◌, ℤ, ◌≤ℤ◌, neg_ℤ, ◌↔◌, Bool, IsTrue, List, [], ◌∷◌, ◌++◌, sym, ap, subst, ◌∙◌, append_assoc, arith}, lemmas.Int.ints}
-use Rattle.stn_net.specs.{Difference.{Difference, NamesEvents}, Horizon.horizon_bounds, Schedule.{IsSchedule, HasSchedule}, Matrix.{Table.{Table, far_of}, Tightest.{IsTightest, IsExact}}}
+use Rattle.std.proofs.{Common.{◌≡◌, ◌≢◌, ℤ, ◌≤ℤ◌, neg_ℤ, ◌↔◌, Bool, IsTrue, List, [], ◌∷◌, ◌++◌, length, sym, ap, subst, ◌∙◌, append_assoc, length-append, arith}, lemmas.Int.ints}
+use Rattle.stn_net.{specs.{Difference.{Difference, NamesEvents}, Horizon.horizon_bounds, Schedule.{IsSchedule, HasSchedule}, Matrix.{Table.{Table, far_of}, Tightest.{IsTightest, IsExact}}}, proofs.Closure.schedule_before}
 use Rattle.stn_conflict.specs.Listing.{ListedBounds}
-use Rattle.stn_replica.proofs.Schedules.{schedule_before}
-use Rattle.stn_loosen.specs.{Loosened.Imply, Making.{made_bounds, AreTaken, IsShown, IsSearched}}
+use Rattle.stn_records.specs.Content.{most_known}
+use Rattle.stn_loosen.specs.{Loosened.Imply, Making.{loosening_of, made_bounds, with_more, AreTaken, IsShown, IsSearched}}
 
 -- both tightest differences are within the bound exactly where it is implied
 pub implied_from : (bounds : List Difference) (bound : Difference) (there back : ℤ) → IsTightest bounds bound.from bound.to there → IsTightest bounds bound.to bound.from back
@@ -23,50 +23,51 @@ lower_from bounds bound back home implied =
 
 -- just what the table shows is implied by the bounds for which it is exact
 pub shown_taken : (records : List Difference) (table : Table) (bound : Difference) → AreTaken records table → NamesEvents table.events bound
-    → (IsShown table bound ↔ Imply (made_bounds table.events records) bound)
+    → (IsShown table bound ↔ Imply (made_bounds (loosening_of table records)) bound)
 shown_taken records table bound taken named =
-    let bounds : List Difference = made_bounds table.events records in
-    let forth = taken.far bound.from bound.to named.from named.to in
-    let back = taken.far bound.to bound.from named.to named.from in (
-      λ shown. implied_from (made_bounds table.events records) bound (far_of table bound.from bound.to) (far_of table bound.to bound.from) forth back shown.0 shown.1,
-      λ implied. (upper_from (made_bounds table.events records) bound (far_of table bound.from bound.to) forth implied, lower_from (made_bounds table.events records) bound (far_of table bound.to bound.from) back implied),
+    let bounds : List Difference = made_bounds (loosening_of table records) in
+    let forth = taken.exact.far bound.from bound.to named.from named.to in
+    let back = taken.exact.far bound.to bound.from named.to named.from in (
+      λ shown. implied_from bounds bound (far_of table bound.from bound.to) (far_of table bound.to bound.from) forth back shown.0 shown.1,
+      λ implied. (upper_from bounds bound (far_of table bound.from bound.to) forth implied, lower_from bounds bound (far_of table bound.to bound.from) back implied),
     )
 
 -- and it is implied with more bounds, too
 pub shown_searched : (records : List Difference) (table : Table) (network : ListedBounds) (bound : Difference) → IsSearched records table network → NamesEvents table.events bound
-    → IsShown table bound → Imply (made_bounds table.events records) bound
+    → IsShown table bound → Imply (made_bounds (loosening_of table records)) bound
 shown_searched records table network bound h named shown = λ time s. (
   (let back = h.apart time s bound.to bound.from named.to named.from in let within = shown.1 in omega (arith, ints)),
   (let forth = h.apart time s bound.from bound.to named.from named.to in let within = shown.0 in omega (arith, ints)),
 )
 
 -- all records are in the network, and the matrix is exact for them
-pub searched_first : (records : List Difference) (table : Table) (network : ListedBounds) → AreTaken records table → network ≡ record { events = table.events; bounds = made_bounds table.events records }
-    → IsSearched records table network
-searched_first records table network taken whole = record { whole = whole; apart = λ time s x y xs ys. (taken.far x y xs ys).bound time s }
+pub searched_first : (records : List Difference) (table : Table) (network : ListedBounds) → AreTaken records table
+    → network ≡ record { events = table.events; bounds = made_bounds (loosening_of table records) } → IsSearched records table network
+searched_first records table network taken whole = record { whole = whole; apart = λ time s x y xs ys. (taken.exact.far x y xs ys).bound time s }
 
 -- the network takes one record more
 pub searched_more : (records more : List Difference) (bound : Difference) (table : Table) (old new : ListedBounds) → IsSearched records table old → more ≡ records ++ bound ∷ []
     → new ≡ record old { bounds = old.bounds ++ bound ∷ [] } → IsSearched more table new
 searched_more records more bound table old new h made pushed =
-    let all : made_bounds table.events records ++ bound ∷ [] ≡ made_bounds table.events more =
-    append_assoc (horizon_bounds table.events) records (bound ∷ []) ∙ ap (made_bounds table.events) (sym made) in
+    let all : made_bounds (loosening_of table records) ++ bound ∷ [] ≡ made_bounds (loosening_of table more) =
+    append_assoc (horizon_bounds table.events) records (bound ∷ []) ∙ ap (λ l. made_bounds (loosening_of table l)) (sym made) in
     record {
       whole = pushed ∙ ap (λ (l : ListedBounds). record l { bounds = l.bounds ++ bound ∷ [] }) h.whole
           ∙ ap (λ (l : List Difference). record { events = table.events; bounds = l }) all;
-      apart = λ time s. h.apart time (schedule_before (made_bounds table.events records) (bound ∷ []) time (subst (λ l. IsSchedule l time) (sym all) s));
+      apart = λ time s. h.apart time (schedule_before (made_bounds (loosening_of table records)) (bound ∷ []) time (subst (λ l. IsSchedule l time) (sym all) s));
     }
 
 -- the matrix takes one record more
-pub taken_more : (records more : List Difference) (bound : Difference) (old new : Table) (fits : Bool) → more ≡ records ++ bound ∷ [] → AreTaken records old
-    → HasSchedule (made_bounds old.events (records ++ bound ∷ []))
+pub taken_more : (records more : List Difference) (bound : Difference) (old new : Table) (fits : Bool) → more ≡ records ++ bound ∷ [] → length records ≢ most_known → AreTaken records old
+    → HasSchedule (made_bounds (with_more (loosening_of old records) (bound ∷ [])))
     → ((bounds : List Difference) → IsExact bounds old → (IsTrue fits ↔ HasSchedule (bounds ++ bound ∷ [])))
     → ((bounds : List Difference) → IsExact bounds old → IsTrue fits → IsExact (bounds ++ bound ∷ []) new)
     → new.events ≡ old.events → AreTaken more new
-taken_more records more bound old new fits is taken there possible exact same =
-    let front : List Difference = made_bounds old.events records in
-    let whole : front ++ bound ∷ [] ≡ made_bounds old.events (records ++ bound ∷ []) = append_assoc (horizon_bounds old.events) records (bound ∷ []) in
-    let fit : IsTrue fits = (possible front taken).1 (subst (λ l. HasSchedule l) (sym whole) there) in
-    subst (λ l. IsExact l new)
-    (whole ∙ ap (made_bounds old.events) (sym is) ∙ ap (λ n. made_bounds n more) (sym same))
-    (exact front taken fit)
+taken_more records more bound old new fits is left taken there possible exact same =
+    let front : List Difference = made_bounds (loosening_of old records) in
+    let whole : front ++ bound ∷ [] ≡ made_bounds (with_more (loosening_of old records) (bound ∷ [])) = append_assoc (horizon_bounds old.events) records (bound ∷ []) in
+    let fit : IsTrue fits = (possible front taken.exact).1 (subst HasSchedule (sym whole) there) in
+    record {
+      exact = subst (λ l. IsExact l new) (whole ∙ ap (λ l. made_bounds (loosening_of old l)) (sym is) ∙ ap (λ n. horizon_bounds n ++ more) (sym same)) (exact front taken.exact fit);
+      few = omega (arith, taken.few, left, ap length is, length-append records (bound ∷ []));
+    }

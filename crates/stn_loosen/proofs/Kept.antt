@@ -1,38 +1,24 @@
 -- Orders that are kept, and those that are left out.
-use Rattle.std.{proofs.{Common.{◌≡◌, inl, inr, ⊎_elim, List, [], ◌∷◌, ◌++◌, refl, sym, ap, subst, ◌∙◌, append_assoc, append-nil}, lemmas.List.Elements.All-head}, specs.List.AllByRecursion}
-use Rattle.stn_net.specs.{Difference.Difference, Schedule.{Meets, IsSchedule}}
+use Rattle.std.{proofs.{Common.{◌≡◌, inl, inr, ⊎_elim, List, [], ◌∷◌, ◌++◌, sym, ap, subst, ◌∙◌, append_assoc, append-nil}, lemmas.List.Elements.All-head}, specs.List.AllByRecursion}
+use Rattle.stn_net.{specs.{Difference.Difference, Schedule.{Meets, IsSchedule}}, proofs.{Closure.schedule_before, Schedules.met_behind}}
 use Rattle.stn_loosen.specs.Loosened.{Imply, AreKept}
-use Rattle.stn_replica.proofs.Schedules.{schedule_before, met_behind}
-
--- what one order more makes of the orders and of those that are kept
-abbrev pub Pushes : List Difference → List Difference → List Difference → Difference → Type 0
-Pushes bounds orders kept order =
-    (Imply (bounds ++ kept) order → AreKept bounds (orders ++ order ∷ []) kept)
-    × (¬ Imply (bounds ++ kept) order → AreKept bounds (orders ++ order ∷ []) (kept ++ order ∷ []))
 
 kept_same : (bounds kept others : List Difference) (first : Difference) → kept ≡ first ∷ others → bounds ++ kept ≡ (bounds ++ first ∷ []) ++ others
 kept_same bounds kept others first is = ap (λ l. bounds ++ l) is ∙ sym (append_assoc bounds (first ∷ []) others)
 
-push_behind : (bounds orders kept others : List Difference) (first order : Difference) → ¬ Imply bounds first → kept ≡ first ∷ others
-    → Pushes (bounds ++ first ∷ []) orders others order → Pushes bounds (first ∷ orders) kept order
-push_behind bounds orders kept others first order needed_first is rest =
-    let same = kept_same bounds kept others first is in (
-      λ implied. inr (needed_first, (others, is, rest.0 (subst (λ l. Imply l order) same implied))),
-      λ needed. inr (needed_first, (others ++ order ∷ [], ap (λ l. l ++ order ∷ []) is, rest.1 (λ implied. needed (subst (λ l. Imply l order) (sym same) implied)))),
-    )
-
--- one order more, which is implied, or is kept
-pub AreKept-push : (bounds orders kept : List Difference) (order : Difference) → AreKept bounds orders kept → Pushes bounds orders kept order
-AreKept-push bounds [] kept order none =
-    let same : bounds ++ kept ≡ bounds = ap (λ l. bounds ++ l) none ∙ append-nil bounds in (
-      λ implied. inl (subst (λ l. Imply l order) same implied, none),
-      λ needed. inr (λ implied. needed (subst (λ l. Imply l order) (sym same) implied), ([], ap (λ l. l ++ order ∷ []) none, refl)),
-    )
-AreKept-push bounds (first ∷ orders) kept order are =
+-- what is kept of more
+pub AreKept-join : (bounds first second one other : List Difference) → AreKept bounds first one → AreKept (bounds ++ one) second other → AreKept bounds (first ++ second) (one ++ other)
+AreKept-join bounds [] second one other none are =
+    let same : bounds ++ one ≡ bounds = ap (λ l. bounds ++ l) none ∙ append-nil bounds in
+    let whole : other ≡ one ++ other = sym (ap (λ l. l ++ other) none) in
+    subst (AreKept bounds second) whole (subst (λ l. AreKept l second other) same are)
+AreKept-join bounds (order ∷ first) second one other kept are =
     ⊎_elim
-    (λ p. let rest = AreKept-push bounds orders kept order p.1 in (λ implied. inl (p.0, rest.0 implied), λ needed. inl (p.0, rest.1 needed)))
-    (λ p. push_behind bounds orders kept p.1.0 first order p.0 p.1.1 (AreKept-push (bounds ++ first ∷ []) orders p.1.0 order p.1.2))
-    are
+    (λ p. inl (p.0, AreKept-join bounds first second one other p.1 are))
+    (λ p.
+    let same = kept_same bounds one p.1.0 order p.1.1 in
+    inr (p.0, (p.1.0 ++ other, ap (λ l. l ++ other) p.1.1, AreKept-join (bounds ++ order ∷ []) first second p.1.0 other p.1.2 (subst (λ l. AreKept l second other) same are))))
+    kept
 
 -- what holds of all orders holds of those that are kept
 pub kept_hold : (P : Difference → Type 0) (bounds orders kept : List Difference) → AreKept bounds orders kept → AllByRecursion P orders → AllByRecursion P kept

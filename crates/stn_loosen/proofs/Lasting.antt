@@ -1,10 +1,10 @@
 -- No duration of a plan is negative.
 use Rattle.std.{specs.{Prelude.int_lt, List.AllByRecursion, Result.result_unwrap_or}, proofs.{Common.{◌≡◌, ℕ, ℤ, pos, ◌+◌, ◌+ℤ◌, ◌≤ℤ◌, zero, suc, Bool, true, false, cond, not, ◌==◌, find, List, [], ◌∷◌, length, Option, Some, None, Result, Ok, Err, refl, subst, arith, All}, lemmas.{Int.ints, List.Elements.{All-from_recursion, All-nil}}}}
 use Rattle.stn_time.{specs.Time.horizon, proofs.Each.each_pushed}
-use Rattle.stn_text.specs.Faults.{◌>>=◌}
+use Rattle.stn_text.{specs.Faults.{◌>>=◌}, proofs.Readings.bind_ok}
 use Rattle.stn_pddl.{specs.{Tree.Names.is_same_word, declared.fault.DomainFault.DomainFault, Schemas.ActionSchema, Domains.{domain_of, action_named}, Sound.IsSound}, proofs.SoundActions.{domain-sound, found-sound}}
 use Rattle.stn_net.specs.Difference.{Difference}
-use Rattle.stn_lift.{specs.{declared.{plan.fault.PlanFault.PlanFault, fault.LiftFault.{LiftFault, TheVariants.{Arity, DurationDiffers, PastHorizon}}}, Plan.Steps.{PlannedStep, plan_of}, BaseBounds.{duration_bound, duration_bounds, duration_of}, Activities.{Activity, activity, differs, with_action, with_found, activity_of, activities}, PlanSource.{PlanSource, bare, files, of_lift, steps_in, lifted, activities_of}}, proofs.Steps.bind_ok}
+use Rattle.stn_lift.{specs.{declared.{plan.fault.PlanFault.PlanFault, fault.LiftFault.{LiftFault, TheVariants.{Arity, DurationDiffers, PastHorizon}}}, Plan.Steps.{PlannedStep, plan_of}, BaseBounds.{duration_bound, duration_bounds, duration_of}, Activities.{Activity, activity, differs, with_action, with_found, activity_of, activities}, PlanSource.{PlanSource, bare, files, of_lift, steps_in, lifted, activities_of}}}
 use Rattle.stn_loosen.specs.Loosened.{durations_of}
 
 -- the step takes some time, or none

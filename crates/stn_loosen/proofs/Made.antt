@@ -1,107 +1,118 @@
 -- Records that are made one after the other.
-use Rattle.std.{proofs.{Common.{◌≡◌, ℕ, ℤ, ◌+◌, ◌<◌, ◌≤◌, List, [], ◌∷◌, ◌++◌, map, length, take, drop, get_or, sym, ap, subst, ◌∙◌, arith, append_assoc, length-append, ⊎_elim, All}, lemmas.List.{map_more, map-append, take_more, take-append-drop, Elements.{All-take, All-from_recursion, recursion_from_All}}}, specs.List.AllByRecursion}
-use Rattle.stn_net.specs.{Difference.Difference, Horizon.horizon_bounds, Schedule.{Meets, IsSchedule, HasSchedule}, Matrix.Table.Table}
-use Rattle.stn_records.specs.Content.{most_known}
-use Rattle.stn_replica.proofs.Schedules.{schedule_before, met_behind, schedule_with}
-use Rattle.stn_loosen.{specs.{Slack.{Slack, loose}, Loosened.{Imply, AreKept}, Making.{made_bounds, AreTaken, IsOneMore, IsCauseOf, IsCauseWith}, declared.fault.LoosenFault.{LoosenFault, TheVariants.{Full, NotRobust, Memory}}}, proofs.Kept.{AreKept-push, kept_hold}}
+use Rattle.std.{proofs.{Common.{◌≡◌, ℕ, ℤ, ◌+◌, ◌<◌, inr, List, [], ◌∷◌, ◌++◌, map, length, take, drop, get_or, refl, sym, ap, subst, ◌∙◌, arith, append_assoc, append-nil, length-append}, lemmas.List.{map_more, map-append, take_more, take-append-drop, Elements.{All-from_recursion, recursion_from_All}}}, specs.List.AllByRecursion}
+use Rattle.stn_time.proofs.Each.{each_parted}
+use Rattle.stn_net.{specs.{Difference.Difference, Horizon.horizon_bounds, Schedule.{Meets, IsSchedule, HasSchedule}}, proofs.{Closure.schedule_before, Schedules.{met_behind, schedule_with}}}
+use Rattle.stn_loosen.{specs.{Slack.{Slack, loose}, Loosened.AreKept, Making.{Loosening, made_bounds, with_more, AreMadeBehind, IsCauseOf, IsCauseWith}, Stepped.{IsCauseBehind, IsCauseIn}, declared.fault.LoosenFault.{LoosenFault, TheVariants.{Full, NotRobust, Memory}}}, proofs.Kept.{AreKept-join, kept_hold}}
 
--- with a schedule of records and more, the records have one
-pub front_schedule : (events : ℕ) (records more : List Difference) → HasSchedule (made_bounds events (records ++ more)) → HasSchedule (made_bounds events records)
-front_schedule events records more s = (
-  s.0,
-  schedule_before (made_bounds events records) more s.0 (subst (λ l. IsSchedule l s.0) (sym (append_assoc (horizon_bounds events) records more)) s.1),
-)
+-- all bounds, where there are more
+pub bounds_more : (made : Loosening) (more : List Difference) → made_bounds (with_more made more) ≡ made_bounds made ++ more
+bounds_more made more = sym (append_assoc (horizon_bounds made.events) made.records more)
+
+-- with a schedule of all bounds and more, all bounds have one
+front_schedule : (made : Loosening) (more : List Difference) → HasSchedule (made_bounds (with_more made more)) → HasSchedule (made_bounds made)
+front_schedule made more s = (s.0, schedule_before (made_bounds made) more s.0 (subst (λ l. IsSchedule l s.0) (bounds_more made more) s.1))
 
 -- after the first durations the next one is made
-module _ (slack : Slack) (old durations : List Difference) (place : ℕ) (duration bound : Difference) (within : place < length durations)
-    (here : duration ≡ get_or durations place duration) (is : bound ≡ loose slack duration) where
-  pub made_more : (records : List Difference) → records ≡ old ++ map (loose slack) (take place durations)
-      → records ++ bound ∷ [] ≡ old ++ map (loose slack) (take (place + 1) durations)
-  made_more records made =
+module _ (slack : Slack) (old now : Loosening) (durations : List Difference) (place : ℕ) (duration bound : Difference) (within : place < length durations)
+    (here : duration ≡ get_or durations place duration) (is : bound ≡ loose slack duration) (made : now ≡ with_more old (map (loose slack) (take place durations))) where
+  pub made_more : with_more now (bound ∷ []) ≡ with_more old (map (loose slack) (take (place + 1) durations))
+  made_more =
       let next : bound ≡ loose slack (get_or durations place duration) = is ∙ ap (loose slack) here in
-      ap (λ l. l ++ bound ∷ []) made ∙ append_assoc old (map (loose slack) (take place durations)) (bound ∷ [])
-      ∙ ap (λ l. old ++ l) (ap (λ b. map (loose slack) (take place durations) ++ b ∷ []) next ∙ sym (map_more (loose slack) durations place duration within))
+      let more = ap (λ b. map (loose slack) (take place durations) ++ b ∷ []) next ∙ sym (map_more (loose slack) durations place duration within) in
+      ap (λ m. with_more m (bound ∷ [])) made
+      ∙ ap (λ l. record old { records = l }) (append_assoc old.records (map (loose slack) (take place durations)) (bound ∷ []) ∙ ap (λ l. old.records ++ l) more)
 
-  pub duration_possible : (events other : ℕ) (records : List Difference) → other ≡ events → records ≡ old ++ map (loose slack) (take place durations)
-      → HasSchedule (made_bounds events (old ++ map (loose slack) durations)) → HasSchedule (made_bounds other (records ++ bound ∷ []))
-  duration_possible events other records same made possible =
-      let parts : map (loose slack) durations ≡ map (loose slack) (take (place + 1) durations) ++ map (loose slack) (drop (place + 1) durations) =
+  pub duration_possible : HasSchedule (made_bounds (with_more old (map (loose slack) durations))) → HasSchedule (made_bounds (with_more now (bound ∷ [])))
+  duration_possible possible =
+      let first = map (loose slack) (take (place + 1) durations) in
+      let rest = map (loose slack) (drop (place + 1) durations) in
+      let parts : map (loose slack) durations ≡ first ++ rest =
       ap (map (loose slack)) (sym (take-append-drop (place + 1) durations)) ∙ map-append (loose slack) (take (place + 1) durations) (drop (place + 1) durations) in
-      let whole : old ++ map (loose slack) durations ≡ (records ++ bound ∷ []) ++ map (loose slack) (drop (place + 1) durations) =
-      ap (λ l. old ++ l) parts ∙ sym (append_assoc old (map (loose slack) (take (place + 1) durations)) (map (loose slack) (drop (place + 1) durations)))
-      ∙ ap (λ l. l ++ map (loose slack) (drop (place + 1) durations)) (sym (made_more records made)) in
-      subst (λ n. HasSchedule (made_bounds n (records ++ bound ∷ []))) (sym same)
-      (front_schedule events (records ++ bound ∷ []) (map (loose slack) (drop (place + 1) durations)) (subst (λ l. HasSchedule (made_bounds events l)) whole possible))
+      let whole : with_more old (map (loose slack) durations) ≡ with_more (with_more now (bound ∷ [])) rest =
+      ap (λ l. record old { records = l }) (ap (λ l. old.records ++ l) parts ∙ sym (append_assoc old.records first rest)) ∙ ap (λ m. with_more m rest) (sym made_more) in
+      front_schedule (with_more now (bound ∷ [])) rest (subst (λ m. HasSchedule (made_bounds m)) whole possible)
 
--- the first orders were looked at: the records are the old ones and those of the orders that are kept
-pub record IsMadeTo (old orders : List Difference) (first : Table) (place : ℕ) (records : List Difference) (table : Table) : Type 0 where
-  pub kept : List Difference
-  pub made : records ≡ old ++ kept
-  pub chosen : AreKept (made_bounds first.events old) (take place orders) kept
-  pub taken : AreTaken records table
-  pub events : table.events ≡ first.events
-  pub few : length records ≤ most_known
+pub nothing_more : (made : Loosening) → made ≡ with_more made []
+nothing_more made = ap (λ l. record made { records = l }) (sym (append-nil made.records))
 
-module _ (old orders : List Difference) (first : Table) (place : ℕ) (records : List Difference) (table : Table) (sofar : IsMadeTo old orders first place records table)
-    (order : Difference) (within : place < length orders) (here : order ≡ get_or orders place order) where
-  more : take (place + 1) orders ≡ take place orders ++ order ∷ []
-  more = take_more orders place order within ∙ ap (λ b. take place orders ++ b ∷ []) (sym here)
+pub none_made : (old : Loosening) → AreMadeBehind old [] old
+none_made old = ([], nothing_more old, refl)
 
-  -- the bounds so far, as those of before and of the orders kept
-  whole : made_bounds table.events records ≡ made_bounds first.events old ++ sofar.kept
-  whole = ap (λ n. made_bounds n records) sofar.events ∙ ap (made_bounds first.events) sofar.made ∙ sym (append_assoc (horizon_bounds first.events) old sofar.kept)
+module _ (old middle : Loosening) (first second : List Difference) (made : AreMadeBehind old first middle) where
+  pub made_behind : (new : Loosening) → AreMadeBehind middle second new → AreMadeBehind old (first ++ second) new
+  made_behind new other = (
+    made.0 ++ other.0,
+    other.1 ∙ ap (λ m. with_more m other.0) made.1 ∙ ap (λ l. record old { records = l }) (append_assoc old.records made.0 other.0),
+    AreKept-join (made_bounds old) first second made.0 other.0 made.2 (subst (λ l. AreKept l second other.0) (ap made_bounds made.1 ∙ bounds_more old made.0) other.2),
+  )
 
-  pub order_possible : HasSchedule (made_bounds first.events (old ++ orders)) → HasSchedule (made_bounds table.events (records ++ order ∷ []))
-  order_possible possible =
-      let time : ℕ → ℤ = possible.0 in
-      let s : IsSchedule (made_bounds first.events old ++ orders) time = subst (λ l. IsSchedule l time) (sym (append_assoc (horizon_bounds first.events) old orders)) possible.1 in
-      let met : All (Meets time) orders = met_behind (made_bounds first.events old) orders time s in
-      let seen : AllByRecursion (Meets time) (take place orders) = recursion_from_All (Meets time) (take place orders) (All-take (Meets time) place orders met) in
-      let kept : All (Meets time) sofar.kept =
-      All-from_recursion (Meets time) sofar.kept (kept_hold (Meets time) (made_bounds first.events old) (take place orders) sofar.kept sofar.chosen seen) in
-      let one : Meets time order = subst (Meets time) (sym here) (met place order within) in
-      let before : IsSchedule (made_bounds first.events old ++ sofar.kept) time = schedule_with (made_bounds first.events old) sofar.kept time (schedule_before (made_bounds first.events old) orders time s) kept in
-      let all : IsSchedule (made_bounds table.events records ++ order ∷ []) time =
-      schedule_with (made_bounds table.events records) (order ∷ []) time (subst (λ l. IsSchedule l time) (sym whole) before) (All-from_recursion (Meets time) (order ∷ []) (one, tt)) in
-      (time, subst (λ l. IsSchedule l time) (append_assoc (horizon_bounds table.events) records (order ∷ [])) all)
+  -- what can be made behind these, and more, can be made behind the first
+  pub possible_behind : (others : List Difference) → HasSchedule (made_bounds (with_more old (first ++ (second ++ others)))) → HasSchedule (made_bounds (with_more middle second))
+  possible_behind others s =
+      let time : ℕ → ℤ = s.0 in
+      let front : List Difference = made_bounds old in
+      let all : List Difference = first ++ (second ++ others) in
+      let whole : IsSchedule (front ++ all) time = subst (λ l. IsSchedule l time) (bounds_more old all) s.1 in
+      let met = each_parted (Meets time) first (second ++ others) (recursion_from_All (Meets time) all (met_behind front all time whole)) in
+      let more : AllByRecursion (Meets time) second = (each_parted (Meets time) second others met.1).0 in
+      let kept : AllByRecursion (Meets time) made.0 = kept_hold (Meets time) front first made.0 made.2 met.0 in
+      let here : IsSchedule (front ++ made.0) time = schedule_with front made.0 time (schedule_before front all time whole) (All-from_recursion (Meets time) made.0 kept) in
+      let there : IsSchedule (made_bounds middle) time = subst (λ l. IsSchedule l time) (sym (ap made_bounds made.1 ∙ bounds_more old made.0)) here in (
+        time,
+        subst (λ l. IsSchedule l time) (sym (bounds_more middle second)) (schedule_with (made_bounds middle) second time there (All-from_recursion (Meets time) second more)),
+      )
 
-  pub order_made : (next : List Difference) (new : Table) → IsOneMore table.events records order next → AreTaken next new → length next ≤ most_known → new.events ≡ table.events
-      → IsMadeTo old orders first (place + 1) next new
-  order_made next new is taken few events =
-      let push = AreKept-push (made_bounds first.events old) (take place orders) sofar.kept order sofar.chosen in
-      ⊎_elim
-      (λ p.
-      let made : IsMadeTo old orders first (place + 1) next new = record {
-        kept = sofar.kept;
-        made = p.1 ∙ sofar.made;
-        chosen = subst (λ l. AreKept (made_bounds first.events old) l sofar.kept) (sym more) (push.0 (subst (λ l. Imply l order) whole p.0));
-        taken = taken;
-        events = events ∙ sofar.events;
-        few = few;
-      } in made)
-      (λ p.
-      let made : IsMadeTo old orders first (place + 1) next new = record {
-        kept = sofar.kept ++ order ∷ [];
-        made = p.1 ∙ ap (λ l. l ++ order ∷ []) sofar.made ∙ append_assoc old sofar.kept (order ∷ []);
-        chosen = subst (λ l. AreKept (made_bounds first.events old) l (sofar.kept ++ order ∷ [])) (sym more)
-            (push.1 (λ implied. p.0 (subst (λ l. Imply l order) (sym whole) implied)));
-        taken = taken;
-        events = events ∙ sofar.events;
-        few = few;
-      } in made)
-      is
+  pub cause_behind : (others : List Difference) (fault : LoosenFault) → IsCauseBehind middle second fault → IsCauseBehind old (first ++ (second ++ others)) fault
+  cause_behind others Full p = p
+  cause_behind others NotRobust p = λ s. p (possible_behind others s)
+  cause_behind others Memory p = tt
 
-  pub order_refused : (fault : LoosenFault) → IsCauseOf table.events records order fault → IsCauseWith first.events old orders fault
-  order_refused Full p =
-      let push = AreKept-push (made_bounds first.events old) (take place orders) sofar.kept order sofar.chosen in
-      record {
-        first = take (place + 1) orders;
-        others = drop (place + 1) orders;
-        parts = sym (take-append-drop (place + 1) orders);
-        kept = sofar.kept ++ order ∷ [];
-        chosen = subst (λ l. AreKept (made_bounds first.events old) l (sofar.kept ++ order ∷ [])) (sym more)
-            (push.1 (λ implied. p.0 (subst (λ l. Imply l order) (sym whole) implied)));
-        many = omega (arith, p.1, ap length sofar.made, length-append old sofar.kept, length-append sofar.kept (order ∷ []), length-append old (sofar.kept ++ order ∷ []));
-      }
-  order_refused NotRobust none = none
-  order_refused Memory p = tt
+-- where all bounds have no schedule, they have none with more
+pub cause_now : (made : Loosening) (others : List Difference) (fault : LoosenFault) → IsCauseIn (made_bounds made) fault → IsCauseBehind made others fault
+cause_now made others Full p = p
+cause_now made others NotRobust p = λ s. p (front_schedule made others s)
+cause_now made others Memory p = tt
+
+-- so no more can be made of these
+pub cause_in : (old new : Loosening) (bounds : List Difference) → AreMadeBehind old bounds new → (fault : LoosenFault) → IsCauseIn (made_bounds new) fault → IsCauseBehind old bounds fault
+cause_in old new bounds made fault cause =
+    subst (λ l. IsCauseBehind old l fault) (append-nil bounds) (cause_behind old new bounds [] made [] fault (cause_now new [] fault cause))
+
+-- the first of some bounds were looked at, and what they stand for was made; then the next one is
+module _ (stand_for : List Difference → List Difference) (join : (some others : List Difference) → stand_for (some ++ others) ≡ stand_for some ++ stand_for others)
+    (old now : Loosening) (bounds : List Difference) (place : ℕ) (sofar : AreMadeBehind old (stand_for (take place bounds)) now)
+    (bound : Difference) (within : place < length bounds) (here : bound ≡ get_or bounds place bound) where
+  next : stand_for (take (place + 1) bounds) ≡ stand_for (take place bounds) ++ stand_for (bound ∷ [])
+  next = ap stand_for (take_more bounds place bound within ∙ ap (λ b. take place bounds ++ b ∷ []) (sym here)) ∙ join (take place bounds) (bound ∷ [])
+
+  all : stand_for bounds ≡ stand_for (take place bounds) ++ (stand_for (bound ∷ []) ++ stand_for (drop (place + 1) bounds))
+  all =
+      ap stand_for (sym (take-append-drop (place + 1) bounds)) ∙ join (take (place + 1) bounds) (drop (place + 1) bounds)
+      ∙ ap (λ l. l ++ stand_for (drop (place + 1) bounds)) next ∙ append_assoc (stand_for (take place bounds)) (stand_for (bound ∷ [])) (stand_for (drop (place + 1) bounds))
+
+  pub made_next : (new : Loosening) → AreMadeBehind now (stand_for (bound ∷ [])) new → AreMadeBehind old (stand_for (take (place + 1) bounds)) new
+  made_next new made = subst (λ l. AreMadeBehind old l new) (sym next) (made_behind old now (stand_for (take place bounds)) (stand_for (bound ∷ [])) sofar new made)
+
+  pub possible_next : HasSchedule (made_bounds (with_more old (stand_for bounds))) → HasSchedule (made_bounds (with_more now (stand_for (bound ∷ []))))
+  possible_next s =
+      possible_behind old now (stand_for (take place bounds)) (stand_for (bound ∷ [])) sofar (stand_for (drop (place + 1) bounds))
+      (subst (λ l. HasSchedule (made_bounds (with_more old l))) all s)
+
+  pub refused_next : (fault : LoosenFault) → IsCauseBehind now (stand_for (bound ∷ [])) fault → IsCauseBehind old (stand_for bounds) fault
+  refused_next fault cause =
+      subst (λ l. IsCauseBehind old l fault) (sym all)
+      (cause_behind old now (stand_for (take place bounds)) (stand_for (bound ∷ [])) sofar (stand_for (drop (place + 1) bounds)) fault cause)
+
+-- the next order is needed, and there are as many records as may be
+pub order_refused : (old now : Loosening) (orders : List Difference) (place : ℕ) → AreMadeBehind old (take place orders) now → (order : Difference) → place < length orders
+    → order ≡ get_or orders place order → (fault : LoosenFault) → IsCauseOf now order fault → IsCauseWith old orders fault
+order_refused old now orders place sofar order within here Full p = record {
+  first = take (place + 1) orders;
+  others = drop (place + 1) orders;
+  parts = sym (take-append-drop (place + 1) orders);
+  made = with_more now (order ∷ []);
+  behind = made_next (λ l. l) (λ _ _. refl) old now orders place sofar order within here (with_more now (order ∷ [])) (order ∷ [], refl, inr (p.0, ([], refl, refl)));
+  many = omega (arith, p.1, length-append now.records (order ∷ []));
+}
+order_refused old now orders place sofar order within here NotRobust none = none
+order_refused old now orders place sofar order within here Memory p = tt

@@ -1,21 +1,21 @@
 -- The records of the robust plan, made behind those of the loosened plan.
-use Rattle.std.{specs.{Prelude.{All, OnOk, Result, Ok, Err}, List.AllByRecursion}, proofs.{Common.{◌≡◌, ℕ, List, [], ◌∷◌, ◌++◌, length, take, drop, refl, sym, ap, subst, ◌∙◌, append_assoc}, lemmas.List.{take_at, drop_at, length-map, Elements.{All-append, All-from_recursion}}}}
+use Rattle.std.{specs.{Prelude.{All, IfOk, OnOk, Result, Ok, Err}, List.AllByRecursion}, proofs.{Common.{◌≡◌, ℕ, List, [], ◌∷◌, ◌++◌, length, take, drop, refl, sym, ap, subst, ◌∙◌, append_assoc}, lemmas.List.{take_at, drop_at, length-map, Elements.{All-append, All-from_recursion}}}}
 use Rattle.stn_net.specs.{Difference.{Difference, NamesEvents}, Horizon.horizon_bounds, Schedule.HasSchedule}
 use Rattle.stn_lift.specs.PlanSource.{PlanSource, events_of, IsSoundSource}
-use Rattle.stn_loosen.{specs.{declared.fault.LoosenFault.{LoosenFault, TheVariants.{Full, NotRobust, Memory}}, Slack.{Slack, IsSlack, loose}, Moved.moved_bounds, Robust.{loose_bounds, HasPromise, AreRobust}, Making.made_bounds, Stepped.{AreSteps, AreMadeBehind, IsCauseBehind}, Whole.{IsMadeRobust, IsCauseAfter}, Loosened.{durations_of, AreKept, AreLoosened, bounds_with, loose_durations}}, proofs.{Kept.kept_hold, Sides.{upper_named, lower_named}, Steps.source_steps, Robustness.{sources_moved, moved_possible, records_promise}, Settings.{IsMetIn, each_weaker}}}
+use Rattle.stn_loosen.{specs.{declared.fault.LoosenFault.{LoosenFault, TheVariants.{Full, NotRobust, Memory}}, Slack.{Slack, IsSlack, loose}, Moved.moved_bounds, Robust.{loose_bounds, HasPromise, AreRobust}, Making.{Loosening, made_bounds, AreMadeBehind}, Stepped.{AreSteps, IsCauseBehind}, Whole.{IsMadeRobust, IsCauseAfter}, Loosened.{durations_of, AreKept, AreLoosened, bounds_with, loose_durations}}, proofs.{Kept.kept_hold, Sides.{upper_named, lower_named}, Steps.source_steps, Robustness.{sources_moved, moved_possible, records_promise}, Settings.{IsMetIn, each_weaker}}}
 
 -- the durations and the other bounds of the loosened plan, as robust loosening takes them
-pub record AreParted (source : PlanSource) (slack : Slack) (loosened : List Difference) (events : ℕ) (durations bounds : List Difference) : Type 0 where
+pub record AreParted (source : PlanSource) (slack : Slack) (old : Loosening) (durations bounds : List Difference) : Type 0 where
   pub sound : IsSoundSource source
   pub slack_is : IsSlack slack
-  pub are : AreLoosened source slack loosened
-  pub same : events ≡ events_of source
+  pub are : AreLoosened source slack old.records
+  pub same : old.events ≡ events_of source
   pub steps : ℕ
   pub count : steps ≡ length (durations_of source)
-  pub durations_are : durations ≡ take steps loosened
-  pub bounds_are : bounds ≡ drop steps loosened ++ horizon_bounds (events_of source)
+  pub durations_are : durations ≡ take steps old.records
+  pub bounds_are : bounds ≡ drop steps old.records ++ horizon_bounds (events_of source)
 
-module _ {source : PlanSource} {slack : Slack} {loosened : List Difference} {events : ℕ} {durations bounds : List Difference} (p : AreParted source slack loosened events durations bounds) where
+module _ {source : PlanSource} {slack : Slack} {old : Loosening} {durations bounds : List Difference} (p : AreParted source slack old durations bounds) where
   many : length (loose_durations slack source) ≡ p.steps
   many = length-map (durations_of source) (loose slack) ∙ sym p.count
 
@@ -31,40 +31,40 @@ module _ {source : PlanSource} {slack : Slack} {loosened : List Difference} {eve
   sides : moved_bounds durations bounds ≡ moved_bounds (loose_durations slack source) (p.are.made.kept ++ horizon_bounds (events_of source))
   sides = ap (λ l. moved_bounds l bounds) durations_first ∙ ap (moved_bounds (loose_durations slack source)) bounds_behind
 
-  pub bounds_named : All (NamesEvents events) bounds
+  pub bounds_named : All (NamesEvents old.events) bounds
   bounds_named =
       let whole : List Difference = p.are.made.kept ++ horizon_bounds (events_of source) in
       subst (λ n. All (NamesEvents n) bounds) (sym p.same)
       (subst (λ l. All (NamesEvents (events_of source)) l) (sym bounds_behind)
       (All-from_recursion (NamesEvents (events_of source)) whole
       (each_weaker (IsMetIn (loose_bounds source slack) (events_of source)) (NamesEvents (events_of source)) (λ bound met. met.named) whole
-      (sources_moved source p.sound slack p.slack_is p.are.orders loosened p.are.sorted.same p.are.made))))
+      (sources_moved source p.sound slack p.slack_is p.are.orders old.records p.are.sorted.same p.are.made))))
 
-  pub made_robust : (records : List Difference) → AreMadeBehind events loosened (moved_bounds durations bounds) records → IsMadeRobust source slack loosened records
-  made_robust records made = record {
+  pub made_robust : (new : Loosening) → AreMadeBehind old (moved_bounds durations bounds) new → IsMadeRobust source slack old.records new.records
+  made_robust new made = record {
     are_robust = record {
-      loosened = loosened;
+      loosened = old.records;
       are_loosened = p.are;
       moved = made.0;
-      whole = made.1;
-      chosen = subst (λ n. AreKept (made_bounds n loosened) (moved_bounds (loose_durations slack source) (p.are.made.kept ++ horizon_bounds (events_of source))) made.0) p.same
-          (subst (λ l. AreKept (made_bounds events loosened) l made.0) sides made.2);
+      whole = ap (λ (m : Loosening). m.records) made.1;
+      chosen = subst (λ n. AreKept (horizon_bounds n ++ old.records) (moved_bounds (loose_durations slack source) (p.are.made.kept ++ horizon_bounds (events_of source))) made.0) p.same
+          (subst (λ l. AreKept (made_bounds old) l made.0) sides made.2);
     };
     behind = refl;
   }
 
-  pub made_promise : (records : List Difference) → HasSchedule (made_bounds events records) → AreMadeBehind events loosened (moved_bounds durations bounds) records → HasPromise source slack
-  made_promise records possible made =
-      let made_of = made_robust records made in
-      (records_promise source p.sound slack p.slack_is records made_of.are_robust).1 (subst (λ n. HasSchedule (made_bounds n records)) p.same possible)
+  pub made_promise : (new : Loosening) → HasSchedule (made_bounds new) → AreMadeBehind old (moved_bounds durations bounds) new → HasPromise source slack
+  made_promise new possible made =
+      (records_promise source p.sound slack p.slack_is new.records (made_robust new made).are_robust).1
+      (subst (λ n. HasSchedule (horizon_bounds n ++ new.records)) (ap (λ (m : Loosening). m.events) made.1 ∙ p.same) possible)
 
-  pub cause_after : (fault : LoosenFault) → IsCauseBehind events loosened (moved_bounds durations bounds) fault → IsCauseAfter source slack fault
+  pub cause_after : (fault : LoosenFault) → IsCauseBehind old (moved_bounds durations bounds) fault → IsCauseAfter source slack fault
   cause_after Full none = none
   cause_after NotRobust none = λ promise.
-      let s = moved_possible source p.sound slack p.slack_is p.are.orders loosened p.are.sorted.same p.are.made promise in
-      none (subst (λ n. HasSchedule (made_bounds n (loosened ++ moved_bounds durations bounds))) (sym p.same)
-      (subst (λ l. HasSchedule (bounds_with source (loosened ++ l))) (sym sides)
-      (subst (λ l. HasSchedule l) (append_assoc (horizon_bounds (events_of source)) loosened (moved_bounds (loose_durations slack source) (p.are.made.kept ++ horizon_bounds (events_of source)))) s)))
+      let s = moved_possible source p.sound slack p.slack_is p.are.orders old.records p.are.sorted.same p.are.made promise in
+      none (subst (λ n. HasSchedule (horizon_bounds n ++ (old.records ++ moved_bounds durations bounds))) (sym p.same)
+      (subst (λ l. HasSchedule (bounds_with source (old.records ++ l))) (sym sides)
+      (subst (λ l. HasSchedule l) (append_assoc (horizon_bounds (events_of source)) old.records (moved_bounds (loose_durations slack source) (p.are.made.kept ++ horizon_bounds (events_of source)))) s)))
   cause_after Memory none = tt
 
 pub sides_named : (durations : List Difference) → AreSteps 0 durations → (events : ℕ) (bounds : List Difference) → AllByRecursion (NamesEvents events) bounds
@@ -87,6 +87,6 @@ records_named source slack sound slack_is loosened records are behind before =
     (All-append (NamesEvents events) loosened are.moved before (All-from_recursion (NamesEvents events) are.moved moved))
 
 -- what two clauses say where there is a result
-pub on_both : {E : Type 0} (result : Result (Unit {0}) E) {P Q R : Type 0} → (P → Q → R) → OnOk result P → OnOk result Q → OnOk result R
-on_both (Ok done) both p q = both p q
+pub on_both : {T E : Type 0} (result : Result T E) {P Q : T → Type 0} {R : Type 0} → ((done : T) → P done → Q done → R) → IfOk result P → IfOk result Q → OnOk result R
+on_both (Ok done) both p q = both done p q
 on_both (Err fault) both p q = tt

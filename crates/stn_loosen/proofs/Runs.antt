@@ -1,7 +1,6 @@
 -- Runs of bounds each of whose schedules is a promise.
 use Rattle.std.{proofs.{Common.{◌≡◌, ◌≢◌, ℕ, ℤ, pos, ◌-ℤ◌, ◌≤ℤ◌, Bool, true, false, cond, eqb, find, List, [], ◌∷◌, ◌++◌, Option, Some, None, refl, sym, ap, subst, ◌∙◌, arith, All}, lemmas.{Bool.Decides.nat_tests, Int.ints, List.Elements.{All-from_recursion, recursion_from_All, All-contains}}}, specs.{Prelude.{◌↔◌, unwrap_or, Contains}, List.AllByRecursion}}
-use Rattle.stn_replica.proofs.Schedules.{schedule_before, schedule_with, met_behind}
-use Rattle.stn_net.specs.{Difference.Difference, Schedule.{Meets, IsSchedule, HasSchedule}, Windows.Window.IsInWindow}
+use Rattle.stn_net.{proofs.{Closure.schedule_before, Schedules.{schedule_with, met_behind}}, specs.{Difference.Difference, Schedule.{Meets, IsSchedule, HasSchedule}, Windows.Window.IsInWindow}}
 use Rattle.stn_loosen.{specs.{Promise.{still, setting_of, Keeps, Promises}, Run.{Execution, executed_bounds, MayCome, IsExecution}}, proofs.Settings.{keeps_itself, each_weaker}}
 
 -- each schedule of the bounds meets the durations, and is a promise

@@ -2,35 +2,34 @@
 use Rattle.std.proofs.{Common.{◌≡◌, ◌≢◌, inl, inr, ℕ, ◌+◌, ◌<◌, ◌≤◌, ℤ, pos, neg_ℤ, ◌+ℤ◌, ◌-ℤ◌, ◌≤ℤ◌, ◌<ℤ◌, Bool, true, false, eqb, ltb, Ordering, Less, Equal, Greater, List, [], ◌∷◌, ◌++◌, length, map, take, get_or, refl, sym, ap, subst, ◌∙◌, arith, append_assoc, append-nil, length-append, All}, lemmas.{Bool.Decides.nat_tests, Int.ints, List.{take_more, take_all, length-map, get_or_append_left, get_or_push, get_or-take, Elements.{All-nil, All-head, All-push}}}}
 use Rattle.std.specs.{Ordering.{int_cmp, MatchOrdering}, Cmp.int_ranks}
 use Rattle.stn_time.specs.Time.{horizon}
-use Rattle.stn_net.{specs.{Difference.{Difference, NamesEvents}, Horizon.horizon_bounds, Schedule.{Meets, IsSchedule, HasSchedule}}, proofs.Horizons.{length-horizon_bounds, known_within}}
+use Rattle.stn_net.{specs.{Difference.{Difference, NamesEvents}, Horizon.horizon_bounds, Schedule.{Meets, IsSchedule, HasSchedule}}, proofs.{Horizons.{length-horizon_bounds, known_within}, Closure.schedule_before, Schedules.met_behind}}
 use Rattle.stn_conflict.specs.{declared.links.{Link.Link, Side.{Side, TheVariants.{Upper, Lower}}}, Arcs.{Arc, arc, arc_of, bound_at, IsChain, weight_of, IsNegativeCycle}}
-use Rattle.stn_replica.proofs.Schedules.{schedule_before, met_behind}
-use Rattle.stn_loosen.{specs.{Starting.{IsStart, AreCrossed, ArePlaced, AreChosen, link_at}, Stepped.{IsHalfOpen, IsBoundOf}}, proofs.Sides.apart_within}
+use Rattle.stn_loosen.{specs.{Starting.{IsStart, AreCrossed, ArePlaced, AreChosen, link_moved}, Stepped.{IsHalfOpen, IsBoundOf}}, proofs.Sides.apart_within}
 
 -- ---- links at their places
 module _ (all bounds : List Difference) (places : List ℕ) (are : ArePlaced all bounds places) where
-  same_arc : (link : Link) → link.place < length bounds → arc_of all (link_at places link) ≡ arc_of bounds link
+  same_arc : (link : Link) → link.place < length bounds → arc_of all (link_moved places link) ≡ arc_of bounds link
   same_arc link there = ap (λ b. arc b link.side) (are link.place there).1
 
-  placed_chain : (links : List Link) (x y : ℕ) → IsChain bounds links x y → IsChain all (map (link_at places) links) x y
+  placed_chain : (links : List Link) (x y : ℕ) → IsChain bounds links x y → IsChain all (map (link_moved places) links) x y
   placed_chain [] x y chain = chain
   placed_chain (link ∷ links) x y (there, from, rest) =
       let same = same_arc link there in (
         (are link.place there).0,
         ap (λ (a : Arc). a.from) same ∙ from,
-        subst (λ (a : Arc). IsChain all (map (link_at places) links) a.to y) (sym same) (placed_chain links _ y rest),
+        subst (λ (a : Arc). IsChain all (map (link_moved places) links) a.to y) (sym same) (placed_chain links _ y rest),
       )
 
-  placed_weight : (links : List Link) (x y : ℕ) → IsChain bounds links x y → weight_of all (map (link_at places) links) ≡ weight_of bounds links
+  placed_weight : (links : List Link) (x y : ℕ) → IsChain bounds links x y → weight_of all (map (link_moved places) links) ≡ weight_of bounds links
   placed_weight [] x y chain = refl
   placed_weight (link ∷ links) x y (there, from, rest) =
-      ap (λ (a : Arc). a.weight +ℤ weight_of all (map (link_at places) links)) (same_arc link there) ∙ ap (λ w. (arc_of bounds link).weight +ℤ w) (placed_weight links _ y rest)
+      ap (λ (a : Arc). a.weight +ℤ weight_of all (map (link_moved places) links)) (same_arc link there) ∙ ap (λ w. (arc_of bounds link).weight +ℤ w) (placed_weight links _ y rest)
 
-  pub placed_cycle : (links : List Link) → IsNegativeCycle bounds links → IsNegativeCycle all (map (link_at places) links)
+  pub placed_cycle : (links : List Link) → IsNegativeCycle bounds links → IsNegativeCycle all (map (link_moved places) links)
   placed_cycle links cycle =
       let x = cycle.closed.0 in
       record {
-        some = omega (arith, length-map links (link_at places), cycle.some);
+        some = omega (arith, length-map links (link_moved places), cycle.some);
         closed = (x, placed_chain links x x cycle.closed.1);
         negative = subst (λ w. w <ℤ pos 0) (sym (placed_weight links x x cycle.closed.1)) cycle.negative;
       }
@@ -68,7 +67,7 @@ module _ (all : List Difference) (place : ℕ) (there : place < length all) wher
 -- ---- a bound that is left out
 module _ (events : ℕ) (others : List Difference) (bound : Difference) (start : IsStart events bound) (time : ℕ → ℤ) (schedule : IsSchedule (horizon_bounds events ++ others) time) where
   inside : (neg_ℤ horizon ≤ℤ (time bound.to -ℤ time bound.from)) × ((time bound.to -ℤ time bound.from) ≤ℤ horizon)
-  inside = apart_within events others bound start.named time schedule
+  inside = apart_within (record { events = events; records = others }) bound start.named time schedule
 
   -- it is a bound of the plan where its sides lie within the horizon; where one of them doesn't, the horizon's imply it
   pub left_out_met : (place : ℕ) → AreCrossed bound place [] → ¬ IsBoundOf events bound → Meets time bound

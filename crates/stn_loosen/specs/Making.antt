@@ -1,26 +1,40 @@
 -- For proofs alone: no public clause cites these words.
-use Rattle.std.specs.Prelude.{◌≡◌, ℕ, ℤ, ◌<◌, ◌≤◌, ◌-ℤ◌, ◌≤ℤ◌, neg_ℤ, ◌⊎◌, List, [], ◌∷◌, ◌++◌, length}
+use Rattle.std.specs.Prelude.{◌≡◌, ℕ, ℤ, ◌<◌, ◌≤◌, ◌-ℤ◌, ◌≤ℤ◌, neg_ℤ, List, ◌++◌, length}
 use Rattle.stn_net.specs.{Difference.Difference, Horizon.horizon_bounds, Schedule.IsSchedule, Matrix.{Table.{Table, far_of}, Tightest.IsExact}}
 use Rattle.stn_conflict.specs.Listing.{ListedBounds}
 use Rattle.stn_records.specs.Content.{most_known}
 use Rattle.stn_loosen.specs.{declared.fault.LoosenFault.{LoosenFault, TheVariants.{Full, NotRobust, Memory}}, Loosened.{Imply, AreKept}}
 
--- the horizon bounds of so many events, and then the bounds of records
-abbrev pub made_bounds : ℕ → List Difference → List Difference
-made_bounds events records = horizon_bounds events ++ records
+-- what was made so far over a bare plan with so many events: the bounds of its records
+pub record Loosening : Type 0 where
+  pub events : ℕ
+  pub records : List Difference
 
--- the table is exact for the horizon bounds of its events and the records
-abbrev pub AreTaken : List Difference → Table → Type 0
-AreTaken records table = IsExact (made_bounds table.events records) table
+-- the bounds of the bare plan, and then the records
+abbrev pub made_bounds : Loosening → List Difference
+made_bounds made = horizon_bounds made.events ++ made.records
+
+-- with more records after the others
+abbrev pub with_more : Loosening → List Difference → Loosening
+with_more made more = record made { records = made.records ++ more }
+
+-- records over a plan with the events of a table
+abbrev pub loosening_of : Table → List Difference → Loosening
+loosening_of table records = record { events = table.events; records = records }
+
+-- the table is exact for all bounds, and there are no more records than a site may know
+pub record AreTaken (records : List Difference) (table : Table) : Type 0 where
+  pub exact : IsExact (made_bounds (loosening_of table records)) table
+  pub few : length records ≤ most_known
 
 -- the differences in the table show that the bound is implied
 abbrev pub IsShown : Table → Difference → Type 0
 IsShown table bound = (far_of table bound.from bound.to ≤ℤ bound.hi) × (far_of table bound.to bound.from ≤ℤ neg_ℤ bound.lo)
 
--- the network has the horizon bounds and the records, and in none of their schedules are two events farther apart than the table says
+-- the network has all bounds, and in none of their schedules are two events farther apart than the table says
 pub record IsSearched (records : List Difference) (table : Table) (network : ListedBounds) : Type 0 where
-  pub whole : network ≡ record { events = table.events; bounds = made_bounds table.events records }
-  pub apart : (time : ℕ → ℤ) → IsSchedule (made_bounds table.events records) time → (x y : ℕ) → x ≤ table.events → y ≤ table.events
+  pub whole : network ≡ record { events = table.events; bounds = made_bounds (loosening_of table records) }
+  pub apart : (time : ℕ → ℤ) → IsSchedule (made_bounds (loosening_of table records)) time → (x y : ℕ) → x ≤ table.events → y ≤ table.events
       → (time y -ℤ time x) ≤ℤ far_of table x y
 
 -- why no more is made than so many records
@@ -29,27 +43,26 @@ IsCauseAt made Full = made ≡ most_known
 IsCauseAt made NotRobust = ⊥
 IsCauseAt made Memory = Unit {0}
 
--- what becomes of records at one more order: it is implied, and nothing is made, or it is made
-abbrev pub IsOneMore : ℕ → List Difference → Difference → List Difference → Type 0
-IsOneMore events old order new =
-    (Imply (made_bounds events old) order × (new ≡ old)) ⊎ (¬ Imply (made_bounds events old) order × (new ≡ old ++ order ∷ []))
+-- what was made of more bounds: those that were not implied by then
+abbrev pub AreMadeBehind : Loosening → List Difference → Loosening → Type 0
+AreMadeBehind old bounds new = (kept : List Difference) × (new ≡ with_more old kept) × AreKept (made_bounds old) bounds kept
 
--- why it can't be made: it is needed, and there are as many records as may be
-abbrev pub IsCauseOf : ℕ → List Difference → Difference → LoosenFault → Type 0
-IsCauseOf events old order Full = ¬ Imply (made_bounds events old) order × (length old ≡ most_known)
-IsCauseOf events old order NotRobust = ⊥
-IsCauseOf events old order Memory = Unit {0}
+-- why an order can't be made: it is needed, and there are as many records as may be
+abbrev pub IsCauseOf : Loosening → Difference → LoosenFault → Type 0
+IsCauseOf old order Full = ¬ Imply (made_bounds old) order × (length old.records ≡ most_known)
+IsCauseOf old order NotRobust = ⊥
+IsCauseOf old order Memory = Unit {0}
 
--- the orders kept of the first ones, and what was made before, are too many
-pub record AreTooManyWith (events : ℕ) (before orders : List Difference) : Type 0 where
+-- what is made of the first orders is too many records
+pub record AreTooManyWith (before : Loosening) (orders : List Difference) : Type 0 where
   pub first : List Difference
   pub others : List Difference
   pub parts : orders ≡ first ++ others
-  pub kept : List Difference
-  pub chosen : AreKept (made_bounds events before) first kept
-  pub many : most_known < length (before ++ kept)
+  pub made : Loosening
+  pub behind : AreMadeBehind before first made
+  pub many : most_known < length made.records
 
-abbrev pub IsCauseWith : ℕ → List Difference → List Difference → LoosenFault → Type 0
-IsCauseWith events before orders Full = AreTooManyWith events before orders
-IsCauseWith events before orders NotRobust = ⊥
-IsCauseWith events before orders Memory = Unit {0}
+abbrev pub IsCauseWith : Loosening → List Difference → LoosenFault → Type 0
+IsCauseWith before orders Full = AreTooManyWith before orders
+IsCauseWith before orders NotRobust = ⊥
+IsCauseWith before orders Memory = Unit {0}

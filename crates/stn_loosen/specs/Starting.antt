@@ -30,5 +30,5 @@ pub record AreChosen (events : ℕ) (all : List Difference) (count : ℕ) (chose
   pub met : (time : ℕ → ℤ) → IsSchedule (horizon_bounds events ++ chosen) time → All (Meets time) (take count all)
 
 -- a link at the place that its own place stands for
-abbrev pub link_at : List ℕ → Link → Link
-link_at places link = record link { place = slice_index places link.place }
+abbrev pub link_moved : List ℕ → Link → Link
+link_moved places link = record link { place = slice_index places link.place }

@@ -1,8 +1,8 @@
 -- For proofs alone: no public clause cites these words.
-use Rattle.std.specs.Prelude.{◌≡◌, ◌⊎◌, ℕ, ◌+◌, ◌*◌, pos, neg_ℤ, ◌≤ℤ◌, ◌++◌, List, [], ◌∷◌}
+use Rattle.std.specs.Prelude.{◌≡◌, ◌⊎◌, ℕ, ◌+◌, ◌*◌, pos, neg_ℤ, ◌≤ℤ◌, List, [], ◌∷◌}
 use Rattle.stn_time.specs.Time.{horizon, IsWithinHorizon}
 use Rattle.stn_net.specs.{Difference.{Difference, IsBoundWithin}, Schedule.HasSchedule}
-use Rattle.stn_loosen.specs.{declared.{span.Span.Span, fault.LoosenFault.{LoosenFault, TheVariants.{Full, NotRobust, Memory}}}, Loosened.AreKept, Making.made_bounds}
+use Rattle.stn_loosen.specs.{declared.{span.Span.Span, fault.LoosenFault.{LoosenFault, TheVariants.{Full, NotRobust, Memory}}}, Making.{Loosening, made_bounds, with_more}}
 
 -- the durations of steps one after the other, after so many others
 abbrev pub AreSteps : ℕ → List Difference → Type 0
@@ -30,15 +30,11 @@ pub record IsBoundOf (events : ℕ) (bound : Difference) : Type 0 where
   pub lo : IsWithinHorizon bound.lo
   pub hi : IsWithinHorizon bound.hi
 
--- what was made of the sides of moved bounds: those that were not implied
-abbrev pub AreMadeBehind : ℕ → List Difference → List Difference → List Difference → Type 0
-AreMadeBehind events old sides new = (kept : List Difference) × (new ≡ old ++ kept) × AreKept (made_bounds events old) sides kept
-
 -- why the sides can't be made: with them there is no schedule
-abbrev pub IsCauseBehind : ℕ → List Difference → List Difference → LoosenFault → Type 0
-IsCauseBehind events old sides Full = ⊥
-IsCauseBehind events old sides NotRobust = ¬ HasSchedule (made_bounds events (old ++ sides))
-IsCauseBehind events old sides Memory = Unit {0}
+abbrev pub IsCauseBehind : Loosening → List Difference → LoosenFault → Type 0
+IsCauseBehind old sides Full = ⊥
+IsCauseBehind old sides NotRobust = ¬ HasSchedule (made_bounds (with_more old sides))
+IsCauseBehind old sides Memory = Unit {0}
 
 -- why no more is asked of these bounds
 abbrev pub IsCauseIn : List Difference → LoosenFault → Type 0

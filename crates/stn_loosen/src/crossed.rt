@@ -3,7 +3,7 @@
 ghost use Rattle.std.specs.Prelude.{◌≡◌, ◌<◌, ◌≤◌, ℕ, length, map, take, All, IfOk, MatchOption, slice_index};
 ghost use Rattle.stn_net.specs.{Event.most_events, Horizon.horizon_bounds, Schedule.HasSchedule};
 ghost use Rattle.stn_conflict.specs.Arcs.{IsNegativeCycle};
-ghost use Rattle.stn_loosen.specs.{Starting.{IsStart, AreCrossed, link_at}, Stepped.as_bound};
+ghost use Rattle.stn_loosen.specs.{Starting.{IsStart, AreCrossed, link_moved}, Stepped.as_bound};
 
 use crate::span::Span;
 use std::alloc::Allocator;
@@ -86,7 +86,7 @@ fn placed<A: Allocator + Copy>(
     links: &[Link],
 ) -> Result<Vec<Link, A>, Memory>
     requires { All (λ link. link.place < length places.now) links.now }
-    ensures { IfOk result (λ all. all.items ≡ map (link_at places.now) links.now) }
+    ensures { IfOk result (λ all. all.items ≡ map (link_moved places.now) links.now) }
 {
     let mut all = Vec::new(alloc);
     for link in links {

@@ -12,7 +12,7 @@ use crate::starts::{loose_bounds, loose_durations, starts_of};
 use crate::tolerance::Tolerance;
 use std::alloc::Allocator;
 use stn_conflict::{Link, Side};
-use stn_lift::Base;
+use stn_lift::{Base, step_of};
 use stn_net::{Bound, Event};
 use stn_site::BoundName;
 use stn_text::append_decimal;
@@ -134,7 +134,7 @@ fn mover(durations: &[Bound], event: Event) -> Option<u16>
     if setting_of(durations, event).from.number() == event.number() {
         None
     } else {
-        Some((event.number() + 1) / 2)
+        Some(step_of(event))
     }
 }
 

@@ -2,7 +2,7 @@ ghost use Rattle.std.specs.Prelude.{◌≡◌, ℕ, ℤ, ◌≤◌, length, All,
 ghost use Rattle.stn_net.specs.{Difference.NamesEvents, Schedule.IsSchedule};
 ghost use Rattle.stn_lift.specs.{BaseBounds.KeepsOrder, PlanSource.{base_bounds, events_of, planned_of, interfere_in_plan, IsSoundSource}};
 ghost use Rattle.stn_records.specs.Content.{most_known};
-ghost use Rattle.stn_loosen.specs.{Loosened.{orders_of, bounds_with, Imply, AreLoosened}, Faults.IsCause, Making.AreTaken};
+ghost use Rattle.stn_loosen.specs.{Loosened.{orders_of, bounds_with, Imply, AreLoosened}, Faults.IsCause};
 
 use crate::fault::LoosenFault;
 use crate::making::Making;
@@ -36,7 +36,7 @@ pub fn loosened<A: Allocator + Copy>(
     ensures ordered { IfOk result (λ records. KeepsOrder (events_of base.now) (interfere_in_plan base.now) (planned_of base.now) (bounds_with base.now records.items)) }
     ensures fault { IfErr result (IsCause base.now tolerance) }
 {
-    Ok(make_loosened(alloc, base, tolerance)?.records)
+    Ok(make_loosened(alloc, base, tolerance)?.into_records())
 }
 
 // The same, with the matrix of their bounds.
@@ -46,10 +46,8 @@ pub(crate) fn make_loosened<A: Allocator + Copy>(
     tolerance: Tolerance,
 ) -> Result<Making<A>, LoosenFault>
     ensures sound { IfOk result (λ making. IsSoundSource base.now) }
-    ensures records { IfOk result (λ making. AreLoosened base.now tolerance making.records.items) }
-    ensures few { IfOk result (λ making. length making.records.items ≤ most_known) }
-    ensures taken { IfOk result (λ making. AreTaken making.records.items making.matrix) }
-    ensures events { IfOk result (λ making. making.matrix.events ≡ events_of base.now) }
+    ensures records { IfOk result (λ making. AreLoosened base.now tolerance making.records) }
+    ensures events { IfOk result (λ making. making.events ≡ events_of base.now) }
     ensures fault { IfErr result (IsCause base.now tolerance) }
 {
     let mut making = Making::new(alloc, base.events())?;

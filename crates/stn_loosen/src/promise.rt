@@ -2,10 +2,10 @@ ghost use Rattle.std.specs.Prelude.{◌≡◌, ◌≤◌, ℕ, ℤ, length, All,
 ghost use Rattle.stn_net.specs.{Difference.NamesEvents, Schedule.IsSchedule, Horizon.horizon_bounds};
 ghost use Rattle.stn_lift.specs.PlanSource.{events_of, IsSoundSource};
 ghost use Rattle.stn_records.specs.Content.{most_known};
-ghost use Rattle.stn_loosen.specs.{Loosened.{bounds_with, loose_durations, AreLoosened}, Promise.Promises, Robust.{loose_bounds, HasPromise, AreRobust}, Faults.IsRobustCause, Making.AreTaken, Whole.{IsMadeRobust, IsCauseAfter}};
+ghost use Rattle.stn_loosen.specs.{Loosened.{bounds_with, loose_durations, AreLoosened}, Promise.Promises, Robust.{loose_bounds, HasPromise, AreRobust}, Faults.IsRobustCause, Whole.{IsMadeRobust, IsCauseAfter}};
 
 use crate::fault::LoosenFault;
-use crate::making::Making;
+use crate::making::{Making, Moving};
 use crate::parts::{durations_of, horizon_of};
 use crate::plan::make_loosened;
 use crate::tolerance::Tolerance;
@@ -41,32 +41,35 @@ pub fn robust<A: Allocator + Copy>(
         → IsSchedule (loose_bounds base.now tolerance) time) }
     ensures fault { IfErr result (IsRobustCause base.now tolerance) }
 {
-    let mut making = make_loosened(alloc, base, tolerance)?;
-    make_robust(alloc, base, tolerance, &mut making)?;
-    if making.records.len() > MOST_KNOWN {
+    let making = make_loosened(alloc, base, tolerance)?;
+    let records = make_robust(alloc, base, tolerance, making)?;
+    if records.len() > MOST_KNOWN {
         return Err(LoosenFault::Full);
     }
-    Ok(making.records)
+    Ok(records)
 }
 
-// Makes the bounds on starts after the records of the loosened plan, however many there are.
+// The records of the loosened plan, and then the bounds on starts, however many there are.
 fn make_robust<A: Allocator + Copy>(
     alloc: A,
     base: &Base<A>,
     tolerance: Tolerance,
-    making: &mut Making<A>,
-) -> Result<(), LoosenFault>
+    making: Making<A>,
+) -> Result<Vec<Bound, A>, LoosenFault>
     requires sound { IsSoundSource base.now }
-    requires loosened { AreLoosened base.now tolerance making.old.records.items }
-    requires taken { AreTaken making.old.records.items making.old.matrix }
-    requires events { making.old.matrix.events ≡ events_of base.now }
-    ensures made { OnOk result (IsMadeRobust base.now tolerance making.old.records.items making.new.records.items) }
+    requires loosened { AreLoosened base.now tolerance making.records }
+    requires events { making.events ≡ events_of base.now }
+    ensures made { IfOk result (λ records. IsMadeRobust base.now tolerance making.records records.items) }
+    ensures named { IfOk result (λ records. All (NamesEvents (events_of base.now)) records.items) }
     ensures possible { OnOk result (HasPromise base.now tolerance) }
+    ensures few { length making.records ≤ most_known }
     ensures fault { IfErr result (IsCauseAfter base.now tolerance) }
 {
     let steps = durations_of(base).len();
-    let durations = Vec::from_slice(alloc, &making.records[..steps])?;
-    let mut bounds = Vec::from_slice(alloc, &making.records[steps..])?;
+    let loosened = making.records();
+    let durations = Vec::from_slice(alloc, &loosened[..steps])?;
+    let mut bounds = Vec::from_slice(alloc, &loosened[steps..])?;
     bounds.extend_from_slice(horizon_of(base))?;
-    making.make_moved(alloc, horizon_of(base), &durations, &bounds)
+    let moving = Moving::after(alloc, making, horizon_of(base))?;
+    moving.with_moved(&durations, &bounds)
 }

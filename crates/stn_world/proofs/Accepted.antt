@@ -79,12 +79,6 @@ pub merge_free : (world : World) (site other : ℕ) → HasSite world site → H
     → IsAccepted world (merged site other)
 merge_free world site other there other_there apart free = merge_refusal world site other there other_there apart ∙ ap (option_map of_replica_fault) free
 
-pub merge_fault : (world : World) (site other : ℕ) (fault : ReplicaFault) → HasSite world site → HasSite world other → site ≢ other
-    → fault ≡ unwrap_or (take_refusal (held_at world site) (content_at world other)) replica_fault.Memory
-    → of_replica_fault fault ≡ unwrap_or (step_refusal world (merged site other)) Memory
-merge_fault world site other fault there other_there apart is =
-    refused_by (take_refusal (held_at world site) (content_at world other)) fault is ∙ ap (λ o. unwrap_or o Memory) (sym (merge_refusal world site other there other_there apart))
-
 -- the other site is not there
 pub other_missing : (world : World) (site other : ℕ) (fault : WorldFault) → HasSite world site → fault ≡ NoSite → ¬ HasSite world other
     → fault ≡ unwrap_or (step_refusal world (merged site other)) Memory

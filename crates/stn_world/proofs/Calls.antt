@@ -4,7 +4,7 @@ use Rattle.stn_lift.specs.PlanSource.{PlanSource}
 use Rattle.stn_records.specs.{Id.SiteCounter, Content.{Content, plain}}
 use Rattle.stn_site.specs.{Held.{Held, executed}, declared.{faults.ReplicaFault.ReplicaFault, change.Change.{Change, TheVariants.{Add, Amend, Withdraw, Done}}}, Change.{change_call, change_id, change_refusal}, Refusals.take_refusal, Calls.{Accepted, added, amended, withdrew, took, Leaves, LeavesState}}
 use Rattle.stn_site.specs.declared.faults.ReplicaFault.TheVariants as replica_fault
-use Rattle.stn_world.{specs.{declared.faults.WorldFault.{WorldFault, TheVariants.Memory}, Faults.of_replica_fault, Sites.world_of, Whole.{IsCoherent, IsSoundWorld}, World.{World, most_packets, HasSite, HasPacket, content_at, packet_at, held_at, next_id_at, content_after, with_call, send}, Steps.{Step, changed, sent, delivered, missing, step_refusal, IsAccepted, after, IsStep, send_refusal, IsSending, IsDeliveryFault}}, proofs.{Accepted.{at_site, refused_by, delivery_refusal}, Merges.delivery_agrees, Sendings.send_free, Whole.coherent_after, Sites.{IsHeldAt, held_is, held_there, take_refusal_at, join_is_joined, world_set, sites_set}}}
+use Rattle.stn_world.{specs.{declared.faults.WorldFault.{WorldFault, TheVariants.Memory}, Faults.of_replica_fault, Sites.world_of, Whole.{IsCoherent, IsSoundWorld}, World.{World, most_packets, HasSite, content_at, held_at, next_id_at, content_after, with_call, send}, Steps.{Step, changed, sent, missing, step_refusal, IsAccepted, after, IsStep, send_refusal, IsSending}}, proofs.{Accepted.{at_site, refused_by}, Sendings.send_free, Whole.coherent_after, Sites.{IsHeldAt, held_is, held_there, take_refusal_at, join_is_joined, world_set, sites_set}}}
 
 -- what a replica answers to a call that one thing refuses, what it becomes, and the same as the world's answer
 pub record IsAnswer {T : Type 0} (one : Held) (refusal : Option ReplicaFault) (accepted : T → Accepted) (Given : T → Type 0) (answer : Result T ReplicaFault) (new : Held) (result : Result T WorldFault) : Type 0 where
@@ -104,22 +104,24 @@ module _ {world : World} {source : PlanSource} {replicas : List Held} {packets :
       (refused_as (change_refusal one asked) _ (ap (λ (h : Held). change_refusal h asked) (held_is world site one held) ∙ refused_idle (held_at world site) one.steps asked))
       (λ id given. ap (with_call world site) (call_given asked id (next_id_at world site) given))
 
-  module _ (number : ℕ) (theirs : Content) (there : HasPacket world number) (holds : theirs ≡ packet_at world number) where
-    refusal_there : take_refusal one theirs ≡ take_refusal (held_at world site) (packet_at world number)
-    refusal_there = take_refusal_at world site one theirs (packet_at world number) held holds
+  -- a step that takes in what another site or a packet holds
+  module _ (step : Step) (theirs other : Content) (holds : theirs ≡ other) (refused : step_refusal world step ≡ option_map of_replica_fault (take_refusal (held_at world site) other)) where
+    refusal_there : take_refusal one theirs ≡ take_refusal (held_at world site) other
+    refusal_there = take_refusal_at world site one theirs other held holds
 
-    pub deliver_taken : {T : Type 0} (answer : Result T ReplicaFault) (new : Held) (result : Result T WorldFault) → IsAnswer one (take_refusal one theirs) (λ _. took theirs) (λ _. ⊤) answer new result
-        → IsTaken world source (set replicas place new) packets (delivered site number) (λ _. ⊤) result
-    deliver_taken =
-        step_taken (delivered site number) (λ _. ⊤) (take_refusal one theirs) (λ _. took theirs) (delivery_refusal world site number placed.there there ∙ ap (option_map of_replica_fault) (sym refusal_there))
-        (λ _ _. ap (λ (c : Content). with_call world site (took c)) holds)
+    pub take_taken : {T : Type 0} → with_call world site (took other) ≡ after world step → (answer : Result T ReplicaFault) (new : Held) (result : Result T WorldFault)
+        → IsAnswer one (take_refusal one theirs) (λ _. took theirs) (λ _. ⊤) answer new result → IsTaken world source (set replicas place new) packets step (λ _. ⊤) result
+    take_taken left =
+        step_taken step (λ _. ⊤) (take_refusal one theirs) (λ _. took theirs) (refused ∙ ap (option_map of_replica_fault) (sym refusal_there))
+        (λ _ _. ap (λ (c : Content). with_call world site (took c)) holds ∙ left)
 
-    pub deliver_agreed : {T : Type 0} (answer : Result T ReplicaFault) (new : Held) (result : Result T WorldFault) → IsAnswer one (take_refusal one theirs) (λ _. took theirs) (λ _. ⊤) answer new result
-        → IfErr result IsDeliveryFault
-    deliver_agreed (Ok x) new result is = rw is.same tt
-    deliver_agreed (Err fault) new result is =
+    -- its fault is of a kind where each such fault is, in a coherent world
+    pub take_agreed : {T : Type 0} (P : WorldFault → Type 0) → ((fault : ReplicaFault) → IsCoherent world → fault ≡ unwrap_or (take_refusal (held_at world site) other) replica_fault.Memory → P (of_replica_fault fault))
+        → (answer : Result T ReplicaFault) (new : Held) (result : Result T WorldFault) → IsAnswer one (take_refusal one theirs) (λ _. took theirs) (λ _. ⊤) answer new result → IfErr result P
+    take_agreed P agrees (Ok x) new result is = rw is.same tt
+    take_agreed P agrees (Err fault) new result is =
         let p = err_from_is_err_and result is.same in
-        rw (p.1, p.2) (delivery_agrees world site number fault (subst IsCoherent placed.is placed.sound.coherent) (is.fault ∙ ap (λ o. unwrap_or o replica_fault.Memory) refusal_there))
+        rw (p.1, p.2) (agrees fault (subst IsCoherent placed.is placed.sound.coherent) (is.fault ∙ ap (λ o. unwrap_or o replica_fault.Memory) refusal_there))
 
 -- a packet that a site sends where there is room for it
 module _ {world : World} {source : PlanSource} {replicas : List Held} {packets : List Content} {place site : ℕ} {one : Held} (placed : IsPlaced world source replicas packets place site one) (room : length world.packets < most_packets)

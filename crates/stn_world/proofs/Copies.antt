@@ -1,9 +1,9 @@
 -- The copies of a world's sites, each seen as what it holds.
-use Rattle.std.{proofs.{Common.{◌≡◌, ℕ, ◌-◌, List, ◌++◌, length, map, set, get_or, take, drop, ap, sym, ◌∙◌, subst}, lemmas.List.{map-set, map-append, length-map}, Math.ListN.get_or-map}, specs.{List.{take-map, drop-map}, Prelude.Result}}
+use Rattle.std.{proofs.{Common.{◌≡◌, ◌≢◌, ℕ, zero, suc, ◌+◌, ◌-◌, ◌<◌, List, [], ◌∷◌, length, map, set, get_or, ⊎_elim, refl, ap, sym, ◌∙◌, subst, arith}, lemmas.{Bool.cases_lt, List.{map-set, Edits.{get_or-remove_below, get_or-remove_above}}}, Math.ListN.get_or-map}, specs.{List.{insert, remove}, Prelude.Result}}
 use Rattle.stn_lift.specs.PlanSource.{PlanSource}
 use Rattle.stn_records.specs.Content.{Content}
-use Rattle.stn_site.specs.{Held.Held, Calls.{took, Leaves}}
-use Rattle.stn_world.{specs.{declared.faults.WorldFault.WorldFault, Sites.world_of, Whole.{IsCoherent, IsSoundWorld, held_in}, World.{World, HasSite, merge}, Steps.Step}, proofs.{Sites.IsHeldAt, Calls.{IsPlaced, IsTaken, world_stayed}, Pair.{merged_there, sound_merged, sound_kept, world_kept}}}
+use Rattle.stn_site.specs.Held.{Held}
+use Rattle.stn_world.{specs.{declared.faults.WorldFault.WorldFault, Sites.world_of, Whole.IsSoundWorld, World.{World, HasSite}, Steps.Step}, proofs.Calls.{IsPlaced, IsTaken, world_stayed}}
 
 module _ {C : Type 0} (held : C → Held) where
   -- ---- a copy at a place
@@ -26,55 +26,18 @@ module _ {C : Type 0} (held : C → Held) where
   stayed {source = source} {packets = packets} {place = place} copies one new at same =
       ap (λ (l : List Held). world_of source l packets) (map-set held copies place new) ∙ world_stayed at (held new) (ap held same)
 
-  -- ---- the copies in two parts, of which one has changed
-  pub parts : (all front back : List C) → all ≡ front ++ back → map held all ≡ map held front ++ map held back
-  parts all front back is = ap (map held) is ∙ map-append held front back
+  -- ---- a copy that is taken out, and put back
+  pub put_back : (copies : List C) (place : ℕ) (new : C) → place < length copies → insert (remove copies place) place new ≡ set copies place new
+  put_back [] place new there = absurd (omega arith)
+  put_back (one ∷ copies) zero new there = refl
+  put_back (one ∷ copies) (suc place) new there = ap (λ rest. one ∷ rest) (put_back copies place new (omega arith))
 
-  pub set_front : (front back : List C) (i : ℕ) (next : C) → map held (set front i next ++ back) ≡ set (map held front) i (held next) ++ map held back
-  set_front front back i next = map-append held (set front i next) back ∙ ap (λ (l : List Held). l ++ map held back) (map-set held front i next)
-
-  pub set_back : (front back : List C) (next : C) → map held (front ++ set back 0 next) ≡ map held front ++ set (map held back) 0 (held next)
-  set_back front back next = map-append held front (set back 0 next) ∙ ap (λ (l : List Held). map held front ++ l) (map-set held back 0 next)
-
-  -- ---- the copies after a borrowed slice that was given back
-  pub again : (copies new : List C) (len : ℕ) → map held (take len (new ++ drop (length new) copies)) ≡ take len (map held new ++ drop (length (map held new)) (map held copies))
-  again copies new len =
-      sym (take-map held len (new ++ drop (length new) copies))
-      ∙ ap (take len) (map-append held new (drop (length new) copies)
-      ∙ ap (λ (l : List Held). map held new ++ l) (sym (drop-map held (length new) copies) ∙ ap (λ (n : ℕ). drop n (map held copies)) (sym (length-map new held))))
-
-  long_again : (borrowed : List C) (len : ℕ) → length borrowed ≡ len → length (map held borrowed) ≡ len
-  long_again borrowed len long = length-map borrowed held ∙ long
-
-  pub merged : {packets : List Content} (world : World) (source : PlanSource) (copies borrowed new : List C) (ours theirs site other len : ℕ)
-      → world_of source (map held copies) packets ≡ world → borrowed ≡ copies → length borrowed ≡ len → ours ≡ site - 1
-      → IsHeldAt world site (held_in (map held borrowed) ours) → IsHeldAt world other (held_in (map held borrowed) theirs)
-      → Leaves (held_in (map held borrowed) ours) (took (held_in (map held borrowed) theirs).state) (held_in (map held new) ours)
-      → map held new ≡ set (map held borrowed) ours (held_in (map held new) ours)
-      → world_of source (map held (take len (new ++ drop (length new) copies))) packets ≡ merge world site other
-  merged {packets = packets} world source copies borrowed new ours theirs site other len is same long at mine yours left ch =
-      ap (λ (l : List Held). world_of source l packets) (again copies new len)
-      ∙ merged_there world source (map held copies) (map held borrowed) (map held new) ours theirs site other len is (ap (map held) same) (long_again borrowed len long) at mine yours left ch
-
-  pub sound_after : {packets : List Content} (next : World) (source : PlanSource) (copies borrowed new : List C) (ours len : ℕ) (theirs : Content)
-      → IsSoundWorld source (map held copies) packets → borrowed ≡ copies → length borrowed ≡ len
-      → Leaves (held_in (map held borrowed) ours) (took theirs) (held_in (map held new) ours) → map held new ≡ set (map held borrowed) ours (held_in (map held new) ours)
-      → world_of source (map held (take len (new ++ drop (length new) copies))) packets ≡ next → IsCoherent next
-      → IsSoundWorld source (map held (take len (new ++ drop (length new) copies))) packets
-  sound_after {packets = packets} next source copies borrowed new ours len theirs sound same long left ch made coherent =
-      let is = again copies new len in
-      subst (λ (l : List Held). IsSoundWorld source l packets) (sym is)
-      (sound_merged next source (map held copies) (map held borrowed) (map held new) ours len theirs sound (ap (map held) same) (long_again borrowed len long) left ch
-      (ap (λ (l : List Held). world_of source l packets) (sym is) ∙ made) coherent)
-
-  pub sound_still : {packets : List Content} (source : PlanSource) (copies borrowed new : List C) (len : ℕ) → IsSoundWorld source (map held copies) packets → borrowed ≡ copies → length borrowed ≡ len
-      → map held new ≡ map held borrowed → IsSoundWorld source (map held (take len (new ++ drop (length new) copies))) packets
-  sound_still {packets = packets} source copies borrowed new len sound same long kept =
-      subst (λ (l : List Held). IsSoundWorld source l packets) (sym (again copies new len))
-      (sound_kept source (map held copies) (map held borrowed) (map held new) len sound (ap (map held) same) (long_again borrowed len long) kept)
-
-  pub world_still : {packets : List Content} (world : World) (source : PlanSource) (copies borrowed new : List C) (len : ℕ) → world_of source (map held copies) packets ≡ world → borrowed ≡ copies → length borrowed ≡ len
-      → map held new ≡ map held borrowed → world_of source (map held (take len (new ++ drop (length new) copies))) packets ≡ world
-  world_still {packets = packets} world source copies borrowed new len is same long kept =
-      ap (λ (l : List Held). world_of source l packets) (again copies new len)
-      ∙ world_kept world source (map held copies) (map held borrowed) (map held new) len is (ap (map held) same) (long_again borrowed len long) kept
+  pub beside : (copies : List C) (out place at : ℕ) (one : C) → out < length copies → place ≢ out → (place < out → at ≡ place) → (out < place → at + 1 ≡ place)
+      → one ≡ get_or (remove copies out) at one → one ≡ get_or copies place one
+  beside copies out place at one there apart before after is =
+      is ∙ ⊎_elim
+      (λ less. ap (λ k. get_or (remove copies out) k one) (before less) ∙ get_or-remove_below copies out one place less there)
+      (λ past.
+      let more : out < place = omega (arith, past, apart) in
+      get_or-remove_above copies out one at (omega (arith, after more, more)) there ∙ ap (λ k. get_or copies k one) (after more))
+      (cases_lt place out)

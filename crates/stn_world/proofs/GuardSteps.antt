@@ -1,10 +1,9 @@
 -- A guard that a site of a world adds.
 use Rattle.std.proofs.{Common.{◌≡◌, inl, ℕ, ◌-◌, ◌≤◌, List, [], ◌∷◌, ◌++◌, map, take, refl, sym, ap, subst, ◌∙◌, All}, lemmas.List.{length-set, take-append-le, Elements.{All-append, All-weaker}}}
 use Rattle.stn_net.specs.{Difference.{Difference, NamesEvents, IsBoundWithin}, Horizon.horizon_bounds}
-use Rattle.stn_lift.specs.PlanSource.{PlanSource, base_bounds, events_of, IsSoundSource}
+use Rattle.stn_lift.{specs.PlanSource.{PlanSource, base_bounds, events_of, IsSoundSource}, proofs.PlanHorizon.horizon_within}
 use Rattle.stn_records.specs.{Id.SiteCounter, Content.{with_record, plain}}
 use Rattle.stn_site.specs.{Bounds.{live_bounds, all_bounds}, Held.{Held, next_id}, Calls.{AllLeave, added as added_call}}
-use Rattle.stn_replica.proofs.Opening.{horizon_within}
 use Rattle.stn_guard.{specs.{declared.owners.OwnedSteps.OwnedSteps, Guard.Guards, Adding.{owner_by, AddsGuard}}, proofs.{Made.made_guard, Put.added_guards}}
 use Rattle.stn_world.{specs.{World.{World, HasSite, content_at, held_at, next_id_at, with_call}, Steps.{Step, stepped, run}, Whole.IsCoherent, Guarded.{adds_bound, AllAccepted, HoldsAlone, HoldsGuarded}}, proofs.Whole.{content_here, site_bounds}}
 

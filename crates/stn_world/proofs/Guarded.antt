@@ -4,8 +4,7 @@ use Rattle.stn_time.proofs.Each.{All-left, All-right}
 use Rattle.stn_net.specs.{Difference.Difference, Schedule.{HasSchedule, Meets}, Windows.Rehearsal.fixed_at}
 use Rattle.stn_lift.specs.PlanSource.{base_bounds}
 use Rattle.stn_records.{specs.{Id.SiteCounter, declared.record.Record.Record, Content.{Content, Item, addition, withdrawal, replacement, HasItem, IsPart, is_replaced, is_live, plain, with_record, joined_contents}}, proofs.{Counters.next_is_new, Replaced.{replaced_cases, replaced_by_withdrawal, replaced_by_entry, replaced_fewer}}}
-use Rattle.stn_site.{specs.{Bounds.{live_bounds, all_bounds}, Held.executed, Calls.added, declared.change.Change.TheVariants.{Add, Amend, Withdraw, Done}}, proofs.Items.addition_items}
-use Rattle.stn_replica.proofs.Live.{live_from_bounds, bounds_from_live, All-passing, All-filter_passing}
+use Rattle.stn_site.{specs.{Bounds.{live_bounds, all_bounds}, Held.executed, Calls.added, declared.change.Change.TheVariants.{Add, Amend, Withdraw, Done}}, proofs.{Items.addition_items, Live.{live_from_bounds, bounds_from_live, All-passing, All-filter_passing}}}
 use Rattle.stn_guard.{specs.Owners.{is_owned, own_bounds}, proofs.{Owned.all_of_pieces, Gluing.glue}}
 use Rattle.stn_world.{specs.{World.{World, HasSite, has_site, content_at, packet_at, next_id_at, with_content, with_call, send}, Steps.{Step, changed, merged, sent, delivered, IsAccepted, after, stepped, run}, Whole.IsCoherent, Guarded.{IsOwnItem, IsBesideOwn, HoldsGuarded, KeepsToOwn}}, proofs.{Accepted.{site_decides, accepted_change, accepted_sending}, Parts.sent_inside, Runs.{for_step, coherent_stepped}, Whole.{each_site, each_packet, kept, taken_items}}}
 

@@ -4,7 +4,6 @@ pub mod Bounds
 pub mod Whole
 pub mod Sites
 pub mod Calls
-pub mod Pair
 pub mod Copies
 pub mod Merges
 pub mod Sendings

@@ -1,9 +1,9 @@
 -- What a merge and a delivery can be refused for.
-use Rattle.std.{proofs.Common.{◌≡◌, ℕ, Bool, true, false, ltb, ap, sym, subst, ◌∙◌}, specs.{Prelude.unwrap_or, Bool.then_some}}
-use Rattle.stn_records.specs.Content.{Content, most_known, known_in_either, IsPart}
+use Rattle.std.{proofs.{Common.{◌≡◌, ◌≢◌, ℕ, ◌-◌, ◌≤◌, Bool, true, false, List, ltb, ap, sym, subst, ◌∙◌, arith}, lemmas.List.set-get_or}, specs.{Prelude.unwrap_or, Bool.then_some}}
+use Rattle.stn_records.specs.Content.{Content, no_content, most_known, known_in_either, IsPart}
 use Rattle.stn_site.{specs.{Held.Held, declared.faults.ReplicaFault.ReplicaFault, Refusals.take_refusal}, proofs.Refused.agreed_take}
 use Rattle.stn_site.specs.declared.faults.ReplicaFault.TheVariants as replica_fault
-use Rattle.stn_world.{specs.{declared.faults.WorldFault.WorldFault, Faults.of_replica_fault, World.{World, held_at, content_at, packet_at}, Steps.{IsMergeFault, IsDeliveryFault}, Whole.{IsWhole, IsCoherent}}, proofs.Whole.{part_named, parts_agree}}
+use Rattle.stn_world.{specs.{declared.faults.WorldFault.WorldFault, Faults.of_replica_fault, World.{World, HasSite, held_at, content_at, packet_at, with_content, merge}, Steps.{IsMergeFault, IsDeliveryFault}, Whole.{IsWhole, IsCoherent}}, proofs.{Sites.joined_itself, Whole.{part_named, parts_agree}}}
 
 -- a site that agrees with what it takes refuses it for its size or for lack of memory alone
 agreed_fault : (P : WorldFault → Type 0) → P (of_replica_fault replica_fault.Full) → P (of_replica_fault replica_fault.Memory) → (held : Held) (theirs : Content) (fault : ReplicaFault)
@@ -35,3 +35,20 @@ pub delivery_agrees : (world : World) (site number : ℕ) (fault : ReplicaFault)
 delivery_agrees world site number fault coherent =
     agreed_fault IsDeliveryFault tt tt (held_at world site) (packet_at world number) fault
     (take_agrees world coherent.0 coherent.1 site (packet_at world number) (coherent.1.packets number))
+
+-- ---- two places
+same_site : (ours theirs site other : ℕ) → ours ≡ theirs → ours ≡ site - 1 → theirs ≡ other - 1 → 1 ≤ site → 1 ≤ other → site ≡ other
+same_site ours theirs site other same a b least other_least = omega arith
+
+-- a site that merges itself
+pub one_site : (world : World) (ours theirs site other : ℕ) → ours ≡ theirs → ours ≡ site - 1 → theirs ≡ other - 1 → HasSite world site → HasSite world other → site ≡ other
+one_site world ours theirs site other same a b there other_there = same_site ours theirs site other same a b there.least other_there.least
+
+pub other_site : (ours theirs site other : ℕ) → ours ≡ site - 1 → theirs ≡ other - 1 → ours ≢ theirs → site ≢ other
+other_site ours theirs site other a b apart same = apart (a ∙ (ap (λ n. n - 1) same ∙ sym b))
+
+pub merged_itself : (world : World) (site other : ℕ) → site ≡ other → world ≡ merge world site other
+merged_itself world site other one =
+    let itself : merge world site site ≡ world =
+    ap (with_content world site) (joined_itself (content_at world site)) ∙ ap (λ (l : List Content). record world { sites = l }) (set-get_or world.sites (site - 1) no_content) in
+    sym itself ∙ ap (merge world site) one

@@ -2,11 +2,10 @@
 use Rattle.std.proofs.{Common.{◌≡◌, ◌≢◌, ◌↔◌, ◌⊎◌, inl, inr, ⊎_elim, ℕ, zero, suc, ◌-◌, Bool, true, false, not, ◌||◌, is_some, Option, Some, None, List, [], ◌∷◌, ◌++◌, set, get_or, All, refl, ap, sym, subst, ◌∙◌, arith}, lemmas.{Bool.{false≢true, or_cases}, List.get_or-set_same}}
 use Rattle.std.specs.Prelude.{⊤}
 use Rattle.std.specs.FinMap as fin
-use Rattle.stn_site.{proofs.{Flags.get_or-replicate_same, Items.{nothing_there, addition_items, amendment_items, withdrawal_brought}, Refused.{accepted_known, amended_known}}, specs.{Bounds.{RecordsName, live_bounds}, Held.executed, Calls.{Accepted, added, amended, withdrew, took, Brought}, Change.{change_call, change_refusal}, declared.change.Change.{Change, TheVariants.{Add, Amend, Withdraw, Done}}}}
+use Rattle.stn_site.{proofs.{Flags.get_or-replicate_same, Items.{nothing_there, addition_items, amendment_items, withdrawal_brought}, Refused.{accepted_known, amended_known}, Live.bounds_from_live}, specs.{Bounds.{RecordsName, live_bounds}, Held.executed, Calls.{Accepted, added, amended, withdrew, took, Brought}, Change.{change_call, change_refusal}, declared.change.Change.{Change, TheVariants.{Add, Amend, Withdraw, Done}}}}
 use Rattle.stn_net.specs.Difference.{Difference, NamesEvents, IsBoundWithin}
 use Rattle.stn_lift.specs.PlanSource.{PlanSource, events_of}
 use Rattle.stn_records.{specs.{Id.SiteCounter, declared.record.Record.Record, Content.{Content, Item, addition, withdrawal, replacement, HasItem, is_known, is_replaced, no_content, plain, with_tombstone, dispute_contents, joined_contents, IsPart, IsAmendment, AllAmend, AllProper}, ContentLaws.{ids_total, ids_exact, contents_join, contents_dispute, contents_undisputed}}, proofs.{Replaced.replaced_cases, Counters.next_is_new, Gets.entries_from_get}}
-use Rattle.stn_replica.proofs.Live.{bounds_from_live}
 use Rattle.stn_world.{specs.{World.{World, HasSite, opening_world, content_at, packet_at, held_at, next_id_at, with_content, content_after, with_call, send}, Steps.{Step, changed, merged, sent, delivered, after, IsAccepted}, Whole.{IsWhole, IsCoherent}, Runs.IsRecordOf}, proofs.{Parts.{sent_inside, sent_amends}, Accepted.{accepted_change, accepted_merge, accepted_delivery, accepted_sending}, Bounds.{accepted_bound, executed_bound, amended_bound}}}
 
 -- a place of a list that was set has the new element, or what it had

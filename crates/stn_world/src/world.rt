@@ -1,7 +1,7 @@
-ghost use Rattle.std.specs.{Prelude.{◌≡◌, ◌≢◌, ◌+◌, true, ◌-◌, ◌<◌, ◌≤◌, None, unwrap_or, length, map, slice_set, MatchOption, IfSome, IsOk, IfOk, IfErr, OnOk, OnErr}, FinMap.contains_key, Rc.rc_value};
+ghost use Rattle.std.specs.{Prelude.{◌≡◌, ◌≢◌, ◌+◌, true, ◌-◌, ◌<◌, ◌≤◌, length, map, MatchOption, IfSome, IsOk, IfOk, IfErr, OnOk, OnErr}, FinMap.contains_key, Rc.rc_value};
 ghost use Rattle.stn_records.specs.{Id.{most_sites, IsSite}, Content.{no_content, part_of, IsPart}};
-ghost use Rattle.stn_site.specs.{Held.difference, Calls.{took, Leaves}, Change.{change_id, IsAgain}, Refusals.take_refusal, declared.change.Change.TheVariants.{Add, Amend, Withdraw, Done}};
-ghost use Rattle.stn_world.specs.{declared.faults.WorldFault.TheVariants.{NoSite, TooManyPackets, NoPacket, Memory}, Faults.IsOpeningFault, Parts.holds_all, Whole.held_in, Steps.{changed, merged, sent, delivered, IsStep, IsMergeFault, IsSending, send_refusal, IsDeliveryFault}, World.{most_packets, HasSite, HasPacket, opening_world, content_at, packet_at, next_id_at}};
+ghost use Rattle.stn_site.specs.{Held.difference, Change.{change_id, IsAgain}, declared.change.Change.TheVariants.{Add, Amend, Withdraw, Done}};
+ghost use Rattle.stn_world.specs.{declared.faults.WorldFault.TheVariants.{NoSite, TooManyPackets, NoPacket, Memory}, Faults.IsOpeningFault, Parts.holds_all, Steps.{changed, merged, sent, delivered, IsStep, IsMergeFault, IsSending, send_refusal, IsDeliveryFault}, World.{most_packets, HasSite, HasPacket, opening_world, content_at, packet_at, next_id_at}};
 
 use crate::faults::WorldFault;
 use std::alloc::Allocator;
@@ -11,7 +11,7 @@ use stn_lift::Base;
 use stn_net::Event;
 use stn_records::{Id, MOST_SITES, Records, Site};
 use stn_replica::Replica;
-use stn_site::{AskedBound, Change, ReplicaFault, SiteCopy, SitePlan};
+use stn_site::{AskedBound, Change, SiteCopy, SitePlan};
 use stn_time::Ms;
 
 /// The greatest number of a packet.
@@ -226,10 +226,15 @@ impl<A: Allocator + Copy, C: SiteCopy<A>> World<A, C> {
     {
         let ours = self.place_of(site)?;
         let theirs = self.place_of(other)?;
-        if ours != theirs {
-            take_from(&mut self.copies, ours, theirs)?;
+        if ours == theirs {
+            return Ok(());
         }
-        Ok(())
+        // The copy that takes is out of the list meanwhile, which keeps room for it: to put it back asks for no memory.
+        let mut copy = self.copies.remove(ours);
+        let from = &self.copies[place_without(ours, theirs)];
+        let outcome = copy.take(from.plan().records());
+        let _back = self.copies.insert(ours, copy);
+        outcome.map_err(WorldFault::from)
     }
 
     /// Sends all that a site holds, as a new packet, whose number is returned: 1 for the first. A packet
@@ -346,30 +351,11 @@ fn first_of(sites: u8) -> Result<Site, WorldFault>
     }
 }
 
-// One of the copies takes in all that another holds.
-fn take_from<A: Allocator + Copy, C: SiteCopy<A>>(
-    copies: &mut [C],
-    ours: usize,
-    theirs: usize,
-) -> Result<(), ReplicaFault>
-    requires ours { ours < length copies.old }
-    requires theirs { theirs < length copies.old }
-    requires apart { ours ≢ theirs }
-    ensures set { OnOk result (map C.held copies.new ≡ slice_set (map C.held copies.old) ours (held_in (map C.held copies.new) ours)) }
-    ensures leaves { OnOk result (Leaves (held_in (map C.held copies.old) ours) (took (held_in (map C.held copies.old) theirs).state)
-        (held_in (map C.held copies.new) ours)) }
-    ensures accepted { OnOk result (take_refusal (held_in (map C.held copies.old) ours) (held_in (map C.held copies.old) theirs).state ≡ None) }
-    ensures fault { IfErr result (λ fault. fault ≡ unwrap_or (take_refusal (held_in (map C.held copies.old) ours)
-        (held_in (map C.held copies.old) theirs).state) ReplicaFault.Memory) }
-    ensures again { IsPart (held_in (map C.held copies.old) theirs).state (held_in (map C.held copies.old) ours).state
-        → IsOk result × (map C.held copies.new ≡ map C.held copies.old) }
-    ensures kept { OnErr result (map C.held copies.new ≡ map C.held copies.old) }
+// The place of one of several things where another is taken out.
+fn place_without(out: usize, place: usize) -> usize
+    requires { place ≢ out }
+    ensures before { place < out → result ≡ place }
+    ensures after { out < place → result + 1 ≡ place }
 {
-    if ours < theirs {
-        let (front, back) = copies.split_at_mut(theirs);
-        front[ours].take(back[0].plan().records())
-    } else {
-        let (front, back) = copies.split_at_mut(ours);
-        back[0].take(front[theirs].plan().records())
-    }
+    if place < out { place } else { place - 1 }
 }

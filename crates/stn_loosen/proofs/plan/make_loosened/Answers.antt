@@ -1,12 +1,11 @@
-use Rattle.std.proofs.{Common.{◌≡◌, ◌∙◌, arith, rules}, lemmas.{List.length-map, Result.err_from_is_err_and}}
+use Rattle.std.proofs.{Common.{◌≡◌, ap, ◌∙◌, arith, rules}, lemmas.Result.err_from_is_err_and}
 use Rattle.stn_lift.specs.PlanSource.{events_of}
-use Rattle.stn_loosen.{specs.{Slack.IsSlack, Loosened.loose_durations}, proofs.{Lasting.durations_last, Looser.durations_named, Whole.{durations_fit, durations_possible, orders_possible, all_named, made_of, cause_of}, plan.make_loosened.{Given.Over, Goals.In_ok-orders}}}
+use Rattle.stn_loosen.{specs.{Slack.IsSlack, Loosened.loose_durations, Making.{Loosening, with_more}}, proofs.{Lasting.durations_last, Looser.durations_named, Whole.{durations_fit, durations_possible, orders_possible, all_named, made_of, cause_of}, plan.make_loosened.{Given.Over, Goals.In_ok-orders}}}
 use Rattle.stn_loosen.proofs.plan.make_loosened.Goals as goal
 
 pub make_durations-requires-clause-named : goal.make_durations-requires-clause-named
 make_durations-requires-clause-named g c =
-    let same = c.in_ok-making.ensures.events ∙ c.events.ensures.value in
-    rw (same, c.durations_of.ensures.value) (durations_named c.args.base.now c.durations_of.ensures.sound)
+    rw (c.in_ok-making.ensures, c.events.ensures.value, c.durations_of.ensures.value) (durations_named c.args.base.now c.durations_of.ensures.sound)
 
 pub make_durations-requires-clause-lasting : goal.make_durations-requires-clause-lasting
 make_durations-requires-clause-lasting g c = rw c.durations_of.ensures.value (durations_last c.args.base.now)
@@ -14,62 +13,46 @@ make_durations-requires-clause-lasting g c = rw c.durations_of.ensures.value (du
 pub make_durations-requires-clause-possible : goal.make_durations-requires-clause-possible
 make_durations-requires-clause-possible g c =
     let slack : IsSlack c.args.tolerance = search rules in
-    let same = c.in_ok-making.ensures.events ∙ c.events.ensures.value in
-    rw (same, c.in_ok-making.ensures.none, c.durations_of.ensures.value) (durations_possible c.args.base.now c.durations_of.ensures.sound c.args.tolerance slack)
+    rw (c.in_ok-making.ensures, c.events.ensures.value, c.durations_of.ensures.value) (durations_possible c.args.base.now c.durations_of.ensures.sound c.args.tolerance slack)
 
 pub make_durations-requires-clause-few : goal.make_durations-requires-clause-few
 make_durations-requires-clause-few g c =
     let slack : IsSlack c.args.tolerance = search rules in
     let fit = durations_fit c.args.base.now c.durations_of.ensures.sound c.args.tolerance slack in
-    rw (c.in_ok-making.ensures.none, c.durations_of.ensures.value) (omega (arith, fit))
+    rw (c.in_ok-making.ensures, c.durations_of.ensures.value) (omega (arith, fit))
 
 -- the orders are made behind the durations
-begun : (g : Over) (c : In_ok-orders g) → (c.make_durations.new.self.matrix.events ≡ events_of c.args.base.now)
-    × (c.make_durations.new.self.records.items ≡ loose_durations c.args.tolerance c.args.base.now)
-begun g c = (
-  c.make_durations.ensures.events ∙ c.in_ok-making.ensures.events ∙ c.events.ensures.value,
-  rw (c.in_ok-making.ensures.none, c.durations_of.ensures.value) at c.in_ok-make_durations.ensures.made,
-)
+begun : (g : Over) (c : In_ok-orders g) → c.make_durations.new.self ≡ record { events = events_of c.args.base.now; records = loose_durations c.args.tolerance c.args.base.now }
+begun g c = rw (c.in_ok-making.ensures, c.events.ensures.value, c.durations_of.ensures.value) at c.in_ok-make_durations.ensures.made
 
 pub make_orders-requires-clause-named : goal.make_orders-requires-clause-named
 make_orders-requires-clause-named g c =
     let slack : IsSlack c.args.tolerance = search rules in
-    let is = begun g (goal.at.make_orders-requires-clause-named g c).In_ok-orders in
-    rw (is.0, c.deref.ensures.value) (all_named c.args.base.now c.durations_of.ensures.sound c.args.tolerance slack c.in_ok-orders.orders.items c.in_ok-orders.ensures.same)
+    rw (begun g (goal.at.make_orders-requires-clause-named g c).In_ok-orders, c.deref.ensures.value)
+    (all_named c.args.base.now c.durations_of.ensures.sound c.args.tolerance slack c.in_ok-orders.orders.items c.in_ok-orders.ensures.same)
 
 pub make_orders-requires-clause-possible : goal.make_orders-requires-clause-possible
 make_orders-requires-clause-possible g c =
     let slack : IsSlack c.args.tolerance = search rules in
-    let is = begun g (goal.at.make_orders-requires-clause-possible g c).In_ok-orders in
-    rw (is.0, is.1, c.deref.ensures.value) (orders_possible c.args.base.now c.durations_of.ensures.sound c.args.tolerance slack c.in_ok-orders.orders.items c.in_ok-orders.ensures.same)
-
-pub make_orders-requires-clause-few : goal.make_orders-requires-clause-few
-make_orders-requires-clause-few g c =
-    let slack : IsSlack c.args.tolerance = search rules in
-    let is = begun g (goal.at.make_orders-requires-clause-few g c).In_ok-orders in
-    rw (is.1, length-map) (durations_fit c.args.base.now c.durations_of.ensures.sound c.args.tolerance slack)
+    rw (begun g (goal.at.make_orders-requires-clause-possible g c).In_ok-orders, c.deref.ensures.value)
+    (orders_possible c.args.base.now c.durations_of.ensures.sound c.args.tolerance slack c.in_ok-orders.orders.items c.in_ok-orders.ensures.same)
 
 pub returns-in_err-make_orders : goal.returns-in_err-make_orders
 returns-in_err-make_orders g c =
-    let is = begun g (goal.at.returns-in_err-make_orders g c).In_ok-orders in
     let fault = rw c.deref.ensures.value at c.in_err-make_orders.ensures.fault in
-    let cause = cause_of c.args.base.now c.args.tolerance c.in_ok-orders.orders.items c.make_durations.new.self.matrix.events c.make_durations.new.self.records.items is.0 is.1
-    c.in_ok-orders.ensures c.in_err-make_orders.field-0.0 fault in
+    let cause = cause_of c.args.base.now c.args.tolerance c.make_durations.new.self (begun g (goal.at.returns-in_err-make_orders g c).In_ok-orders) c.in_ok-orders.orders.items c.in_ok-orders.ensures
+    c.in_err-make_orders.field-0.0 fault in
     let p = err_from_is_err_and c.from_residual-in_err-make_orders.result c.from_residual-in_err-make_orders.ensures.1 in
-    rw (p.1, p.2) (record { sound = tt; records = tt; few = tt; taken = tt; events = tt; fault = cause })
+    rw (p.1, p.2) (record { sound = tt; records = tt; events = tt; fault = cause })
 
 pub returns : goal.returns
 returns g c =
-    let base = c.args.base.now in
     let is = begun g (goal.at.returns g c).In_ok-orders in
     let orders = c.in_ok-orders.orders.items in
     let kept = rw c.deref.ensures.value at c.in_ok-make_orders.ensures.made in
-    let made = made_of base c.args.tolerance orders c.make_durations.new.self.matrix.events c.make_durations.new.self.records.items is.0 is.1 c.make_orders.new.self.records.items kept in
     record {
       sound = c.durations_of.ensures.sound;
-      records = record { orders = orders; sorted = c.in_ok-orders.ensures; made = made };
-      few = c.in_ok-make_orders.ensures.few;
-      taken = c.in_ok-make_orders.ensures.taken;
-      events = c.make_orders.ensures.events ∙ is.0;
+      records = record { orders = orders; sorted = c.in_ok-orders.ensures; made = made_of c.args.base.now c.args.tolerance c.make_durations.new.self is orders c.make_orders.new.self kept };
+      events = ap (λ (made : Loosening). made.events) (kept.1 ∙ ap (λ made. with_more made kept.0) is);
       fault = tt;
     }

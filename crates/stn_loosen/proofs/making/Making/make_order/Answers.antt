@@ -1,30 +1,25 @@
-use Rattle.std.proofs.{Common.{ℕ, List, length, inl, inr, refl, sym, ◌∙◌, subst}, lemmas.{Bool.false≢true, Result.{on_ok_weaker, IfErr-weaker}}}
+use Rattle.std.proofs.{Common.{length, [], inl, inr, refl, sym, ◌∙◌, subst}, lemmas.{Bool.false≢true, Result.{on_ok_weaker, IfErr-weaker}}}
 use Rattle.stn_net.specs.Difference.{Difference}
-use Rattle.stn_loosen.{specs.{declared.fault.LoosenFault.{LoosenFault, TheVariants.{Full, NotRobust, Memory}}, Loosened.Imply, Making.{made_bounds, IsShown, IsCauseAt, IsCauseOf}}, proofs.Implied.shown_taken}
+use Rattle.stn_loosen.{specs.{declared.fault.LoosenFault.{LoosenFault, TheVariants.{Full, NotRobust, Memory}}, Loosened.Imply, Making.{Loosening, made_bounds, IsCauseAt, IsCauseOf}}, proofs.Made.nothing_more}
 use Rattle.stn_loosen.proofs.making.Making.make_order.Goals as goal
 
 -- an order that is needed, and can't be made
-needed : (events : ℕ) (old : List Difference) (order : Difference) → (Imply (made_bounds events old) order → ⊥) → (fault : LoosenFault) → IsCauseAt (length old) fault → IsCauseOf events old order fault
-needed events old order new Full full = (new, full)
-needed events old order new NotRobust none = none
-needed events old order new Memory none = tt
+needed : (old : Loosening) (order : Difference) → (Imply (made_bounds old) order → ⊥) → (fault : LoosenFault) → IsCauseAt (length old.records) fault → IsCauseOf old order fault
+needed old order new Full full = (new, full)
+needed old order new NotRobust none = none
+needed old order new Memory none = tt
 
-pub returns-then-shows-clause-made : goal.returns-then-shows-clause-made
-returns-then-shows-clause-made g c =
+pub returns-then-implies-clause-made : goal.returns-then-implies-clause-made
+returns-then-implies-clause-made g c =
     let old = c.args.self.now in
-    let shown : IsShown old.matrix c.args.order = subst (IsShown old.matrix) c.of.ensures.value (c.shows.ensures.0 c.if-shows.true) in
-    inl ((shown_taken old.records.items old.matrix c.args.order c.requires.taken c.requires.named).0 shown, refl)
+    ([], nothing_more old, inl (subst (Imply (made_bounds old)) c.of.ensures.value (c.implies.ensures.0 c.if-implies.true), refl))
 
 pub returns : goal.returns
 returns g c =
     let old = c.args.self.now in
-    let new : Imply (made_bounds old.matrix.events old.records.items) c.args.order → ⊥ = λ implied.
-    let shown : IsShown old.matrix c.args.order = (shown_taken old.records.items old.matrix c.args.order c.requires.taken c.requires.named).1 implied in
-    false≢true (sym c.if-shows.false ∙ c.shows.ensures.1 (subst (IsShown old.matrix) (sym c.of.ensures.value) shown)) in
+    let new : Imply (made_bounds old) c.args.order → ⊥ =
+    λ implied. false≢true (sym c.if-implies.false ∙ c.implies.ensures.1 (subst (Imply (made_bounds old)) (sym c.of.ensures.value) implied)) in
     record {
-      made = on_ok_weaker c.make.result (λ made. inr (new, made)) c.make.ensures.made;
-      taken = c.make.ensures.taken;
-      few = c.make.ensures.few;
-      events = c.make.ensures.events;
-      fault = IfErr-weaker c.make.result (IsCauseAt (length old.records.items)) _ (needed old.matrix.events old.records.items c.args.order new) c.make.ensures.fault;
+      made = on_ok_weaker c.make.result (λ made. (_, made, inr (new, ([], refl, refl)))) c.make.ensures.made;
+      fault = IfErr-weaker c.make.result (IsCauseAt (length old.records)) _ (needed old c.args.order new) c.make.ensures.fault;
     }

@@ -1,6 +1,6 @@
-use Rattle.std.{proofs.{Common.{◌≡◌, Result, Ok, Err, set, ◌∙◌, map, ap}, lemmas.Result.on_err_weaker}, specs.{Prelude.{⊤, IfOk}, Rc.rc_value}}
+use Rattle.std.{proofs.{Common.{◌≡◌, Result, Ok, Err, refl, set, ◌∙◌, map, ap}, lemmas.Result.on_err_weaker}, specs.{Prelude.{⊤, IfOk}, Rc.rc_value}}
 use Rattle.stn_site.specs.{Calls.took, Refusals.take_refusal}
-use Rattle.stn_world.{specs.{Steps.delivered, World.packet_at}, proofs.{Sites.{part_there, packet_there}, Calls.{IsPlaced, IsAnswer, IsTaken, held, deliver_taken, deliver_agreed}, world.World.deliver.Given.Over}}
+use Rattle.stn_world.{specs.{Steps.{delivered, IsDeliveryFault}, World.packet_at}, proofs.{Accepted.delivery_refusal, Merges.delivery_agrees, Sites.{part_there, packet_there}, Calls.{IsPlaced, IsAnswer, IsTaken, held, take_taken, take_agreed}, world.World.deliver.Given.Over}}
 use Rattle.stn_world.proofs.Copies as copy
 use Rattle.stn_world.proofs.world.World.deliver.Goals as goal
 
@@ -20,7 +20,8 @@ answer g c = record { free = c.take.ensures.accepted; leaves = c.take.ensures.le
 taken : (g : Over) (c : goal.After-map_err g)
     → IsTaken c.args.self.now (rc_value c.self.inside.base) (map g.C.SiteCopy.held (set c.self.inside.copies.items c.in_ok-place.place c.take.new.self)) c.self.inside.packets.items (delivered c.args.site c.args.packet) (λ _. ⊤) c.map_err.result
 taken g c =
-    copy.taken g.C.SiteCopy.held c.self.inside.copies.items c.in_ok-place.place c.take.new.self (deliver_taken (placed g c) c.args.packet c.index.result.now c.in_ok-from.ensures.there (packet g c) c.take.result (g.C.SiteCopy.held c.take.new.self) c.map_err.result (answer g c))
+    copy.taken g.C.SiteCopy.held c.self.inside.copies.items c.in_ok-place.place c.take.new.self (take_taken (placed g c) (delivered c.args.site c.args.packet) c.index.result.now (packet_at c.args.self.now c.args.packet) (packet g c)
+    (delivery_refusal c.args.self.now c.args.site c.args.packet c.in_ok-place.ensures.there c.in_ok-from.ensures.there) refl c.take.result (g.C.SiteCopy.held c.take.new.self) c.map_err.result (answer g c))
 
 pub invariant_of-self : goal.invariant_of-self
 invariant_of-self g c = (taken g c).sound
@@ -32,5 +33,7 @@ returns g c =
       again = λ there sent inside.
           let same = c.take.ensures.again (part_there c.args.self.now c.args.site (g.C.SiteCopy.held c.index_mut.result.now) c.index.result.now (packet_at c.args.self.now c.args.packet) (held (placed g c)) (packet g c) inside) in
           (c.map_err.ensures.variant ∙ same.0, copy.stayed g.C.SiteCopy.held c.self.inside.copies.items c.index_mut.result.now c.take.new.self (placed g c) same.1);
-      agreed = deliver_agreed (placed g c) c.args.packet c.index.result.now c.in_ok-from.ensures.there (packet g c) c.take.result (g.C.SiteCopy.held c.take.new.self) c.map_err.result (answer g c);
+      agreed = take_agreed (placed g c) (delivered c.args.site c.args.packet) c.index.result.now (packet_at c.args.self.now c.args.packet) (packet g c)
+          (delivery_refusal c.args.self.now c.args.site c.args.packet c.in_ok-place.ensures.there c.in_ok-from.ensures.there) IsDeliveryFault (delivery_agrees c.args.self.now c.args.site c.args.packet) c.take.result
+          (g.C.SiteCopy.held c.take.new.self) c.map_err.result (answer g c);
     }

@@ -1,19 +1,8 @@
-use Rattle.std.{proofs.{Common.{◌≡◌, ◌<◌, length, map, refl, sym, ap, subst, ◌∙◌, arith}, lemmas.{List.length-map, Bool.false≢true, Result.err_from_is_err_and}}, specs.Prelude.unwrap_or}
-use Rattle.stn_site.specs.Refusals.{take_refusal}
-use Rattle.stn_site.specs.declared.faults.ReplicaFault.TheVariants as replica_fault
-use Rattle.stn_world.{specs.{Steps.{merged, IsAccepted, IsMergeFault}, World.{HasSite, held_at, content_at}, Whole.IsCoherent}, proofs.{Accepted.{site_missing, merge_free, merge_itself, merge_fault, other_missing}, Sites.{place_within, part_there, take_refusal_at}, Whole.coherent_after, Merges.merge_agrees, world.World.merge.Goals.{then-ours-theirs+in_ok-take_from, else-ours-theirs}, Pair.{held_at_site, merged_itself, one_site, other_site}}}
+use Rattle.std.{proofs.{Common.{◌≡◌, ◌<◌, get_or, Result, Ok, Err, set, length, map, refl, sym, ap, subst, ◌∙◌, arith}, lemmas.{List.length-map, Result.{err_from_is_err_and, on_err_weaker}}}, specs.{Prelude.{⊤, IfOk, IsOk, if◌then◌else◌, option_map}, List.insert, Rc.rc_value}}
+use Rattle.stn_site.specs.{Calls.took, Refusals.take_refusal}
+use Rattle.stn_world.{specs.{Steps.{step_refusal, merged, IsMergeFault}, Faults.of_replica_fault, World.{HasSite, held_at, content_at}}, proofs.{Accepted.{site_missing, merge_itself, merge_refusal, other_missing}, Sites.{place_within, part_there, held_there}, Calls.{IsPlaced, IsAnswer, IsTaken, held, take_taken, take_agreed}, Merges.{one_site, other_site, merged_itself, merge_agrees}, world.World.merge.{Given.Over, Goals.After-map_err}}}
 use Rattle.stn_world.proofs.Copies as copy
 use Rattle.stn_world.proofs.world.World.merge.Goals as goal
-
-pub take_from-requires : goal.take_from-requires
-take_from-requires g c =
-    let within : c.in_ok-ours.ours < length c.self.inside.copies.items = omega (arith, place_within c.args.self.now _ (map g.C.SiteCopy.held c.self.inside.copies.items) c.in_ok-ours.ours c.self.view_is c.in_ok-ours.ensures.within, length-map c.self.inside.copies.items g.C.SiteCopy.held) in
-    let also : c.in_ok-theirs.theirs < length c.self.inside.copies.items = omega (arith, place_within c.args.self.now _ (map g.C.SiteCopy.held c.self.inside.copies.items) c.in_ok-theirs.theirs c.self.view_is c.in_ok-theirs.ensures.within, length-map c.self.inside.copies.items g.C.SiteCopy.held) in
-    record {
-      ours = subst (λ l. c.in_ok-ours.ours < length l) (sym c.deref_mut.ensures.value) within;
-      theirs = subst (λ l. c.in_ok-theirs.theirs < length l) (sym c.deref_mut.ensures.value) also;
-      apart = c.if-ours-theirs.true;
-    }
 
 pub returns-in_err-ours : goal.returns-in_err-ours
 returns-in_err-ours g c =
@@ -37,73 +26,85 @@ returns-in_err-theirs g c =
       agreed = subst IsMergeFault (sym c.in_err-theirs.ensures.missing) tt;
     })
 
+pub returns-then-ours-theirs : goal.returns-then-ours-theirs
+returns-then-ours-theirs g c =
+    let one = one_site c.args.self.now c.in_ok-ours.ours c.in_ok-theirs.theirs c.args.site c.args.other c.if-ours-theirs.true c.in_ok-ours.ensures.place c.in_ok-theirs.ensures.place c.in_ok-ours.ensures.there c.in_ok-theirs.ensures.there in
+    record {
+      step = (merge_itself c.args.self.now c.args.site c.args.other c.in_ok-ours.ensures.there c.in_ok-theirs.ensures.there one, merged_itself c.args.self.now c.args.site c.args.other one);
+      itself = λ there same. refl;
+      again = λ there others inside. (refl, refl);
+      agreed = tt;
+    }
+
+ours_within : (g : Over) (c : After-map_err g) → c.in_ok-ours.ours < length c.self.inside.copies.items
+ours_within g c =
+    omega (arith, place_within c.args.self.now _ (map g.C.SiteCopy.held c.self.inside.copies.items) c.in_ok-ours.ours c.self.view_is c.in_ok-ours.ensures.within, length-map c.self.inside.copies.items g.C.SiteCopy.held)
+
+-- the copies with the one that took put back
+back : (g : Over) (c : After-map_err g) → c.insert-back.new.self.items ≡ set c.self.inside.copies.items c.in_ok-ours.ours c.take-outcome.new.self
+back g c =
+    let copies = c.self.inside.copies in
+    let beside = c.remove-copy.new.self in
+    let there : IsOk c.insert-back.result = c.insert-back.ensures.succeeds (omega (arith, copies.ok.1, c.remove-copy.ensures.len, c.remove-copy.ensures.capacity)) in
+    c.insert-back.ensures.items
+    ∙ ap (λ full. if full then insert beside.items c.in_ok-ours.ours c.take-outcome.new.self else beside.items) there
+    ∙ ap (λ l. insert l c.in_ok-ours.ours c.take-outcome.new.self) c.remove-copy.ensures.items
+    ∙ copy.put_back g.C.SiteCopy.held copies.items c.in_ok-ours.ours c.take-outcome.new.self (ours_within g c)
+
+placed : (g : Over) (c : After-map_err g) → IsPlaced c.args.self.now (rc_value c.self.inside.base) (map g.C.SiteCopy.held c.self.inside.copies.items) c.self.inside.packets.items c.in_ok-ours.ours c.args.site (g.C.SiteCopy.held c.remove-copy.result)
+placed g c = copy.placed g.C.SiteCopy.held c.self.inside.copies.items c.remove-copy.result c.self.view_is c.self.invariant c.in_ok-ours.ensures.place c.in_ok-ours.ensures.there c.remove-copy.ensures.value
+
+-- what the other site holds
+theirs : (g : Over) (c : After-map_err g) → c.records.result.now ≡ content_at c.args.self.now c.args.other
+theirs g c =
+    let one = c.index-from.result.now in
+    let copies = c.self.inside.copies.items in
+    let same = copy.beside g.C.SiteCopy.held copies c.in_ok-ours.ours c.in_ok-theirs.theirs c.place_without.result one (ours_within g c) (λ same. c.if-ours-theirs.false (sym same))
+    c.place_without.ensures.before c.place_without.ensures.after (subst (λ l. one ≡ get_or l c.place_without.result one) c.remove-copy.ensures.items c.index-from.ensures) in
+    c.records.ensures.value ∙ c.plan.ensures.state
+    ∙ (held_there c.args.self.now (rc_value c.self.inside.base) (map g.C.SiteCopy.held copies) c.in_ok-theirs.theirs c.args.other (g.C.SiteCopy.held one) c.self.view_is c.self.invariant.sites
+    c.in_ok-theirs.ensures.place c.in_ok-theirs.ensures.there (copy.got g.C.SiteCopy.held copies c.in_ok-theirs.theirs one same)).state
+
+given : {T E : Type 0} (r : Result T E) → IfOk r (λ _. ⊤)
+given (Ok x) = tt
+given (Err e) = tt
+
+answer : (g : Over) (c : After-map_err g) → IsAnswer (g.C.SiteCopy.held c.remove-copy.result) (take_refusal (g.C.SiteCopy.held c.remove-copy.result) c.records.result.now) (λ _. took c.records.result.now) (λ _. ⊤) c.take-outcome.result (g.C.SiteCopy.held c.take-outcome.new.self) c.map_err.result
+answer g c = record {
+  free = c.take-outcome.ensures.accepted;
+  leaves = c.take-outcome.ensures.leaves;
+  given = given c.take-outcome.result;
+  fault = c.take-outcome.ensures.fault;
+  kept = on_err_weaker c.take-outcome.result (λ same. ap g.C.SiteCopy.held same) c.take-outcome.ensures.kept;
+  same = c.map_err.ensures.cases;
+}
+
+refused : (g : Over) (c : After-map_err g) → step_refusal c.args.self.now (merged c.args.site c.args.other) ≡ option_map of_replica_fault (take_refusal (held_at c.args.self.now c.args.site) (content_at c.args.self.now c.args.other))
+refused g c =
+    merge_refusal c.args.self.now c.args.site c.args.other c.in_ok-ours.ensures.there c.in_ok-theirs.ensures.there
+    (other_site c.in_ok-ours.ours c.in_ok-theirs.theirs c.args.site c.args.other c.in_ok-ours.ensures.place c.in_ok-theirs.ensures.place c.if-ours-theirs.false)
+
+taken : (g : Over) (c : After-map_err g) → IsTaken c.args.self.now (rc_value c.self.inside.base) (map g.C.SiteCopy.held c.insert-back.new.self.items) c.self.inside.packets.items (merged c.args.site c.args.other) (λ _. ⊤) c.map_err.result
+taken g c =
+    rw (back g c) (copy.taken g.C.SiteCopy.held c.self.inside.copies.items c.in_ok-ours.ours c.take-outcome.new.self
+    (take_taken (placed g c) (merged c.args.site c.args.other) c.records.result.now (content_at c.args.self.now c.args.other) (theirs g c) (refused g c) refl c.take-outcome.result (g.C.SiteCopy.held c.take-outcome.new.self) c.map_err.result (answer g c)))
+
 pub invariant_of-self : goal.invariant_of-self
-invariant_of-self g c =
-    let ours = held_at_site c.args.self.now _ _ (map g.C.SiteCopy.held c.deref_mut.result.now) _ c.args.site c.self.view_is c.self.invariant.sites (ap (map g.C.SiteCopy.held) c.deref_mut.ensures.value) c.in_ok-ours.ensures.place c.in_ok-ours.ensures.there in
-    let theirs = held_at_site c.args.self.now _ _ (map g.C.SiteCopy.held c.deref_mut.result.now) _ c.args.other c.self.view_is c.self.invariant.sites (ap (map g.C.SiteCopy.held) c.deref_mut.ensures.value) c.in_ok-theirs.ensures.place c.in_ok-theirs.ensures.there in
-    let same = take_refusal_at c.args.self.now c.args.site _ _ (content_at c.args.self.now c.args.other) ours theirs.state in
-    let accepted : IsAccepted c.args.self.now (merged c.args.site c.args.other) =
-    merge_free c.args.self.now c.args.site c.args.other c.in_ok-ours.ensures.there c.in_ok-theirs.ensures.there
-    (other_site c.in_ok-ours.ours c.in_ok-theirs.theirs c.args.site c.args.other c.in_ok-ours.ensures.place c.in_ok-theirs.ensures.place c.if-ours-theirs.true) (sym same ∙ c.in_ok-take_from.ensures.accepted) in
-    let made = copy.merged g.C.SiteCopy.held c.args.self.now _ c.self.inside.copies.items c.deref_mut.result.now c.take_from.new.copies c.in_ok-ours.ours c.in_ok-theirs.theirs c.args.site c.args.other c.self.inside.copies.len
-    c.self.view_is c.deref_mut.ensures.value c.deref_mut.ensures.len c.in_ok-ours.ensures.place ours theirs c.in_ok-take_from.ensures.leaves c.in_ok-take_from.ensures.set in
-    copy.sound_after g.C.SiteCopy.held _ _ c.self.inside.copies.items c.deref_mut.result.now c.take_from.new.copies c.in_ok-ours.ours c.self.inside.copies.len _
-    c.self.invariant c.deref_mut.ensures.value c.deref_mut.ensures.len c.in_ok-take_from.ensures.leaves c.in_ok-take_from.ensures.set made
-    (coherent_after c.args.self.now (merged c.args.site c.args.other) accepted (subst IsCoherent c.self.view_is c.self.invariant.coherent))
+invariant_of-self g c = (taken g (goal.at.invariant_of-self g c).After-map_err).sound
 
-pub invariant_of-self-in_err-take_from : goal.invariant_of-self-in_err-take_from
-invariant_of-self-in_err-take_from g c =
-    copy.sound_still g.C.SiteCopy.held _ c.self.inside.copies.items c.deref_mut.result.now c.take_from.new.copies c.self.inside.copies.len c.self.invariant
-    c.deref_mut.ensures.value c.deref_mut.ensures.len c.in_err-take_from.ensures.kept
+pub returns-clause-step : goal.returns-clause-step
+returns-clause-step g c = (taken g (goal.at.returns-clause-step g c).After-map_err).step
 
-pub returns-in_err-take_from : goal.returns-in_err-take_from
-returns-in_err-take_from g c =
-    let p = err_from_is_err_and c.from_residual-in_err-take_from.result c.from_residual-in_err-take_from.ensures.1 in
-    let ours = held_at_site c.args.self.now _ _ (map g.C.SiteCopy.held c.deref_mut.result.now) _ c.args.site c.self.view_is c.self.invariant.sites (ap (map g.C.SiteCopy.held) c.deref_mut.ensures.value) c.in_ok-ours.ensures.place c.in_ok-ours.ensures.there in
-    let theirs = held_at_site c.args.self.now _ _ (map g.C.SiteCopy.held c.deref_mut.result.now) _ c.args.other c.self.view_is c.self.invariant.sites (ap (map g.C.SiteCopy.held) c.deref_mut.ensures.value) c.in_ok-theirs.ensures.place c.in_ok-theirs.ensures.there in
-    let same = take_refusal_at c.args.self.now c.args.site _ _ (content_at c.args.self.now c.args.other) ours theirs.state in
-    let apart = other_site c.in_ok-ours.ours c.in_ok-theirs.theirs c.args.site c.args.other c.in_ok-ours.ensures.place c.in_ok-theirs.ensures.place c.if-ours-theirs.true in
-    let fault : c.in_err-take_from.field-0.0 ≡ unwrap_or (take_refusal (held_at c.args.self.now c.args.site) (content_at c.args.self.now c.args.other)) replica_fault.Memory =
-    c.in_err-take_from.ensures.fault ∙ ap (λ o. unwrap_or o replica_fault.Memory) same in
-    rw (p.1, p.2) (record {
-      step = (
-        merge_fault c.args.self.now c.args.site c.args.other c.in_err-take_from.field-0.0 c.in_ok-ours.ensures.there c.in_ok-theirs.ensures.there apart fault,
-        copy.world_still g.C.SiteCopy.held c.args.self.now _ c.self.inside.copies.items c.deref_mut.result.now c.take_from.new.copies c.self.inside.copies.len c.self.view_is
-            c.deref_mut.ensures.value c.deref_mut.ensures.len c.in_err-take_from.ensures.kept,
-      );
-      itself = λ there one. absurd (apart one);
-      again = λ there others inside. absurd (false≢true (c.in_err-take_from.ensures.again (part_there c.args.self.now c.args.site _ _ (content_at c.args.self.now c.args.other) ours theirs.state inside)).0);
-      agreed = merge_agrees c.args.self.now c.args.site c.args.other c.in_err-take_from.field-0.0 (subst IsCoherent c.self.view_is c.self.invariant.coherent) fault;
-    })
+pub returns-clause-again : goal.returns-clause-again
+returns-clause-again g c = λ there others inside.
+    let at = (goal.at.returns-clause-again g c).After-map_err in
+    let same = c.take-outcome.ensures.again (part_there c.args.self.now c.args.site (g.C.SiteCopy.held c.remove-copy.result) c.records.result.now (content_at c.args.self.now c.args.other) (held (placed g at)) (theirs g at) inside) in (
+      c.map_err.ensures.variant ∙ same.0,
+      rw (back g at) (copy.stayed g.C.SiteCopy.held c.self.inside.copies.items c.remove-copy.result c.take-outcome.new.self (placed g at) same.1),
+    )
 
-pub returns : goal.returns
-returns g c = elim c.if-ours-theirs.branch [
-  | then-ours-theirs+in_ok-take_from w ↦
-      let ours = held_at_site c.args.self.now _ _ (map g.C.SiteCopy.held w.deref_mut.result.now) _ c.args.site c.self.view_is c.self.invariant.sites (ap (map g.C.SiteCopy.held) w.deref_mut.ensures.value) c.in_ok-ours.ensures.place c.in_ok-ours.ensures.there in
-      let theirs = held_at_site c.args.self.now _ _ (map g.C.SiteCopy.held w.deref_mut.result.now) _ c.args.other c.self.view_is c.self.invariant.sites (ap (map g.C.SiteCopy.held) w.deref_mut.ensures.value) c.in_ok-theirs.ensures.place c.in_ok-theirs.ensures.there in
-      let same = take_refusal_at c.args.self.now c.args.site _ _ (content_at c.args.self.now c.args.other) ours theirs.state in
-      record {
-        step = (
-          merge_free c.args.self.now c.args.site c.args.other c.in_ok-ours.ensures.there c.in_ok-theirs.ensures.there
-              (other_site c.in_ok-ours.ours c.in_ok-theirs.theirs c.args.site c.args.other c.in_ok-ours.ensures.place c.in_ok-theirs.ensures.place w.if-ours-theirs.true) (sym same ∙ w.in_ok-take_from.ensures.accepted),
-          w.self-is ∙ copy.merged g.C.SiteCopy.held c.args.self.now _ c.self.inside.copies.items w.deref_mut.result.now w.take_from.new.copies c.in_ok-ours.ours c.in_ok-theirs.theirs c.args.site c.args.other c.self.inside.copies.len
-              c.self.view_is w.deref_mut.ensures.value w.deref_mut.ensures.len c.in_ok-ours.ensures.place ours theirs w.in_ok-take_from.ensures.leaves w.in_ok-take_from.ensures.set,
-        );
-        itself = λ there one. refl;
-        again = λ there others inside. (
-          refl,
-          w.self-is ∙ copy.world_still g.C.SiteCopy.held c.args.self.now _ c.self.inside.copies.items w.deref_mut.result.now w.take_from.new.copies c.self.inside.copies.len c.self.view_is
-              w.deref_mut.ensures.value w.deref_mut.ensures.len
-              (w.in_ok-take_from.ensures.again (part_there c.args.self.now c.args.site _ _ (content_at c.args.self.now c.args.other) ours theirs.state inside)).1,
-        );
-        agreed = tt;
-      }
-  | else-ours-theirs w ↦
-      let one = one_site c.args.self.now c.in_ok-ours.ours c.in_ok-theirs.theirs c.args.site c.args.other w.if-ours-theirs.false c.in_ok-ours.ensures.place c.in_ok-theirs.ensures.place c.in_ok-ours.ensures.there c.in_ok-theirs.ensures.there in
-      record {
-        step = (merge_itself c.args.self.now c.args.site c.args.other c.in_ok-ours.ensures.there c.in_ok-theirs.ensures.there one, w.self-is ∙ merged_itself c.args.self.now c.args.site c.args.other one);
-        itself = λ there same. refl;
-        again = λ there others inside. (refl, w.self-is);
-        agreed = tt;
-      }
-]
+pub returns-clause-agreed : goal.returns-clause-agreed
+returns-clause-agreed g c =
+    let at = (goal.at.returns-clause-agreed g c).After-map_err in
+    take_agreed (placed g at) (merged c.args.site c.args.other) c.records.result.now (content_at c.args.self.now c.args.other) (theirs g at) (refused g at) IsMergeFault
+    (merge_agrees c.args.self.now c.args.site c.args.other) c.take-outcome.result (g.C.SiteCopy.held c.take-outcome.new.self) c.map_err.result (answer g at)

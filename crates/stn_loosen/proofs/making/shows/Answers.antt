@@ -1,5 +1,5 @@
 use Rattle.std.proofs.{Common.{pos, ◌-ℤ◌, ◌≤ℤ◌, to_z, of_z, w64, arith}, lemmas.Int.ints}
-use Rattle.stn_loosen.proofs.making.Making.shows.Goals as goal
+use Rattle.stn_loosen.proofs.making.shows.Goals as goal
 
 pub returns-then-get-span : goal.returns-then-get-span
 returns-then-get-span g c =
