@@ -1,6 +1,6 @@
 -- The axis reaches past what it has to show.
-use Rattle.std.{proofs.{Common.{◌≡◌, ℕ, ℤ, zero, suc, ◌+◌, ◌-◌, ◌*◌, ◌<◌, ◌≤◌, Bool, true, false, List, if◌then◌else◌, ⊎_elim, true≢false, subst, sym, arith}, lemmas.{Bool.cases_lt, Nat.{div-add-mod', mod_below, div_below}}}, specs.Prelude.{Option}}
-use Rattle.stn_picture.specs.{Axis.{gaps_in, gap_of, fits}, Chart.{reach, furthest, axis_reach, is_open_in, soonest_in, latest_in}, Places.{place_on, line_left, line_width}}
+use Rattle.std.{proofs.{Common.{◌≡◌, ℕ, ℤ, zero, suc, ◌+◌, ◌-◌, ◌*◌, ◌<◌, ◌≤◌, Bool, true, false, List, [], ◌∷◌, if◌then◌else◌, ⊎_elim, true≢false, refl, subst, sym, arith}, lemmas.{Bool.{and_parts, cases_lt}, Nat.{div-add-mod', mod_below, div_below}}}, specs.{Prelude.Option, List.list_all}}
+use Rattle.stn_picture.{specs.{Axis.{gaps, gaps_in, gap_of, first_gap, fits}, Chart.{reach, furthest, axis_reach, is_open_in, soonest_in, latest_in}, Places.{place_on, line_left, line_width}}, proofs.AxisGaps.{is_gap, gap_bounds}}
 
 -- the axis reaches as far as it has to for each event
 pub reached : (windows : List (ℤ × ℤ)) (events event : ℕ) → 1 ≤ event → event ≤ events → reach windows event ≤ furthest windows events
@@ -16,18 +16,15 @@ gap_case : (b : Bool) (gap other : ℕ) → 1 ≤ gap → 1 ≤ other → 1 ≤ 
 gap_case true gap other first second = first
 gap_case false gap other first second = second
 
+some_in : (before after : ℕ) (xs : List ℕ) → list_all is_gap xs ≡ true → 1 ≤ first_gap before after xs
+some_in before after [] all = omega arith
+some_in before after (gap ∷ rest) all =
+    let parts = and_parts (is_gap gap) (list_all is_gap rest) all in
+    gap_case (fits before after gap) gap (first_gap before after rest) (omega (arith, (gap_bounds gap parts.0).0)) (some_in before after rest parts.1)
+
 -- a gap is some time
-pub some_gap : (before after : ℕ) → 1 ≤ gap_of before after
-some_gap before after =
-    gap_case (fits before after 1000) 1000 _ (omega arith) (gap_case (fits before after 2000) 2000 _ (omega arith) (gap_case (fits before after 5000) 5000 _ (omega arith)
-    (gap_case (fits before after 10000) 10000 _ (omega arith) (gap_case (fits before after 15000) 15000 _ (omega arith) (gap_case (fits before after 30000) 30000 _ (omega arith)
-    (gap_case (fits before after 60000) 60000 _ (omega arith) (gap_case (fits before after 120000) 120000 _ (omega arith) (gap_case (fits before after 300000) 300000 _ (omega arith)
-    (gap_case (fits before after 600000) 600000 _ (omega arith) (gap_case (fits before after 900000) 900000 _ (omega arith) (gap_case (fits before after 1800000) 1800000 _ (omega arith)
-    (gap_case (fits before after 3600000) 3600000 _ (omega arith) (gap_case (fits before after 7200000) 7200000 _ (omega arith) (gap_case (fits before after 18000000) 18000000 _ (omega arith)
-    (gap_case (fits before after 36000000) 36000000 _ (omega arith) (gap_case (fits before after 54000000) 54000000 _ (omega arith) (gap_case (fits before after 86400000) 86400000 _ (omega arith)
-    (gap_case (fits before after 172800000) 172800000 _ (omega arith) (gap_case (fits before after 432000000) 432000000 _ (omega arith) (gap_case (fits before after 864000000) 864000000 _ (omega arith)
-    (gap_case (fits before after 1296000000) 1296000000 _ (omega arith) (gap_case (fits before after 2592000000) 2592000000 _ (omega arith) (gap_case (fits before after 5184000000) 5184000000 _ (omega arith)
-    (gap_case (fits before after 12960000000) 12960000000 _ (omega arith) (omega arith)))))))))))))))))))))))))
+some_gap : (before after : ℕ) → 1 ≤ gap_of before after
+some_gap before after = some_in before after gaps refl
 
 -- so many gaps reach so far
 pub gaps_reach : (gap far : ℕ) → 1 ≤ gap → far ≤ gap * gaps_in gap far

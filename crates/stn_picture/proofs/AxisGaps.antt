@@ -7,10 +7,10 @@ all_at p [] e i within = absurd (omega (arith, within))
 all_at p (x ∷ xs) e zero within = (and_parts (p x) (list_all p xs) e).0
 all_at p (x ∷ xs) e (suc i) within = all_at p xs (and_parts (p x) (list_all p xs) e).1 i (omega (arith, within))
 
-abbrev is_gap : ℕ → Bool
+abbrev pub is_gap : ℕ → Bool
 is_gap gap = nat_le 1000 gap && nat_lt gap 68719476736
 
-gap_bounds : (gap : ℕ) → is_gap gap ≡ true → (1000 ≤ gap) × (gap < 68719476736)
+pub gap_bounds : (gap : ℕ) → is_gap gap ≡ true → (1000 ≤ gap) × (gap < 68719476736)
 gap_bounds gap e =
     let parts = and_parts (nat_le 1000 gap) (nat_lt gap 68719476736) e in
     (grind (arith, nat_tests, parts.0), grind (arith, nat_tests, parts.1))

@@ -1,32 +1,12 @@
 -- Texts that grow by a line.
-use Rattle.std.{proofs.{Common.{◌≡◌, ℕ, ℤ, zero, suc, ◌+◌, ◌&&◌, not, Bool, true, false, cond, if◌then◌else◌, List, [], ◌∷◌, ◌++◌, length, filter, map, take, drop, drop-cons, get_or, ◌<◌, refl, sym, ap, ◌∙◌, add-one, arith, append_assoc}, lemmas.{List.{append-nil, map-append, take_more, Concat.flat_map-append, Elements.filter-append}, Int.ints}}, specs.{List.{flat_map, range_with_len}, Prelude.{max, int_lt, ◌+ℤ◌}}}
+use Rattle.std.{proofs.{Common.{◌≡◌, ℕ, ℤ, suc, ◌+◌, ◌&&◌, not, Bool, true, false, cond, if◌then◌else◌, List, [], ◌∷◌, ◌++◌, length, filter, map, take, drop, drop-cons, get_or, ◌<◌, ◌≤◌, refl, sym, ap, ◌∙◌, add-one, arith, append_assoc}, lemmas.{List.{length-append, map-append, take_more, Elements.filter-append}, Int.ints}}, specs.{List.range_with_len, Prelude.{max, int_lt, ◌+ℤ◌}}}
+use Rattle.std.specs.Int.{from_bool}
 use Rattle.stn_net.specs.Difference.{Difference}
 use Rattle.stn_conflict.specs.{declared.links.Link.Link, Arcs.{arc_of, weight_of}}
 use Rattle.stn_records.specs.Content.{Content}
 use Rattle.stn_site.specs.{Report.is_done, Windows.window_at}
+use Rattle.stn_text.proofs.Growing.{range_push}
 use Rattle.stn_picture.specs.{declared.parts.Part.Part, Frame.{entry_at, left_after, entries_text}, Chart.{Chart, floor, floors_at, overdue_from}, Seen.present_floor, Walk.{greatest, sum_of}}
-
--- the text of one number more
-pub range_more : (f : ℕ → List ℕ) (a n next : ℕ) → a + n ≡ next → flat_map f (range_with_len a (suc n)) ≡ flat_map f (range_with_len a n) ++ f next
-range_more f a zero next e = append-nil (f a) ∙ ap f (omega (arith, e))
-range_more f a (suc n) next e =
-    ap (λ rest. f a ++ rest) (range_more f (a + 1) n next (omega (arith, e))) ∙ sym (append_assoc (f a) (flat_map f (range_with_len (a + 1) n)) (f next))
-
--- a text that has grown by it
-pub range_grown : (f : ℕ → List ℕ) (a n next more : ℕ) (front old new : List ℕ) → a + n ≡ next → more ≡ suc n
-    → old ≡ front ++ flat_map f (range_with_len a n) → new ≡ old ++ f next → new ≡ front ++ flat_map f (range_with_len a more)
-range_grown f a n next more front old new e is was grown =
-    grown ∙ ap (λ text. text ++ f next) was ∙ append_assoc front (flat_map f (range_with_len a n)) (f next)
-    ∙ ap (λ text. front ++ text) (sym (range_more f a n next e)) ∙ ap (λ k. front ++ flat_map f (range_with_len a k)) (sym is)
-
--- a text that has grown by the text of one element more
-pub lines_grown : {X : Type 0} (f : X → List ℕ) (xs : List X) (place : ℕ) (x : X) (front old new : List ℕ) → place < length xs → x ≡ get_or xs place x
-    → old ≡ front ++ flat_map f (take place xs) → new ≡ old ++ f x → new ≡ front ++ flat_map f (take (place + 1) xs)
-lines_grown f xs place x front old new within is was grown =
-    grown ∙ ap (λ text. text ++ f x) was ∙ append_assoc front (flat_map f (take place xs)) (f x)
-    ∙ ap (λ more. front ++ more)
-    (sym (ap (flat_map f) (take_more xs place x within ∙ ap (λ y. take place xs ++ y ∷ []) (sym is))
-    ∙ flat_map-append f (take place xs) (x ∷ []) ∙ ap (λ last. flat_map f (take place xs) ++ last) (append-nil (f x))))
 
 first_case : (b : Bool) (x : ℕ) (rest : List ℕ) → length (cond b (x ∷ rest) rest) ≡ cond b 1 0 + length rest
 first_case true x rest = omega arith
@@ -36,22 +16,25 @@ first_case false x rest = omega arith
 pub one_first : (p : ℕ → Bool) (x : ℕ) (xs : List ℕ) → length (filter p (x ∷ xs)) ≡ cond (p x) 1 0 + length (filter p xs)
 one_first p x xs = first_case (p x) x (filter p xs)
 
-count_from : (p : ℕ → Bool) (a n next : ℕ) → a + n ≡ next → length (filter p (range_with_len a (suc n))) ≡ length (filter p (range_with_len a n)) + cond (p next) 1 0
-count_from p a zero next e =
-    let same : a ≡ next = omega (arith, e) in
-    let last : cond {A = ℕ} (p a) 1 0 ≡ cond {A = ℕ} (p next) 1 0 = ap (λ k. cond (p k) 1 0) same in
-    omega (arith, one_first p a [], last)
-count_from p a (suc n) next e =
-    let step : a + 1 + n ≡ next = omega (arith, e) in
-    omega (arith, one_first p a (range_with_len (a + 1) (suc n)), one_first p a (range_with_len (a + 1) n), count_from p (a + 1) n next step)
-
 -- how many of one number more are so
-pub count_more : (p : ℕ → Bool) (n : ℕ) → length (filter p (range_with_len 1 (n + 1))) ≡ length (filter p (range_with_len 1 n)) + cond (p (n + 1)) 1 0
-count_more p n = rw (add-one n) (count_from p 1 n (suc n) (omega arith))
+count_more : (p : ℕ → Bool) (n : ℕ) → length (filter p (range_with_len 1 (n + 1))) ≡ length (filter p (range_with_len 1 n)) + cond (p (n + 1)) 1 0
+count_more p n =
+    let before = filter p (range_with_len 1 n) in
+    let more : length (filter p (range_with_len 1 (n + 1))) ≡ length before + length (filter p ((n + 1) ∷ [])) =
+    ap (λ events. length (filter p events)) (ap (range_with_len 1) (add-one n) ∙ range_push 1 n (n + 1) (omega arith))
+    ∙ ap length (filter-append p (range_with_len 1 n) ((n + 1) ∷ [])) ∙ length-append before (filter p ((n + 1) ∷ [])) in
+    omega (arith, more, one_first p (n + 1) [])
 
-range_push : (a n next : ℕ) → a + n ≡ next → range_with_len a (suc n) ≡ range_with_len a n ++ next ∷ []
-range_push a zero next e = let same : a ≡ next = omega (arith, e) in ap (λ k. k ∷ []) same
-range_push a (suc n) next e = let step : a + 1 + n ≡ next = omega (arith, e) in ap (λ rest. a ∷ rest) (range_push (a + 1) n next step)
+flagged : (so : Bool) → (from_bool so ≡ cond so 1 0) × (from_bool so ≤ 1)
+flagged true = (refl, omega arith)
+flagged false = (refl, omega arith)
+
+-- the count goes on with the next number
+pub count_step : (p : ℕ → Bool) (before count one next : ℕ) → count ≡ length (filter p (range_with_len 1 before)) → count ≤ before → one ≡ from_bool (p (before + 1))
+    → next ≡ count + one → (next ≡ length (filter p (range_with_len 1 (before + 1)))) × (next ≤ before + 1)
+count_step p before count one next was most is grown =
+    let flag = flagged (p (before + 1)) in
+    (omega (arith, was, is, grown, flag.0, count_more p before), omega (arith, most, is, grown, flag.1))
 
 left_case : (done : Bool) (now : ℤ) (event : ℕ) → map (floor now) (cond (not done) (event ∷ []) []) ≡ present_floor done now event
 left_case true now event = refl

@@ -6,10 +6,10 @@ pub then : (front seen piece : List ℕ) {middle end : List ℕ} → middle ≡ 
 then front seen piece first second = second ∙ ap (λ text. text ++ piece) first ∙ append_assoc front seen piece
 
 -- the last piece, which is appended whole or not at all
-pub last : {T E : Type 0} (result : Result T E) (front seen piece : List ℕ) {middle end : List ℕ} → middle ≡ front ++ seen
-    → end ≡ cond (is_ok result) (middle ++ piece) middle → OnOk result (end ≡ front ++ (seen ++ piece))
-last (Ok value) front seen piece first second = then front seen piece first second
-last (Err fault) front seen piece first second = tt
+pub last : {T E : Type 0} (result : Result T E) (front seen piece text : List ℕ) {middle end : List ℕ} → middle ≡ front ++ seen
+    → end ≡ cond (is_ok result) (middle ++ piece) middle → front ++ (seen ++ piece) ≡ front ++ text → OnOk result (end ≡ front ++ text)
+last (Ok value) front seen piece text first second same = then front seen piece first second ∙ same
+last (Err fault) front seen piece text first second same = tt
 
 -- what holds where a write to memory succeeded
 pub in_memory : {T E F : Type 0} (P : Type 0) (result : Result T E) (written : Result T F) → MatchResult result (λ _. IsOk written) (λ _. IsErr written) → OnOk written P → OnOk result P

@@ -1,32 +1,11 @@
 -- The events that hold the starts of steps, bound by bound.
-use Rattle.std.{proofs.{Common.{◌≡◌, ◌≢◌, ◌⊎◌, ⊎_elim, inl, inr, ℕ, ℤ, ◌+◌, ◌==◌, ◌&&◌, eqb, not, Bool, true, false, if◌then◌else◌, List, [], ◌∷◌, ◌++◌, ◌<◌, length, take, map, get_or, replicate, refl, sym, ap, ◌∙◌, arith}, lemmas.{List.{ext_get_or, take_more, length-replicate, get_or-replicate}, List.FromFn.{get_or-map-range_with_len, length-map-range_with_len}, Bool.Decides.eqb_tells}}, specs.List.range_with_len}
+use Rattle.std.{proofs.{Common.{◌≡◌, ℕ, ℤ, ◌+◌, ◌==◌, ◌&&◌, not, Bool, true, false, if◌then◌else◌, List, [], ◌∷◌, ◌++◌, ◌<◌, length, take, map, get_or, replicate, refl, sym, ap, ◌∙◌, arith}, lemmas.{List.{ext_get_or, take_more, length-replicate, get_or-replicate}, List.FromFn.{get_or-map-range_with_len, length-map-range_with_len}, Bool.Decides.nat_tests}}, specs.List.range_with_len}
 use Rattle.stn_net.specs.Difference.{Difference}
 use Rattle.stn_picture.specs.{Chart.{start_of, end_of, holds_upper, holds_lower, held_by, holder_in}, Seen.first_holder}
 
--- the first of two numbers that is not 0
-pick_first : (n m : ℕ) → n ≢ 0 → (if n == 0 then m else n) ≡ n
-pick_first n m other = ⊎_elim
-    (λ (zero_is : (eqb n 0 ≡ true) × (n ≡ 0)). absurd (other zero_is.1))
-    (λ (some : (eqb n 0 ≡ false) × (n ≢ 0)). ap (λ (b : Bool). if b then m else n) some.0)
-    (eqb_tells n 0)
-
-pick_second : (n m : ℕ) → n ≡ 0 → (if n == 0 then m else n) ≡ m
-pick_second n m none = ⊎_elim
-    (λ (zero_is : (eqb n 0 ≡ true) × (n ≡ 0)). ap (λ (b : Bool). if b then m else n) zero_is.0)
-    (λ (some : (eqb n 0 ≡ false) × (n ≢ 0)). absurd (some.1 none))
-    (eqb_tells n 0)
-
-zero_or : (n : ℕ) → (n ≡ 0) ⊎ (n ≢ 0)
-zero_or n = ⊎_elim (λ (here : (eqb n 0 ≡ true) × (n ≡ 0)). inl here.1) (λ (some : (eqb n 0 ≡ false) × (n ≢ 0)). inr some.1) (eqb_tells n 0)
-
 holder_case : (held whole first second : ℕ) → whole ≡ (if first == 0 then second else first)
     → (if held == 0 then whole else held) ≡ (if (if held == 0 then first else held) == 0 then second else (if held == 0 then first else held))
-holder_case held whole first second e = ⊎_elim
-    (λ (none : held ≡ 0).
-    pick_second held whole none ∙ e ∙ ap (λ (n : ℕ). if n == 0 then second else n) (sym (pick_second held first none)))
-    (λ (some : held ≢ 0).
-    pick_first held whole some ∙ sym (ap (λ (n : ℕ). if n == 0 then second else n) (pick_first held first some) ∙ pick_first held second some))
-    (zero_or held)
+holder_case held whole first second e = grind (arith, nat_tests, e)
 
 -- the first holder of two lists of bounds
 holder_append : (windows : List (ℤ × ℤ)) (step : ℕ) (xs ys : List Difference)
@@ -36,10 +15,10 @@ holder_append windows step (bound ∷ xs) ys =
     holder_case (held_by windows step bound) (holder_in windows step (xs ++ ys)) (holder_in windows step xs) (holder_in windows step ys) (holder_append windows step xs ys)
 
 first_none : (n : ℕ) → first_holder n 0 ≡ n
-first_none n = ⊎_elim (λ (none : n ≡ 0). pick_second n 0 none ∙ sym none) (λ (some : n ≢ 0). pick_first n 0 some) (zero_or n)
+first_none n = grind (arith, nat_tests)
 
 first_same : (n : ℕ) → first_holder n n ≡ n
-first_same n = ⊎_elim (λ (none : n ≡ 0). pick_second n n none) (λ (some : n ≢ 0). pick_first n n some) (zero_or n)
+first_same n = grind (arith, nat_tests)
 
 pub first_chain : (a b c : ℕ) → first_holder (first_holder a b) c ≡ first_holder a (first_holder b c)
 first_chain a b c = sym (holder_case a (first_holder b c) b c refl)

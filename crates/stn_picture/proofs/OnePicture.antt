@@ -1,55 +1,16 @@
 -- A plan and a state have one picture.
-use Rattle.std.{proofs.Common.{◌≡◌, ℕ, ℤ, suc, pos, ◌<◌, ◌≤◌, List, [], ◌∷◌, ◌++◌, length, get_or, sym, ap, ◌∙◌, refl, ⊎_elim, arith}, specs.Prelude.Option}
+use Rattle.std.{proofs.{Common.{◌≡◌, ℕ, ℤ, pos, ◌≤◌, List, ◌++◌, sym, ap, ◌∙◌, ⊎_elim, arith}, lemmas.List.ext_get_or}, specs.Prelude.Option}
 use Rattle.stn_net.{specs.{Difference.Difference, Schedule.HasSchedule}, proofs.{WindowEnds.one_window, Closure.schedule_before}}
 use Rattle.stn_lift.specs.PlanSource.{PlanSource, base_bounds, events_of}
-use Rattle.stn_records.specs.{Content.{Content, live_of}, Id.SiteCounter, declared.record.Record.Record}
+use Rattle.stn_records.specs.Content.{Content, live_of}
 use Rattle.stn_conflict.specs.{declared.links.Link.Link, Arcs.IsNegativeCycle, Named.IsNamedCycle}
 use Rattle.stn_site.specs.{Bounds.{all_bounds, live_bounds}, Names.live_ids, Windows.{window_at, AreWindows}}
-use Rattle.stn_questions.{specs.{declared.repair.Repair.Repair, Repair.Repairs.{others, IsRepair, AreRepairs}}, proofs.Ranges.one_range}
+use Rattle.stn_repairs.proofs.OneRepairs.{one_list}
 use Rattle.stn_picture.specs.{Chart.{Look, floors, overdue_event, AreDrawn, chart_of}, Frame.plan_text, Walk.{walk_of, walk_text}, Picture.{IsPlanPicture, IsWalkPicture, IsPicture}}
-
--- a record has one repair
-one_repair : (bounds : List Difference) (id : SiteCounter) (bound : Difference) (one other : Repair) → IsRepair bounds id bound one → IsRepair bounds id bound other → one ≡ other
-one_repair bounds id bound one other p q =
-    let ends = one_range bounds bound.from bound.to one.least one.greatest other.least other.greatest p.possible p.range q.range in
-    λ i. record {
-      id = (p.of_record ∙ sym q.of_record) i;
-      from = (p.from ∙ sym q.from) i;
-      to = (p.to ∙ sym q.to) i;
-      least = ends.0 i;
-      greatest = ends.1 i;
-    }
-
--- the repairs by the live records are one list
-one_list : (base : List Difference) (live rest : List (SiteCounter × Record)) (these those : List Repair)
-    → AreRepairs base live rest these → AreRepairs base live rest those → these ≡ those
-one_list base live [] these those p q = p ∙ sym q
-one_list base live (entry ∷ rest) these those p q =
-    ⊎_elim
-    (λ mine. ⊎_elim
-    (λ theirs. one_list base live rest these those mine.1 theirs.1)
-    (λ theirs. absurd (mine.0 theirs.2.possible)) q)
-    (λ mine. ⊎_elim
-    (λ theirs. absurd (theirs.0 mine.2.possible))
-    (λ theirs.
-    let first = one_repair (others base live entry.0) entry.0 entry.1.bound mine.0 theirs.0 mine.2 theirs.2 in
-    let later = one_list base live rest mine.1 theirs.1 mine.3 theirs.3 in
-    mine.4 ∙ (λ i. first i ∷ later i) ∙ sym theirs.4) q)
-    p
-
--- lists of one length with the same elements are the same
-same_lists : {X : Type 0} (d : X) (xs ys : List X) → length xs ≡ length ys → ((i : ℕ) → i < length xs → get_or xs i d ≡ get_or ys i d) → xs ≡ ys
-same_lists d [] [] long same = refl
-same_lists d [] (y ∷ ys) long same = absurd (omega (arith, long))
-same_lists d (x ∷ xs) [] long same = absurd (omega (arith, long))
-same_lists d (x ∷ xs) (y ∷ ys) long same =
-    let rest = same_lists d xs ys (omega (arith, long)) (λ i within. same (suc i) (omega (arith, within))) in
-    let first : x ≡ y = same 0 (omega arith) in
-    λ i. first i ∷ rest i
 
 one_windows : (bounds : List Difference) (events : ℕ) (one other : List (ℤ × ℤ)) → AreWindows bounds events one → AreWindows bounds events other → one ≡ other
 one_windows bounds events one other p q =
-    same_lists (pos 0, pos 0) one other (p.one_each ∙ sym q.one_each)
+    ext_get_or (pos 0, pos 0) one other (p.one_each ∙ sym q.one_each)
     (λ i within.
     let event : i ≤ events = omega (arith, within, p.one_each) in
     let ends = one_window bounds i (window_at one i).0 (window_at one i).1 (window_at other i).0 (window_at other i).1 p.possible (p.each i event) (q.each i event) in

@@ -5,7 +5,7 @@ use Rattle.stn_lift.specs.PlanSource.{PlanSource, base_bounds, events_of, steps_
 use Rattle.stn_records.specs.{Id.SiteCounter, declared.record.Record.Record, Content.{Content, live_of}}
 use Rattle.stn_conflict.specs.{Arcs.IsNegativeCycle, Named.IsNamedCycle}
 use Rattle.stn_site.specs.{Bounds.{all_bounds, bounds_of}, Report.{is_done, says_done}, Windows.{window_at, AreWindows}}
-use Rattle.stn_questions.specs.Repair.Repairs.{AreRepairs}
+use Rattle.stn_repairs.specs.Repairs.{AreRepairs}
 use Rattle.stn_picture.specs.{Axis.{gap_of, gaps_in}, Chart.{Look, floor, floors, overdue_from, overdue_event, AreDrawn, chart_of, row_in, holder_in, axis_reach}, Frame.plan_text, Walk.{walk_of, walk_text}, Picture.{IsPlanPicture, IsWalkPicture, IsPicture}}
 
 abbrev Records : Type 0

@@ -1,19 +1,8 @@
 -- The sums of the first links.
-use Rattle.std.{proofs.{Common.{◌≡◌, ℕ, ℤ, zero, suc, ◌+◌, ◌<◌, ◌≤◌, List, [], ◌∷◌, ◌++◌, map, length, get_or, sym, ap, ◌∙◌, subst, All, arith}, lemmas.{Int.ints, List.{FromFn.map-range_with_len_more, Elements.All-push}}}, specs.{Prelude.{◌+ℤ◌, unsigned_abs}, List.range_with_len}}
+use Rattle.std.{proofs.{Common.{◌≡◌, ℕ, ℤ, ◌+◌, ◌<◌, ◌≤◌, List, [], ◌∷◌, ◌++◌, map, length, get_or, sym, ap, ◌∙◌, subst, All, arith}, lemmas.{Int.ints, List.{FromFn.map-range_with_len_more, Elements.All-push}}}, specs.{Prelude.{◌+ℤ◌, unsigned_abs}, List.range_with_len}}
 use Rattle.stn_net.specs.Difference.{Difference}
 use Rattle.stn_conflict.specs.{declared.links.Link.Link, Arcs.arc_of}
 use Rattle.stn_picture.{specs.Walk.sum_of, proofs.Drawing.sum_more}
-
-read_from : (f : ℕ → ℤ) (a n k : ℕ) (d : ℤ) → k < n → get_or (map f (range_with_len a n)) k d ≡ f (a + k)
-read_from f a zero k d within = absurd (omega (arith, within))
-read_from f a (suc n) zero d within = let same : a ≡ a + 0 = omega arith in ap f same
-read_from f a (suc n) (suc k) d within =
-    let same : a + 1 + k ≡ a + suc k = omega arith in
-    read_from f (a + 1) n k d (omega (arith, within)) ∙ ap f same
-
--- one of the values of a function
-pub value_at : (f : ℕ → ℤ) (n k : ℕ) (d : ℤ) → k < n → get_or (map f (range_with_len 0 n)) k d ≡ f k
-value_at f n k d within = let same : 0 + k ≡ k = omega arith in read_from f 0 n k d within ∙ ap f same
 
 -- one value more
 pub values_grown : {x : ℤ} (f : ℕ → ℤ) (n more : ℕ) (old new : List ℤ) → new ≡ old ++ x ∷ [] → old ≡ map f (range_with_len 0 n) → x ≡ f n → more ≡ n + 1

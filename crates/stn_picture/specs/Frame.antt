@@ -1,8 +1,8 @@
 -- What stands around the rows: the head, the axis, the present, the legend.
-use Rattle.std.specs.{Prelude.{ℕ, ℤ, ◌+◌, ◌-◌, ◌*◌, ◌/◌, ◌==◌, max, List, [], ◌∷◌, ◌++◌, length, codes, decimal, if◌then◌else◌, Option, Some, None}, List.{flat_map, range_with_len}}
+use Rattle.std.specs.{Prelude.{ℕ, ℤ, ◌+◌, ◌-◌, ◌==◌, max, List, [], ◌∷◌, ◌++◌, length, codes, decimal, if◌then◌else◌, Option, Some, None}, List.{flat_map, range_with_len}}
 use Rattle.stn_time.specs.Text.{printed}
 use Rattle.stn_net.specs.Event.{event_text}
-use Rattle.stn_picture.specs.{Axis.{unit_of, unit_text}, Chart.{Chart, moment_of}, Escape.{shown, cut}, Parts.{occurs, count_of, place_of}, Places.{row_top, height_of, legend_left, legend_apart}, Rows.{bar_text, fading_text, mark_text, row_text}, Style.{style_text, parts_text, sites_style}, declared.parts.Part.Part}
+use Rattle.stn_picture.specs.{Chart.{Chart, moment_of}, Escape.{shown, cut}, Parts.{end_of_axis, occurs, count_of, place_of}, Places.{line_left, line_width, row_top, height_of, legend_left, legend_apart}, Rows.{bar_text, fading_text, mark_text, row_text}, Style.{style_text, parts_text, sites_style}, Ticks.{Axis, axis_text}, declared.parts.Part.Part}
 use Rattle.stn_picture.specs.declared.parts.Part.TheVariants as part
 
 -- the title has at most so many characters
@@ -10,11 +10,8 @@ abbrev pub most_title : ℕ
 most_title = 60
 
 -- the beginning of a picture of such a height, with this title
-abbrev pub root_text : ℕ → List ℕ
-root_text height = codes "<svg xmlns='http://www.w3.org/2000/svg' viewBox='0 0 1000 " ++ decimal height ++ codes "' role='img'>\n<title>"
-
 abbrev pub open_text : List ℕ → ℕ → List ℕ
-open_text title height = root_text height ++ shown title ++ codes "</title>\n"
+open_text title height = codes "<svg xmlns='http://www.w3.org/2000/svg' viewBox='0 0 1000 " ++ decimal height ++ codes "' role='img'>\n<title>" ++ shown title ++ codes "</title>\n"
 
 -- the ground, and stripes from the second row to the end of the rows
 abbrev pub paper_text : ℕ → ℕ → ℕ → List ℕ
@@ -24,11 +21,8 @@ paper_text height second end = codes "<rect class='z' width='1000' height='" ++ 
 abbrev pub heading_text : List ℕ → List ℕ
 heading_text title = codes "<text class='t' x='8' y='20'>" ++ cut most_title title ++ codes "</text>\n"
 
-abbrev pub late_event : ℕ → List ℕ
-late_event event = codes ", <tspan class='w'>overdue " ++ event_text event ++ codes "</tspan>"
-
 abbrev pub overdue_text : ℕ → List ℕ
-overdue_text event = if event == 0 then [] else late_event event
+overdue_text event = if event == 0 then [] else codes ", <tspan class='w'>overdue " ++ event_text event ++ codes "</tspan>"
 
 abbrev pub now_text : Option ℤ → List ℕ
 now_text None = []
@@ -57,21 +51,17 @@ chart_paper chart = paper_text (height_of chart.steps) (row_top 1) (row_top char
 abbrev pub head_text : Chart → List ℕ
 head_text chart = open_text chart.look.title (height_of chart.steps) ++ chart_style chart ++ chart_paper chart ++ heading_text chart.look.title ++ summary_text chart
 
--- the line at a tick
-abbrev pub tick_line : Chart → ℕ → List ℕ
-tick_line chart tick = codes "M" ++ decimal (place_of chart (chart.gap * tick)) ++ codes " 50V" ++ decimal (row_top chart.steps)
-
--- the words above it: how many units it is after the time 0; the unit stands there
-abbrev pub tick_unit : ℕ → ℕ → List ℕ
-tick_unit gap tick = if tick == 0 then unit_text gap else []
-
-abbrev pub tick_words : Chart → ℕ → List ℕ
-tick_words chart tick = codes "<tspan x='" ++ decimal (place_of chart (chart.gap * tick)) ++ codes "'>" ++ decimal (chart.gap * tick / unit_of chart.gap)
-    ++ tick_unit chart.gap tick ++ codes "</tspan>"
-
-abbrev pub axis_text : Chart → List ℕ
-axis_text chart = codes "<path class='g' d='" ++ flat_map (tick_line chart) (range_with_len 0 (chart.ticks + 1)) ++ codes "'/>\n<text class='s m' y='44'>"
-    ++ flat_map (tick_words chart) (range_with_len 0 (chart.ticks + 1)) ++ codes "</text>\n"
+-- the axis: it begins at the time 0
+abbrev pub chart_axis : Chart → Axis
+chart_axis chart = record {
+  left = line_left;
+  width = line_width;
+  long = end_of_axis chart;
+  gap = chart.gap;
+  before = 0;
+  ticks = chart.ticks + 1;
+  bottom = row_top chart.steps;
+}
 
 -- the line of the present, from above the rows to below them
 abbrev pub present_line : ℕ → ℕ → List ℕ
@@ -106,13 +96,9 @@ meaning_text part.Open = codes "no latest time"
 abbrev pub words_text : Part → ℕ → ℕ → List ℕ
 words_text one left base = codes "<text class='s' x='" ++ decimal left ++ codes "' y='" ++ decimal base ++ codes "'>" ++ meaning_text one ++ codes "</text>\n"
 
--- an entry of the legend
-abbrev pub entry_text : Part → ℕ → ℕ → List ℕ
-entry_text one left base = sample_text one left base ++ words_text one (left + 24) base
-
 -- the entry of a part that occurs, and where the next one begins
 abbrev pub entry_at : Chart → ℕ → ℕ → Part → List ℕ
-entry_at chart base left one = if occurs chart one then entry_text one left base else []
+entry_at chart base left one = if occurs chart one then sample_text one left base ++ words_text one (left + 24) base else []
 
 abbrev pub left_after : Chart → ℕ → Part → ℕ
 left_after chart left one = if occurs chart one then left + legend_apart else left
@@ -133,4 +119,4 @@ legend_text chart = entries_text chart (legend_base chart.steps) legend_left par
 
 -- the picture of a plan
 abbrev pub plan_text : Chart → List ℕ
-plan_text chart = head_text chart ++ axis_text chart ++ flat_map (row_text chart) (range_with_len 1 chart.steps) ++ present_text chart chart.look.present ++ legend_text chart ++ codes "</svg>\n"
+plan_text chart = head_text chart ++ axis_text (chart_axis chart) ++ flat_map (row_text chart) (range_with_len 1 chart.steps) ++ present_text chart chart.look.present ++ legend_text chart ++ codes "</svg>\n"

@@ -8,5 +8,6 @@ pub mod Places
 pub mod Rows
 pub mod Seen
 pub mod Style
+pub mod Ticks
 pub mod Walk
 pub mod WalkSeen

@@ -4,7 +4,7 @@ use Rattle.stn_lift.specs.PlanSource.{PlanSource, base_bounds}
 use Rattle.stn_records.specs.Content.{Content, live_of}
 use Rattle.stn_conflict.specs.{declared.links.Link.Link, Arcs.IsNegativeCycle, Named.IsNamedCycle}
 use Rattle.stn_site.specs.{Bounds.{all_bounds, live_bounds}, Names.live_ids}
-use Rattle.stn_questions.specs.{declared.repair.Repair.Repair, Repair.Repairs.AreRepairs}
+use Rattle.stn_repairs.specs.{declared.repair.Repair.Repair, Repairs.AreRepairs}
 use Rattle.stn_picture.specs.{Chart.{Look, AreDrawn, chart_of}, Frame.plan_text, Walk.{walk_of, walk_text}}
 
 -- the text is the picture of bounds that have a schedule

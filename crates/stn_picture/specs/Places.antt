@@ -1,9 +1,6 @@
 -- Where things stand in the picture of a plan, in pixels from the left and from the top.
 use Rattle.std.specs.Prelude.{ℕ, ◌+◌, ◌*◌, ◌/◌}
 
-abbrev pub picture_width : ℕ
-picture_width = 1000
-
 -- where the axis begins, and how long it is
 abbrev pub line_left : ℕ
 line_left = 344

@@ -1,5 +1,5 @@
 -- The rows of the steps.
-use Rattle.std.specs.Prelude.{ℕ, ℤ, ◌+◌, ◌-◌, ◌%◌, ◌==◌, nat_lt, max, not, ◌&&◌, List, [], ◌++◌, codes, decimal, if◌then◌else◌}
+use Rattle.std.specs.Prelude.{ℕ, ◌+◌, ◌-◌, ◌%◌, ◌==◌, nat_lt, max, not, ◌&&◌, List, [], ◌++◌, codes, decimal, if◌then◌else◌}
 use Rattle.stn_time.specs.Text.{printed}
 use Rattle.stn_lift.specs.BaseBounds.{step_of}
 use Rattle.stn_site.specs.Windows.{window_at}
@@ -29,13 +29,9 @@ title_text chart step = codes "<g><title>" ++ decimal step ++ codes " " ++ whole
 abbrev pub words_base : Chart → ℕ → ℕ
 words_base chart step = top_of chart step + words_below
 
--- a number, and what begins the name behind it
-abbrev pub number_text : ℕ → ℕ → List ℕ
-number_text base number = codes "<text class='s e' x='24' y='" ++ decimal base ++ codes "'>" ++ decimal number ++ codes "</text><text class='n' x='32' y='" ++ decimal base ++ codes "'>"
-
 -- the number and the name
 abbrev pub label_text : Chart → ℕ → List ℕ
-label_text chart step = number_text (words_base chart step) step ++ short_name chart step ++ codes "</text>\n"
+label_text chart step = codes "<text class='s e' x='24' y='" ++ decimal (words_base chart step) ++ codes "'>" ++ decimal step ++ codes "</text><text class='n' x='32' y='" ++ decimal (words_base chart step) ++ codes "'>" ++ short_name chart step ++ codes "</text>\n"
 
 -- the solid part of a step: done, running, one that cannot move, one that a site owns, another
 abbrev pub class_of : Chart → ℕ → List ℕ
@@ -47,11 +43,8 @@ class_of chart step =
     else codes "a o" ++ decimal (step_owner chart step % 6))))
 
 -- a bar that begins at a place, and is so wide
-abbrev pub bar_line_text : ℕ → ℕ → ℕ → List ℕ
-bar_line_text left middle width = codes "' d='M" ++ decimal left ++ codes " " ++ decimal middle ++ codes "h" ++ decimal width ++ codes "'/>"
-
 abbrev pub bar_text : List ℕ → ℕ → ℕ → ℕ → List ℕ
-bar_text class left middle width = codes "<path class='" ++ class ++ bar_line_text left middle width
+bar_text class left middle width = codes "<path class='" ++ class ++ codes "' d='M" ++ decimal left ++ codes " " ++ decimal middle ++ codes "h" ++ decimal width ++ codes "'/>"
 
 -- a bar that fades
 abbrev pub fading_text : ℕ → ℕ → ℕ → List ℕ
@@ -89,11 +82,9 @@ behind chart step =
 abbrev pub time_class : Chart → ℕ → List ℕ
 time_class chart step = if is_due chart step then codes "s w" else codes "s"
 
-abbrev pub moment_text : List ℕ → ℕ → ℕ → ℤ → List ℕ
-moment_text class left base time = codes "<text class='" ++ class ++ codes "' x='" ++ decimal left ++ codes "' y='" ++ decimal base ++ codes "'>" ++ printed time ++ codes "</text>"
-
 abbrev pub time_text : Chart → ℕ → List ℕ
-time_text chart step = moment_text (time_class chart step) (behind chart step) (words_base chart step) (window_at chart.windows (end_of step)).1
+time_text chart step = codes "<text class='" ++ time_class chart step ++ codes "' x='" ++ decimal (behind chart step) ++ codes "' y='" ++ decimal (words_base chart step) ++ codes "'>"
+    ++ printed (window_at chart.windows (end_of step)).1 ++ codes "</text>"
 
 -- from the soonest end to the end of the axis
 abbrev pub open_bar_text : Chart → ℕ → List ℕ
@@ -111,27 +102,20 @@ mark_class chart step = if is_due chart step then codes "c" else codes "k"
 abbrev pub latest_mark : Chart → ℕ → List ℕ
 latest_mark chart step = if may_wait chart step then mark_text (mark_class chart step) (place_of chart (latest chart (start_of step))) (top_of chart step + 4) else []
 
--- the number of a site, at the right edge
-abbrev pub edge_text : ℕ → ℕ → List ℕ
-edge_text base site = codes "<text class='s e' x='992' y='" ++ decimal base ++ codes "'>" ++ decimal site ++ codes "</text>"
-
--- that of the site that owns the step
+-- the number of the site that owns the step, at the right edge
 abbrev pub owner_text : Chart → ℕ → List ℕ
-owner_text chart step = if step_owner chart step == 0 then [] else edge_text (words_base chart step) (step_owner chart step)
+owner_text chart step =
+    if step_owner chart step == 0 then []
+    else codes "<text class='s e' x='992' y='" ++ decimal (words_base chart step) ++ codes "'>" ++ decimal (step_owner chart step) ++ codes "</text>"
 
--- an arrow down, from one place to another
-abbrev pub down_text : ℕ → ℕ → ℕ → ℕ → List ℕ
-down_text left top right other = codes "<path class='v' d='M" ++ decimal left ++ codes " " ++ decimal top ++ codes "V" ++ decimal other
-    ++ codes "H" ++ decimal right ++ codes "v6'/>"
-
--- an arrow up
-abbrev pub up_text : ℕ → ℕ → ℕ → ℕ → List ℕ
-up_text left top right other = codes "<path class='v' d='M" ++ decimal left ++ codes " " ++ decimal top ++ codes "V" ++ decimal other
-    ++ codes "H" ++ decimal right ++ codes "v-6'/>"
+-- down or up from one place to another, with a tip
+abbrev pub arrow_along : ℕ → ℕ → ℕ → ℕ → List ℕ → List ℕ
+arrow_along left begin right end tip = codes "<path class='v' d='M" ++ decimal left ++ codes " " ++ decimal begin ++ codes "V" ++ decimal end ++ codes "H" ++ decimal right ++ tip ++ codes "'/>"
 
 -- an arrow from below the one row to above the other, or from above it to below the other
 abbrev pub arrow_path : ℕ → ℕ → ℕ → ℕ → List ℕ
-arrow_path left top right other = if nat_lt top other then down_text left (top + 18) right other else up_text left (top + 6) right (other + row_height)
+arrow_path left top right other =
+    if nat_lt top other then arrow_along left (top + 18) right other (codes "v6") else arrow_along left (top + 6) right (other + row_height) (codes "v-6")
 
 -- the arrow to the start of a step that has not begun, from the event that holds it
 abbrev pub arrow_text : Chart → ℕ → List ℕ

@@ -1,9 +1,9 @@
--- The chart that the code has, and the windows that it draws.
+-- The chart and the axis that the code has, and the windows that it draws.
 use Rattle.std.specs.Prelude.{ℕ, ℤ, ◌==◌, Bool, List, [], ◌∷◌, map, Option, if◌then◌else◌}
 use Rattle.stn_lift.specs.PlanSource.{PlanSource, events_of}
 use Rattle.stn_net.specs.Difference.{Difference}
 use Rattle.stn_records.specs.Content.{Content}
-use Rattle.stn_picture.specs.{declared.{look.Chart.Chart as ChartOfCode, floors.Drawn.Drawn}, Chart.{Chart, seen_look, floor, overdue_event}}
+use Rattle.stn_picture.specs.{declared.{axis.Axis.Axis as AxisOfCode, look.Chart.Chart as ChartOfCode, floors.Drawn.Drawn}, Chart.{Chart, seen_look, floor, overdue_event}, Ticks.Axis}
 
 abbrev pub seen_chart : {A : Type 0} → ChartOfCode A → Chart
 seen_chart chart = record {
@@ -17,6 +17,17 @@ seen_chart chart = record {
   overdue = chart.overdue;
   gap = chart.gap;
   ticks = chart.ticks;
+}
+
+abbrev pub seen_axis : AxisOfCode → Axis
+seen_axis axis = record {
+  left = axis.left;
+  width = axis.width;
+  long = axis.long;
+  gap = axis.gap;
+  before = axis.before;
+  ticks = axis.ticks;
+  bottom = axis.bottom;
 }
 
 -- the event that is overdue, or 0

@@ -7,8 +7,8 @@ use Rattle.stn_lift.specs.BaseBounds.{step_of}
 use Rattle.stn_records.specs.Id.{SiteCounter, same_ids}
 use Rattle.stn_conflict.specs.{declared.links.{Link.Link, Side.{Side, TheVariants.{Upper, Lower}}}, Arcs.{bound_at, arc_of, weight_of}}
 use Rattle.stn_site.specs.{declared.names.BoundName.{BoundName, TheVariants.{Plan, Record}}, Names.{name_in, name_text}, Lines.side_text}
-use Rattle.stn_questions.specs.declared.repair.Repair.{Repair}
-use Rattle.stn_picture.specs.{Axis.{gap_of, gaps_in, unit_of, unit_text}, Escape.{cut}, Frame.{open_text, paper_text, heading_text}, Style.walk_style}
+use Rattle.stn_repairs.specs.declared.repair.Repair.{Repair}
+use Rattle.stn_picture.specs.{Axis.{gap_of, gaps_in}, Escape.{cut}, Frame.{open_text, paper_text, heading_text}, Style.walk_style, Ticks.{Axis, axis_text}}
 
 -- what is drawn of a conflict: the title, the names of the steps, the plan's bounds, the ids and the bounds of the live records, the links,
 -- the sums of the links above each row, the repairs, the gap of the axis, and how many gaps it has before 0 and after it
@@ -79,9 +79,16 @@ along walk time = unsigned_abs (time +ℤ pos (walk.gap * walk.before))
 abbrev pub length_of_axis : Walk → ℕ
 length_of_axis walk = max (walk.gap * (walk.before + walk.after)) 1
 
+-- where the axis begins, and how wide it is
+abbrev pub axis_left : ℕ
+axis_left = 500
+
+abbrev pub axis_width : ℕ
+axis_width = 440
+
 -- where a time stands: in proportion, rounded down
 abbrev pub place_among : ℕ → ℕ → ℕ
-place_among end far = 500 + 440 * far / end
+place_among end far = axis_left + axis_width * far / end
 
 abbrev pub walk_place : Walk → ℤ → ℕ
 walk_place walk time = place_among (length_of_axis walk) (along walk time)
@@ -94,18 +101,18 @@ abbrev pub walk_height : ℕ → ℕ
 walk_height links = walk_top (links + 1) + 36
 
 -- the link of a row
-abbrev pub link_at : Walk → ℕ → Link
-link_at walk row = slice_index_or walk.links row (record { place = 0; side = Upper })
+abbrev pub row_link : Walk → ℕ → Link
+row_link walk row = slice_index_or walk.links row (record { place = 0; side = Upper })
 
 abbrev pub walk_bound : Walk → ℕ → Difference
-walk_bound walk row = bound_at (bounds_in walk) (link_at walk row).place
+walk_bound walk row = bound_at (bounds_in walk) (row_link walk row).place
 
 abbrev pub linked_name : Walk → ℕ → BoundName
-linked_name walk row = name_in walk.base walk.ids (link_at walk row).place
+linked_name walk row = name_in walk.base walk.ids (row_link walk row).place
 
 -- `<name> upper` or `<name> lower`
 abbrev pub link_name : Walk → ℕ → List ℕ
-link_name walk row = name_text (linked_name walk row) ++ codes " " ++ side_text (link_at walk row).side
+link_name walk row = name_text (linked_name walk row) ++ codes " " ++ side_text (row_link walk row).side
 
 -- the limit that a side asks for
 abbrev pub limit_words : Side → Difference → List ℕ
@@ -117,33 +124,25 @@ abbrev pub is_duration : Difference → Bool
 is_duration bound = (bound.to == bound.from + 1) && (bound.to % 2 == 0)
 
 -- a step by its number, and by its name, cut to so many characters, if it has one
-abbrev pub numbered_name : ℕ → ℕ → List ℕ → List ℕ
-numbered_name most step name = decimal step ++ codes " " ++ cut most name
-
 abbrev pub step_words : Walk → ℕ → ℕ → List ℕ
 step_words walk most step =
-    if nat_lt (step - 1) (length walk.names) then numbered_name most step (slice_index_or walk.names (step - 1) []) else codes "step " ++ decimal step
+    if nat_lt (step - 1) (length walk.names) then decimal step ++ codes " " ++ cut most (slice_index_or walk.names (step - 1) []) else codes "step " ++ decimal step
 
 -- what a link asks: of a step how long it lasts, and else how long after the one event the other comes
-abbrev pub asked_text : Walk → ℕ → Side → Difference → List ℕ
-asked_text walk most side bound =
-    if is_duration bound then step_words walk most (step_of bound.to) ++ limit_words side bound
+abbrev pub asked_text : Walk → Side → Difference → List ℕ
+asked_text walk side bound =
+    if is_duration bound then step_words walk 24 (step_of bound.to) ++ limit_words side bound
     else event_text bound.to ++ limit_words side bound ++ codes " after " ++ event_text bound.from
 
 -- which step an event starts or ends: a line of what a browser shows
 abbrev pub event_words : Walk → ℕ → List ℕ
 event_words walk event = if event == 0 then [] else event_text event ++ codes ": " ++ step_words walk 200 (step_of event) ++ codes "\n"
 
--- what the link of a row asks, and which steps its events start or end
-abbrev pub row_asked : Walk → ℕ → ℕ → List ℕ
-row_asked walk most row = asked_text walk most (link_at walk row).side (walk_bound walk row)
-
-abbrev pub row_events : Walk → ℕ → List ℕ
-row_events walk row = event_words walk (walk_bound walk row).from ++ event_words walk (walk_bound walk row).to
-
--- these steps by their names, if they have any
+-- the steps of a row by their names, if they have any
 abbrev pub walk_title : Walk → ℕ → List ℕ
-walk_title walk row = if length walk.names == 0 then [] else codes "<title>" ++ row_events walk row ++ codes "</title>"
+walk_title walk row =
+    if length walk.names == 0 then []
+    else codes "<title>" ++ event_words walk (walk_bound walk row).from ++ event_words walk (walk_bound walk row).to ++ codes "</title>"
 
 abbrev pub name_opening : ℕ → List ℕ
 name_opening base = codes "<text class='h' x='8' y='" ++ decimal base ++ codes "'>"
@@ -153,22 +152,20 @@ words_opening base = codes "</text><text class='n' x='124' y='" ++ decimal base 
 
 -- the name of the link, and in words what it asks
 abbrev pub walk_words : Walk → ℕ → List ℕ
-walk_words walk row = name_opening (walk_top row + 15) ++ link_name walk row ++ words_opening (walk_top row + 15) ++ row_asked walk 24 row ++ codes "</text>\n"
+walk_words walk row = name_opening (walk_top row + 15) ++ link_name walk row
+    ++ words_opening (walk_top row + 15) ++ asked_text walk (row_link walk row).side (walk_bound walk row) ++ codes "</text>\n"
 
 -- what the others leave: the range of a repair from below or from above
 abbrev pub leaves_text : Side → Repair → List ℕ
 leaves_text Upper repair = printed repair.least ++ codes " or more"
 leaves_text Lower repair = printed repair.greatest ++ codes " or less"
 
-abbrev pub mend_opening : ℕ → List ℕ
-mend_opening base = codes "<text class='j' x='124' y='" ++ decimal base ++ codes "'>alone mends it: "
-
-abbrev pub mend_text : ℕ → Side → Repair → List ℕ
-mend_text row side repair = mend_opening (walk_top row + 29) ++ leaves_text side repair ++ codes "</text>\n"
-
 -- the record alone mends the conflict
 abbrev pub mends_text : ℕ → Side → SiteCounter → Repair → List ℕ
-mends_text row side id repair = if same_ids repair.id id then mend_text row side repair else []
+mends_text row side id repair =
+    if same_ids repair.id id
+    then codes "<text class='j' x='124' y='" ++ decimal (walk_top row + 29) ++ codes "'>alone mends it: " ++ leaves_text side repair ++ codes "</text>\n"
+    else []
 
 abbrev pub mending_text : ℕ → Side → List Repair → BoundName → List ℕ
 mending_text row side repairs (Plan number) = []
@@ -180,38 +177,28 @@ label_opening left right base =
     if nat_lt right left then codes "<text x='" ++ decimal (left + 8) ++ codes "' y='" ++ decimal base ++ codes "'>"
     else codes "<text class='e' x='" ++ decimal (left - 8) ++ codes "' y='" ++ decimal base ++ codes "'>"
 
-abbrev pub event_label : ℕ → ℕ → ℕ → ℕ → List ℕ
-event_label event left right base = label_opening left right base ++ event_text event ++ codes "</text>"
-
-abbrev pub dot_text : ℕ → ℕ → List ℕ
-dot_text left middle = codes "<circle class='x' cx='" ++ decimal left ++ codes "' cy='" ++ decimal middle ++ codes "' r='3'/>"
-
-abbrev pub stem_text : ℕ → ℕ → ℕ → List ℕ
-stem_text left right middle = codes "<path d='M" ++ decimal left ++ codes " " ++ decimal middle ++ codes "H" ++ decimal right ++ codes "'/>"
-
 -- an arrow, or a dot if it is shorter than its tip
 abbrev pub walk_arrow : ℕ → ℕ → ℕ → List ℕ
-walk_arrow left right middle = if nat_lt (abs_diff left right) 9 then dot_text left middle else stem_text left right middle
-
--- down to the next row
-abbrev pub drop_text : ℕ → ℕ → List ℕ
-drop_text right top = codes "M" ++ decimal right ++ codes " " ++ decimal top ++ codes "v26"
+walk_arrow left right middle =
+    if nat_lt (abs_diff left right) 9 then codes "<circle class='x' cx='" ++ decimal left ++ codes "' cy='" ++ decimal middle ++ codes "' r='3'/>"
+    else codes "<path d='M" ++ decimal left ++ codes " " ++ decimal middle ++ codes "H" ++ decimal right ++ codes "'/>"
 
 -- where a row begins: at the sum of the links above
 abbrev pub left_of : Walk → ℕ → ℕ
 left_of walk row = walk_place walk (sum_at walk row)
 
 abbrev pub row_mending : Walk → ℕ → List ℕ
-row_mending walk row = mending_text row (link_at walk row).side walk.repairs (linked_name walk row)
+row_mending walk row = mending_text row (row_link walk row).side walk.repairs (linked_name walk row)
 
 abbrev pub row_label : Walk → ℕ → List ℕ
-row_label walk row = event_label (arc_of (bounds_in walk) (link_at walk row)).from (left_of walk row) (left_of walk (row + 1)) (walk_top row + 21)
+row_label walk row = label_opening (left_of walk row) (left_of walk (row + 1)) (walk_top row + 21) ++ event_text (arc_of (bounds_in walk) (row_link walk row)).from ++ codes "</text>"
 
 abbrev pub row_arrow : Walk → ℕ → List ℕ
 row_arrow walk row = walk_arrow (left_of walk row) (left_of walk (row + 1)) (walk_top row + 17)
 
+-- down to the next row
 abbrev pub row_drop : Walk → ℕ → List ℕ
-row_drop walk row = drop_text (left_of walk (row + 1)) (walk_top row + 21)
+row_drop walk row = codes "M" ++ decimal (left_of walk (row + 1)) ++ codes " " ++ decimal (walk_top row + 21) ++ codes "v26"
 
 -- the row of a link: it begins at the sum of the links above, and ends at the sum with it
 abbrev pub walk_row : Walk → ℕ → List ℕ
@@ -221,52 +208,32 @@ walk_row walk row = codes "<g>" ++ walk_title walk row ++ walk_words walk row ++
 abbrev pub walk_drops : Walk → List ℕ
 walk_drops walk = codes "<path class='o' d='" ++ flat_map (row_drop walk) (range_with_len 0 (length walk.links)) ++ codes "'/>\n"
 
--- the line at a tick of the axis, which begins so many gaps before 0
-abbrev pub tick_time : Walk → ℕ → ℤ
-tick_time walk tick = pos (walk.gap * tick) +ℤ neg_ℤ (pos (walk.gap * walk.before))
-
-abbrev pub walk_tick : Walk → ℕ → List ℕ
-walk_tick walk tick = codes "M" ++ decimal (walk_place walk (tick_time walk tick)) ++ codes " 50V" ++ decimal (walk_top (length walk.links + 1))
-
--- a number of units, with its sign, and the unit at 0
-abbrev pub tick_text : ℕ → ℕ → ℕ → List ℕ
-tick_text gap before tick =
-    if nat_lt tick before then codes "-" ++ decimal (gap * (before - tick) / unit_of gap)
-    else decimal (gap * (tick - before) / unit_of gap) ++ (if tick == before then unit_text gap else [])
-
-abbrev pub tick_opening : ℕ → List ℕ
-tick_opening left = codes "<tspan x='" ++ decimal left ++ codes "'>"
-
-abbrev pub walk_tick_words : Walk → ℕ → List ℕ
-walk_tick_words walk tick = tick_opening (walk_place walk (tick_time walk tick)) ++ tick_text walk.gap walk.before tick ++ codes "</tspan>"
-
-abbrev pub tick_count : Walk → ℕ
-tick_count walk = walk.before + walk.after + 1
-
-abbrev pub walk_axis : Walk → List ℕ
-walk_axis walk = codes "<path class='g' d='" ++ flat_map (walk_tick walk) (range_with_len 0 (tick_count walk)) ++ codes "'/>\n<text class='s m' y='44'>"
-    ++ flat_map (walk_tick_words walk) (range_with_len 0 (tick_count walk)) ++ codes "</text>\n"
+-- the axis
+abbrev pub walk_axis : Walk → Axis
+walk_axis walk = record {
+  left = axis_left;
+  width = axis_width;
+  long = length_of_axis walk;
+  gap = walk.gap;
+  before = walk.before;
+  ticks = walk.before + walk.after + 1;
+  bottom = walk_top (length walk.links + 1);
+}
 
 -- the event at which the walk begins
 abbrev pub first_event : Walk → ℕ
-first_event walk = (arc_of (bounds_in walk) (link_at walk 0)).from
+first_event walk = (arc_of (bounds_in walk) (row_link walk 0)).from
 
 -- the sum of all links: so long before itself the first event would come
 abbrev pub last_sum : Walk → ℤ
 last_sum walk = sum_at walk (length walk.links)
 
-abbrev pub summary_opening : ℕ → List ℕ
-summary_opening count = codes "<text class='s e' x='992' y='20'>" ++ decimal count ++ codes " bounds contradict each other by "
-
 abbrev pub walk_summary : Walk → List ℕ
-walk_summary walk = summary_opening (length walk.links) ++ printed (neg_ℤ (last_sum walk)) ++ codes " s</text>\n"
+walk_summary walk = codes "<text class='s e' x='992' y='20'>" ++ decimal (length walk.links) ++ codes " bounds contradict each other by " ++ printed (neg_ℤ (last_sum walk)) ++ codes " s</text>\n"
 
 -- the first event, and that it would come before itself
-abbrev pub itself_opening : List ℕ → ℕ → List ℕ
-itself_opening event base = codes "<text class='h w' x='8' y='" ++ decimal base ++ codes "'>" ++ event ++ codes " would be "
-
 abbrev pub before_itself : List ℕ → ℤ → ℕ → List ℕ
-before_itself event sum base = itself_opening event base ++ printed (neg_ℤ sum) ++ codes " before itself</text>"
+before_itself event sum base = codes "<text class='h w' x='8' y='" ++ decimal base ++ codes "'>" ++ event ++ codes " would be " ++ printed (neg_ℤ sum) ++ codes " before itself</text>"
 
 abbrev pub span_text : ℕ → ℕ → ℕ → List ℕ
 span_text left right top = codes "<path class='c' d='M" ++ decimal left ++ codes " " ++ decimal (top + 10) ++ codes "v14M" ++ decimal right ++ codes " " ++ decimal (top + 10)
@@ -275,25 +242,22 @@ span_text left right top = codes "<path class='c' d='M" ++ decimal left ++ codes
 abbrev pub again_text : List ℕ → ℕ → ℕ → List ℕ
 again_text event left base = codes "<text class='e' x='" ++ decimal left ++ codes "' y='" ++ decimal base ++ codes "'>" ++ event ++ codes "</text>\n"
 
--- the first event again, before itself
-abbrev pub back_text : List ℕ → ℤ → ℕ → ℕ → ℕ → List ℕ
-back_text event sum left right top = before_itself event sum (top + 15) ++ span_text left right top ++ again_text event (left - 8) (top + 21)
-
--- what the rows show
-abbrev pub foot_text : List ℕ → ℕ → List ℕ
-foot_text event base = codes "<text class='s' x='8' y='" ++ decimal base ++ codes "'>From row to row: the latest time of the next event, where " ++ event ++ codes " is at 0.</text>\n"
-
 abbrev pub walk_head : Walk → List ℕ
 walk_head walk = open_text walk.title (walk_height (length walk.links)) ++ walk_style
     ++ paper_text (walk_height (length walk.links)) (walk_top 1) (walk_top (length walk.links + 1)) ++ heading_text walk.title ++ walk_summary walk
 
--- the last row, and what stands below
+-- the last row: the first event again, before itself
+abbrev pub back_text : List ℕ → ℤ → ℕ → ℕ → ℕ → List ℕ
+back_text event sum left right top = before_itself event sum (top + 15) ++ span_text left right top ++ again_text event (left - 8) (top + 21)
+
 abbrev pub last_row : Walk → List ℕ
 last_row walk = back_text (event_text (first_event walk)) (last_sum walk) (walk_place walk (last_sum walk)) (walk_place walk (pos 0)) (walk_top (length walk.links))
 
+-- what the rows show
 abbrev pub walk_foot : Walk → List ℕ
-walk_foot walk = foot_text (event_text (first_event walk)) (walk_top (length walk.links + 1) + 24)
+walk_foot walk = codes "<text class='s' x='8' y='" ++ decimal (walk_top (length walk.links + 1) + 24) ++ codes "'>From row to row: the latest time of the next event, where "
+    ++ event_text (first_event walk) ++ codes " is at 0.</text>\n"
 
 -- the picture of a conflict
 abbrev pub walk_text : Walk → List ℕ
-walk_text walk = walk_head walk ++ walk_axis walk ++ walk_drops walk ++ flat_map (walk_row walk) (range_with_len 0 (length walk.links)) ++ last_row walk ++ walk_foot walk ++ codes "</svg>\n"
+walk_text walk = walk_head walk ++ axis_text (walk_axis walk) ++ walk_drops walk ++ flat_map (walk_row walk) (range_with_len 0 (length walk.links)) ++ last_row walk ++ walk_foot walk ++ codes "</svg>\n"

@@ -35,6 +35,29 @@ const WIDEST_GAP: u64 = 25_920_000_000;
 
 const MOST_TICKS: u64 = 10;
 
+/// An axis as it is drawn.
+#[derive(Clone, Copy)]
+pub struct Axis {
+    /// Where it begins, and how wide it is.
+    pub left: u64,
+    pub width: u64,
+    /// How long it is, in milliseconds.
+    pub long: u64,
+    /// The gap between two ticks, in milliseconds.
+    pub gap: u64,
+    /// How many ticks stand before that of the time 0, and how many there are.
+    pub before: u64,
+    pub ticks: u64,
+    /// Where the lines of the ticks end.
+    pub bottom: u64,
+    ghost near: { left < 2 ^ 10 },
+    ghost narrow: { width < 2 ^ 10 },
+    ghost some: { 1 ≤ long },
+    ghost small_gap: { gap < 2 ^ 36 },
+    ghost few_before: { before < 2 ^ 14 },
+    ghost few_ticks: { ticks ≤ 2 ^ 15 },
+}
+
 /// The gap of an axis that reaches so far before the time 0 and so far after it.
 pub fn gap_of(before: u64, after: u64) -> u64
     requires before { before < 2 ^ 45 }

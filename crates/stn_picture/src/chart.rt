@@ -6,7 +6,6 @@ ghost use Rattle.stn_picture.specs.{Chart.{chart_of, seen_look}, Frame.plan_text
 
 use crate::axis::{gap_of, gaps_in};
 use crate::floors::{Drawn, overdue_of};
-use crate::frame::append_plan;
 use crate::holders::holders_in;
 use crate::look::{Chart, Look};
 use crate::tables::{axis_reach, rows_in};
@@ -25,22 +24,17 @@ pub fn chart_text<'x, A: Allocator + Copy>(
         ≡ plan_text (chart_of (seen_look look.now) (map (λ name. name.items) names.now) plan.now.source plan.now.state drawn.now.windows.items (overdue_of plan.now.source plan.now.state look.now.present drawn.now))) }
 {
     let base = plan.base();
+    let steps = base.steps();
     let live = plan.live_bounds()?;
     let done = done_events(plan)?;
-    let rows = rows_in(plan.alloc(), &drawn.windows, base.steps())?;
-    let holders = holders_in(
-        plan.alloc(),
-        &drawn.windows,
-        base.steps(),
-        base.bounds(),
-        &live,
-    )?;
+    let rows = rows_in(plan.alloc(), &drawn.windows, steps)?;
+    let holders = holders_in(plan.alloc(), &drawn.windows, steps, base.bounds(), &live)?;
     let far = axis_reach(&drawn.windows, base.events(), look.present);
     let gap = gap_of(0, far);
     let chart = Chart {
         look,
         names,
-        steps: base.steps(),
+        steps,
         windows: &drawn.windows,
         done: &done,
         rows: &rows,
@@ -50,7 +44,7 @@ pub fn chart_text<'x, A: Allocator + Copy>(
         ticks: gaps_in(gap, far),
     };
     let mut text = Vec::new(plan.alloc());
-    append_plan(&mut text, &chart)?;
+    chart.append(&mut text)?;
     Ok(text)
 }
 

@@ -1,5 +1,5 @@
 //! What is drawn of a plan that has no schedule.
-ghost use Rattle.std.specs.Prelude.{◌≡◌, ◌+◌, ◌++◌, ◌*◌, ◌<◌, ◌≤◌, ◌^◌, length, map, max, ◌+ℤ◌, pos, slice_index_or, unsigned_abs, All, IfOk};
+ghost use Rattle.std.specs.Prelude.{◌≡◌, ◌+◌, ◌++◌, ◌<◌, ◌≤◌, ◌^◌, length, map, max, ◌+ℤ◌, unsigned_abs, All, IfOk};
 ghost use Rattle.stn_net.specs.{Schedule.HasSchedule, Event.most_events};
 ghost use Rattle.stn_lift.specs.PlanSource.{base_bounds};
 ghost use Rattle.stn_conflict.specs.{Arcs.{arc_of, IsNegativeCycle}, Named.IsNamedCycle};
@@ -9,10 +9,11 @@ ghost use Rattle.stn_picture.specs.{Chart.seen_look, Picture.IsWalkPicture, Walk
 use crate::axis::{gap_of, gaps_in};
 use crate::look::Look;
 use crate::walk::Walk;
+use crate::walk_parts::sum_in;
 use std::alloc::{AllocError, Allocator};
 use stn_conflict::{Link, Side, cycle};
 use stn_net::Bound;
-use stn_questions::repairs_of;
+use stn_repairs::repairs_of;
 use stn_site::{SitePlan, bound_at};
 use stn_time::Memory;
 
@@ -52,7 +53,7 @@ fn text_along<'x, A: Allocator + Copy>(
     let ids = plan.live_ids()?;
     let sums = sums_of(plan.alloc(), base, live, links)?;
     let repairs = repairs_of(plan, links)?;
-    let (before, after) = (greatest_early(&sums), greatest_late(&sums));
+    let (before, after) = reach_of(&sums);
     let gap = gap_of(before, after);
     let walk = Walk {
         title: look.title,
@@ -115,46 +116,20 @@ fn weight_of(base: &[Bound], others: &[Bound], link: Link) -> i64
     }
 }
 
-fn greatest_early(sums: &[i64]) -> u64
+// How far the sums lie before 0, and after it.
+fn reach_of(sums: &[i64]) -> (u64, u64)
     requires { All (λ sum. unsigned_abs sum < 2 ^ 45) sums.now }
-    ensures value { result ≡ greatest early sums.now }
-    ensures small { result < 2 ^ 45 }
+    ensures before { result.0 ≡ greatest early sums.now }
+    ensures after { result.1 ≡ greatest late sums.now }
+    ensures small { (result.0 < 2 ^ 45) × (result.1 < 2 ^ 45) }
 {
-    let mut far = 0;
+    let (mut before, mut after) = (0, 0);
     for place in 0..sums.len() {
-        far = larger(far, early(sum_in(sums, place)));
+        let sum = sum_in(sums, place);
+        before = early(sum).max(before);
+        after = late(sum).max(after);
     }
-    far
-}
-
-fn greatest_late(sums: &[i64]) -> u64
-    requires { All (λ sum. unsigned_abs sum < 2 ^ 45) sums.now }
-    ensures value { result ≡ greatest late sums.now }
-    ensures small { result < 2 ^ 45 }
-{
-    let mut far = 0;
-    for place in 0..sums.len() {
-        far = larger(far, late(sum_in(sums, place)));
-    }
-    far
-}
-
-// The sum at a place.
-fn sum_in(sums: &[i64], place: usize) -> i64
-    requires { All (λ sum. unsigned_abs sum < 2 ^ 45) sums.now }
-    ensures value { result ≡ slice_index_or sums.now place (pos 0) }
-    ensures small { unsigned_abs result < 2 ^ 45 }
-{
-    match sums.get(place) {
-        Some(sum) => *sum,
-        None => 0,
-    }
-}
-
-fn larger(one: u64, other: u64) -> u64
-    ensures { result ≡ max one other }
-{
-    if one < other { other } else { one }
+    (before, after)
 }
 
 // How far a time lies before 0.

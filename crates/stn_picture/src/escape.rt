@@ -8,7 +8,7 @@ use stn_time::Memory;
 // After an error, a part of a text may stand in the output.
 
 /// Appends a text.
-pub fn append_shown<B: Allocator>(out: &mut Vec<u8, B>, text: &[u8]) -> Result<(), Memory>
+pub fn append_shown<A: Allocator>(out: &mut Vec<u8, A>, text: &[u8]) -> Result<(), Memory>
     ensures { OnOk result (out.new.items ≡ out.old.items ++ shown text.now) }
 {
     for byte in text {
@@ -17,22 +17,16 @@ pub fn append_shown<B: Allocator>(out: &mut Vec<u8, B>, text: &[u8]) -> Result<(
     Ok(())
 }
 
-fn append_byte<B: Allocator>(out: &mut Vec<u8, B>, byte: u8) -> Result<(), Memory>
+fn append_byte<A: Allocator>(out: &mut Vec<u8, A>, byte: u8) -> Result<(), Memory>
     ensures { OnOk result (out.new.items ≡ out.old.items ++ escaped byte) }
 {
-    if byte == b'&' {
-        out.extend_from_slice(b"&amp;")
-    } else if byte == b'<' {
-        out.extend_from_slice(b"&lt;")
-    } else if byte == b'>' {
-        out.extend_from_slice(b"&gt;")
-    } else if byte == b'"' {
-        out.extend_from_slice(b"&quot;")
-    } else if is_printed(byte) {
-        out.push(byte)?;
-        Ok(())
-    } else {
-        out.extend_from_slice(b"?")
+    match byte {
+        b'&' => out.extend_from_slice(b"&amp;"),
+        b'<' => out.extend_from_slice(b"&lt;"),
+        b'>' => out.extend_from_slice(b"&gt;"),
+        b'"' => out.extend_from_slice(b"&quot;"),
+        _ if is_printed(byte) => Ok(out.push(byte)?),
+        _ => out.extend_from_slice(b"?"),
     }
 }
 
@@ -44,8 +38,8 @@ fn is_printed(byte: u8) -> bool
 }
 
 /// Appends a text if it has at most so many bytes, and else as many but one and an ellipsis.
-pub fn append_cut<B: Allocator>(
-    out: &mut Vec<u8, B>,
+pub fn append_cut<A: Allocator>(
+    out: &mut Vec<u8, A>,
     most: usize,
     text: &[u8],
 ) -> Result<(), Memory>

@@ -1,17 +1,15 @@
 //! The windows that are drawn.
-ghost use Rattle.std.specs.Prelude.{◌≡◌, ℕ, ◌+◌, ◌≤◌, ◌++◌, List, length, not, ◌&&◌, int_lt, All, IfOk, OnOk, MatchOption};
-ghost use Rattle.stn_net.specs.{Difference.{Difference, NamesEvents}, Event.most_events, Schedule.HasSchedule};
+ghost use Rattle.std.specs.Prelude.{◌≡◌, ◌≤◌, ◌++◌, not, ◌&&◌, int_lt, All, IfOk, OnOk, MatchOption};
+ghost use Rattle.stn_net.specs.{Difference.NamesEvents, Event.most_events, Schedule.HasSchedule};
 ghost use Rattle.stn_lift.specs.PlanSource.{events_of};
-ghost use Rattle.stn_conflict.specs.Distances.{AreDistancesFrom, AreDistancesTo};
 ghost use Rattle.stn_site.specs.{Bounds.{all_bounds, live_bounds}, Windows.{window_at, AreWindows}};
 ghost use Rattle.stn_picture.specs.{Chart.{floor, floors, overdue_event, AreDrawn}, Seen.{present_floor, overdue_of}};
 
 use crate::look::Look;
 use crate::tables::window_at;
 use std::alloc::Allocator;
-use stn_conflict::{Distances, distances};
 use stn_net::{Bound, Event};
-use stn_site::{EVENT_FLAGS, SitePlan};
+use stn_site::{SitePlan, windows_with};
 use stn_time::{HORIZON, Memory, Ms};
 
 /// The windows that are drawn, of the origin and of all events, and whether what is left comes too late.
@@ -76,13 +74,7 @@ fn windows_from<A: Allocator + Copy>(
         (¬ HasSchedule (all_bounds plan.now.source plan.now.state ++ floors plan.now.state (events_of plan.now.source) now))
         (λ windows. AreWindows (all_bounds plan.now.source plan.now.state ++ floors plan.now.state (events_of plan.now.source) now) (events_of plan.now.source) windows.items)) }
 {
-    let extra = live_and_floors(plan, now)?;
-    let base = plan.base();
-    let origin = Event::origin();
-    match distances(plan.alloc(), base.events(), base.bounds(), &extra, origin)? {
-        Some(found) => Ok(Some(windows_of(plan.alloc(), &found)?)),
-        None => Ok(None),
-    }
+    windows_with(plan.alloc(), plan.base(), &live_and_floors(plan, now)?)
 }
 
 // The bounds of the live records, and then that what is left comes now or later.
@@ -140,22 +132,6 @@ fn floor(events: u16, event: u16, now: Ms) -> Bound
     let event = Event::new(event).unwrap();
     let horizon = Ms::new(HORIZON).unwrap();
     Bound::new(events, Event::origin(), event, now, horizon).unwrap()
-}
-
-// The windows of the origin and of so many events, in their order, by their distances from the origin and to it.
-fn windows_of<A: Allocator + Copy>(
-    alloc: A,
-    origin: &Distances<A>,
-) -> Result<Vec<(Ms, Ms), A>, Memory>
-    requires { length origin.now.to.items ≡ length origin.now.from.items }
-    ensures { (bounds : List Difference) (events : ℕ) → AreDistancesFrom bounds events 0 origin.now.from.items → AreDistancesTo bounds events 0 origin.now.to.items
-        → IfOk result (λ windows. AreWindows bounds events windows.items) }
-{
-    let mut windows = Vec::new(alloc);
-    for event in 0..origin.from.len() {
-        windows.push((-origin.to[event], origin.from[event]))?;
-    }
-    Ok(windows)
 }
 
 // The first event that is left and whose latest time is past; 0 where there is none.

@@ -1,7 +1,7 @@
 //! The legend of what occurs.
 ghost use Rattle.std.specs.Prelude.{◌≡◌, ◌+◌, ◌++◌, ◌≤◌, ◌<◌, ◌^◌, OnOk};
 ghost use Rattle.stn_picture.specs.Frame as frame;
-ghost use Rattle.stn_picture.specs.{Frame.{entry_text, sample_text, meaning_text}, Seen.seen_chart};
+ghost use Rattle.stn_picture.specs.{Frame.{sample_text, meaning_text}, Seen.seen_chart};
 
 use crate::look::Chart;
 use crate::memory::in_memory;
@@ -23,70 +23,55 @@ const PARTS: [Part; 8] = [
     Part::Open,
 ];
 
-/// Appends an entry for each part that occurs.
-pub fn append_legend<A: Allocator, B: Allocator>(
-    out: &mut Vec<u8, B>,
-    chart: &Chart<'_, '_, A>,
-) -> Result<(), Memory>
-    ensures { OnOk result (out.new.items ≡ out.old.items ++ frame.legend_text (seen_chart chart.now)) }
-{
-    let base = row_top(u64::from(chart.steps)) + 44;
-    let mut left = LEGEND_LEFT;
-    for part in PARTS {
-        append_entry_at(out, chart, base, left, part)?;
-        left = left_after(chart, left, part);
-    }
-    Ok(())
-}
-
-// Appends the entry of a part, where it occurs.
-fn append_entry_at<A: Allocator, B: Allocator>(
-    out: &mut Vec<u8, B>,
-    chart: &Chart<'_, '_, A>,
-    base: u64,
-    left: u64,
-    part: Part,
-) -> Result<(), Memory>
-    requires left { left < 2 ^ 40 }
-    requires base { 12 ≤ base }
-    ensures { OnOk result (out.new.items ≡ out.old.items ++ frame.entry_at (seen_chart chart.now) base left part) }
-{
-    if chart.count_of(part) > 0 {
-        append_entry(out, part, left, base)
-    } else {
+impl<'a, 'b, A: Allocator> Chart<'a, 'b, A> {
+    /// Appends an entry of the legend for each part that occurs.
+    pub fn append_legend(&self, out: &mut Vec<u8, A>) -> Result<(), Memory>
+        ensures { OnOk result (out.new.items ≡ out.old.items ++ frame.legend_text (seen_chart self.now)) }
+    {
+        let base = row_top(u64::from(self.steps)) + 44;
+        let mut left = LEGEND_LEFT;
+        for part in PARTS {
+            self.append_entry_at(out, base, left, part)?;
+            left = self.left_after(left, part);
+        }
         Ok(())
     }
-}
 
-// Where the next entry begins.
-fn left_after<A: Allocator>(chart: &Chart<'_, '_, A>, left: u64, part: Part) -> u64
-    requires { left < 2 ^ 40 }
-    ensures value { result ≡ frame.left_after (seen_chart chart.now) left part }
-    ensures near { result ≤ left + 120 }
-{
-    if chart.count_of(part) > 0 {
-        left + LEGEND_APART
-    } else {
-        left
+    // Appends the entry of a part, where it occurs.
+    fn append_entry_at(
+        &self,
+        out: &mut Vec<u8, A>,
+        base: u64,
+        left: u64,
+        part: Part,
+    ) -> Result<(), Memory>
+        requires left { left < 2 ^ 40 }
+        requires base { 12 ≤ base }
+        ensures { OnOk result (out.new.items ≡ out.old.items ++ frame.entry_at (seen_chart self.now) base left part) }
+    {
+        if self.count_of(part) == 0 {
+            return Ok(());
+        }
+        append_sample(out, part, left, base)?;
+        append_meaning(out, part, left + 24, base)
+    }
+
+    // Where the next entry begins.
+    fn left_after(&self, left: u64, part: Part) -> u64
+        requires { left < 2 ^ 40 }
+        ensures value { result ≡ frame.left_after (seen_chart self.now) left part }
+        ensures near { result ≤ left + 120 }
+    {
+        if self.count_of(part) > 0 {
+            left + LEGEND_APART
+        } else {
+            left
+        }
     }
 }
 
-fn append_entry<B: Allocator>(
-    out: &mut Vec<u8, B>,
-    part: Part,
-    left: u64,
-    base: u64,
-) -> Result<(), Memory>
-    requires left { left < 2 ^ 40 }
-    requires base { 12 ≤ base }
-    ensures { OnOk result (out.new.items ≡ out.old.items ++ entry_text part left base) }
-{
-    append_sample(out, part, left, base)?;
-    append_meaning(out, part, left + 24, base)
-}
-
-fn append_sample<B: Allocator>(
-    out: &mut Vec<u8, B>,
+fn append_sample<A: Allocator>(
+    out: &mut Vec<u8, A>,
     part: Part,
     left: u64,
     base: u64,
@@ -107,8 +92,8 @@ fn append_sample<B: Allocator>(
     }
 }
 
-fn append_meaning<B: Allocator>(
-    out: &mut Vec<u8, B>,
+fn append_meaning<A: Allocator>(
+    out: &mut Vec<u8, A>,
     part: Part,
     left: u64,
     base: u64,

@@ -26,6 +26,7 @@ mod rows;
 mod seconds;
 mod style;
 mod tables;
+mod ticks;
 mod walk;
 mod walk_frame;
 mod walk_parts;

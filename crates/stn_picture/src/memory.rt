@@ -8,8 +8,5 @@ use stn_time::Memory;
 pub fn in_memory(written: io::Result<()>) -> Result<(), Memory>
     ensures { MatchResult result (λ _. IsOk written) (λ _. IsErr written) }
 {
-    match written {
-        Ok(()) => Ok(()),
-        Err(_) => Err(AllocError),
-    }
+    written.map_err(|_| AllocError)
 }

@@ -57,10 +57,7 @@ impl<'a, 'b, A: Allocator> Chart<'a, 'b, A> {
     fn is_recorded(&self, event: usize) -> bool
         ensures { result ≡ is.is_recorded (seen_chart self.now) event }
     {
-        match self.done.get(event) {
-            Some(done) => *done,
-            None => false,
-        }
+        self.done.get(event).copied().unwrap_or(false)
     }
 
     pub fn is_begun(&self, step: u16) -> bool
@@ -89,8 +86,8 @@ impl<'a, 'b, A: Allocator> Chart<'a, 'b, A> {
         self.soonest(start) == self.latest(start) && self.soonest(end) == self.latest(end)
     }
 
-    // Where the axis ends, in milliseconds.
-    fn end_of_axis(&self) -> u64
+    /// Where the axis ends, in milliseconds.
+    pub fn end_of_axis(&self) -> u64
         ensures value { result ≡ is.end_of_axis (seen_chart self.now) }
         ensures some { 1 ≤ result }
         ensures small { result < 2 ^ 50 }
@@ -160,9 +157,7 @@ impl<'a, 'b, A: Allocator> Chart<'a, 'b, A> {
     {
         let mut count = 0;
         for before in 0..self.steps {
-            if self.shows(part, before + 1) {
-                count += 1;
-            }
+            count += u16::from(self.shows(part, before + 1));
         }
         count
     }
@@ -189,10 +184,7 @@ impl<'a, 'b, A: Allocator> Chart<'a, 'b, A> {
         ensures small { result < 2 ^ 45 }
         ensures below { 54 ≤ result }
     {
-        let row = match self.rows.get(usize::from(step)) {
-            Some(row) => *row,
-            None => 0,
-        };
+        let row = self.rows.get(usize::from(step)).copied().unwrap_or(0);
         row_top(u64::from(row))
     }
 
@@ -200,10 +192,7 @@ impl<'a, 'b, A: Allocator> Chart<'a, 'b, A> {
     pub fn holder_of(&self, step: u16) -> u16
         ensures { result ≡ is.holder_of (seen_chart self.now) step }
     {
-        match self.holders.get(usize::from(step)) {
-            Some(holder) => *holder,
-            None => 0,
-        }
+        self.holders.get(usize::from(step)).copied().unwrap_or(0)
     }
 }
 

@@ -5,9 +5,11 @@ ghost use Rattle.stn_picture.specs.Places.{place_on, row_top, height_of};
 /// Where the axis ends.
 pub const LINE_RIGHT: u64 = LINE_LEFT + LINE_WIDTH;
 
-const LINE_LEFT: u64 = 344;
+/// Where it begins.
+pub const LINE_LEFT: u64 = 344;
 
-const LINE_WIDTH: u64 = 540;
+/// How long it is.
+pub const LINE_WIDTH: u64 = 540;
 
 pub const ROW_HEIGHT: u64 = 24;
 

@@ -1,7 +1,7 @@
 //! The rows of the steps.
 ghost use Rattle.std.specs.Prelude.{◌≡◌, ◌++◌, ◌≤◌, ◌<◌, ◌^◌, OnOk};
 ghost use Rattle.stn_picture.specs.Rows as row;
-ghost use Rattle.stn_picture.specs.{Rows.{bar_text, arrow_path, down_text, up_text}, Seen.seen_chart};
+ghost use Rattle.stn_picture.specs.{Rows.{bar_text, arrow_path}, Seen.seen_chart};
 
 use crate::escape::{append_cut, append_shown};
 use crate::look::Chart;
@@ -12,13 +12,13 @@ use crate::seconds::Seconds;
 use crate::tables::{end_of, start_of, window_at};
 use std::alloc::Allocator;
 use std::io::Write;
-use stn_time::{Memory, Ms};
+use stn_time::Memory;
 
 // After an error, a part of a text may stand in the output.
 
 impl<'a, 'b, A: Allocator> Chart<'a, 'b, A> {
     /// Appends the row of a step.
-    pub fn append_row<B: Allocator>(&self, out: &mut Vec<u8, B>, step: u16) -> Result<(), Memory>
+    pub fn append_row(&self, out: &mut Vec<u8, A>, step: u16) -> Result<(), Memory>
         ensures { OnOk result (out.new.items ≡ out.old.items ++ row.row_text (seen_chart self.now) step) }
     {
         self.append_title(out, step)?;
@@ -32,7 +32,7 @@ impl<'a, 'b, A: Allocator> Chart<'a, 'b, A> {
     }
 
     // Appends what a browser shows under the mouse.
-    fn append_title<B: Allocator>(&self, out: &mut Vec<u8, B>, step: u16) -> Result<(), Memory>
+    fn append_title(&self, out: &mut Vec<u8, A>, step: u16) -> Result<(), Memory>
         ensures { OnOk result (out.new.items ≡ out.old.items ++ row.title_text (seen_chart self.now) step) }
     {
         in_memory(write!(out, "<g><title>{step} "))?;
@@ -45,7 +45,7 @@ impl<'a, 'b, A: Allocator> Chart<'a, 'b, A> {
     }
 
     // Appends the whole name of a step, or its number.
-    fn append_whole_name<B: Allocator>(&self, out: &mut Vec<u8, B>, step: u16) -> Result<(), Memory>
+    fn append_whole_name(&self, out: &mut Vec<u8, A>, step: u16) -> Result<(), Memory>
         ensures { OnOk result (out.new.items ≡ out.old.items ++ row.whole_name (seen_chart self.now) step) }
     {
         match self.names.get(usize::from(step).saturating_sub(1)) {
@@ -55,7 +55,7 @@ impl<'a, 'b, A: Allocator> Chart<'a, 'b, A> {
     }
 
     // Appends the name of a step, cut where it is long, or its number.
-    fn append_short_name<B: Allocator>(&self, out: &mut Vec<u8, B>, step: u16) -> Result<(), Memory>
+    fn append_short_name(&self, out: &mut Vec<u8, A>, step: u16) -> Result<(), Memory>
         ensures { OnOk result (out.new.items ≡ out.old.items ++ row.short_name (seen_chart self.now) step) }
     {
         match self.names.get(usize::from(step).saturating_sub(1)) {
@@ -65,7 +65,7 @@ impl<'a, 'b, A: Allocator> Chart<'a, 'b, A> {
     }
 
     // Appends the window of an event in words.
-    fn append_window<B: Allocator>(&self, out: &mut Vec<u8, B>, event: usize) -> Result<(), Memory>
+    fn append_window(&self, out: &mut Vec<u8, A>, event: usize) -> Result<(), Memory>
         ensures { OnOk result (out.new.items ≡ out.old.items ++ row.window_text (seen_chart self.now) event) }
     {
         let (soonest, latest) = window_at(self.windows, event);
@@ -74,8 +74,7 @@ impl<'a, 'b, A: Allocator> Chart<'a, 'b, A> {
             out.extend_from_slice(b" or later")
         } else {
             out.extend_from_slice(b" to ")?;
-            latest.print(out)?;
-            Ok(())
+            latest.print(out)
         }
     }
 
@@ -95,16 +94,20 @@ impl<'a, 'b, A: Allocator> Chart<'a, 'b, A> {
     }
 
     // Appends the number and the name of a step.
-    fn append_label<B: Allocator>(&self, out: &mut Vec<u8, B>, step: u16) -> Result<(), Memory>
+    fn append_label(&self, out: &mut Vec<u8, A>, step: u16) -> Result<(), Memory>
         ensures { OnOk result (out.new.items ≡ out.old.items ++ row.label_text (seen_chart self.now) step) }
     {
-        append_number(out, self.words_base(step), step)?;
+        let base = self.words_base(step);
+        in_memory(write!(
+            out,
+            "<text class='s e' x='24' y='{base}'>{step}</text><text class='n' x='32' y='{base}'>"
+        ))?;
         self.append_short_name(out, step)?;
         out.extend_from_slice(b"</text>\n")
     }
 
     // Appends the class of the solid part of a step.
-    fn append_class<B: Allocator>(&self, out: &mut Vec<u8, B>, step: u16) -> Result<(), Memory>
+    fn append_class(&self, out: &mut Vec<u8, A>, step: u16) -> Result<(), Memory>
         ensures { OnOk result (out.new.items ≡ out.old.items ++ row.class_of (seen_chart self.now) step) }
     {
         let owner = self.owner_of(step);
@@ -123,23 +126,20 @@ impl<'a, 'b, A: Allocator> Chart<'a, 'b, A> {
     }
 
     // Appends the solid part, from the soonest start to the soonest end.
-    fn append_solid<B: Allocator>(&self, out: &mut Vec<u8, B>, step: u16) -> Result<(), Memory>
+    fn append_solid(&self, out: &mut Vec<u8, A>, step: u16) -> Result<(), Memory>
         ensures { OnOk result (out.new.items ≡ out.old.items ++ row.solid_text (seen_chart self.now) step) }
     {
         let left = self.place_of(self.soonest(start_of(step)));
         let right = self.place_of(self.soonest(end_of(step)));
+        let width = LEAST_WIDTH.max(right.saturating_sub(left));
+        let middle = self.middle_of(step);
         out.extend_from_slice(b"<path class='")?;
         self.append_class(out, step)?;
-        append_line(
-            out,
-            left,
-            self.middle_of(step),
-            LEAST_WIDTH.max(right.saturating_sub(left)),
-        )
+        in_memory(write!(out, "' d='M{left} {middle}h{width}'/>"))
     }
 
     // Appends what stands behind it.
-    fn append_rest<B: Allocator>(&self, out: &mut Vec<u8, B>, step: u16) -> Result<(), Memory>
+    fn append_rest(&self, out: &mut Vec<u8, A>, step: u16) -> Result<(), Memory>
         ensures { OnOk result (out.new.items ≡ out.old.items ++ row.rest_text (seen_chart self.now) step) }
     {
         if self.is_open(end_of(step)) {
@@ -151,7 +151,7 @@ impl<'a, 'b, A: Allocator> Chart<'a, 'b, A> {
     }
 
     // Appends the part of a step without a latest time, from the soonest end to the end of the axis.
-    fn append_open<B: Allocator>(&self, out: &mut Vec<u8, B>, step: u16) -> Result<(), Memory>
+    fn append_open(&self, out: &mut Vec<u8, A>, step: u16) -> Result<(), Memory>
         ensures { OnOk result (out.new.items ≡ out.old.items ++ row.open_bar_text (seen_chart self.now) step) }
     {
         let left = self.place_of(self.soonest(end_of(step)));
@@ -164,7 +164,7 @@ impl<'a, 'b, A: Allocator> Chart<'a, 'b, A> {
     }
 
     // Appends the part from the soonest end to the latest.
-    fn append_lasting<B: Allocator>(&self, out: &mut Vec<u8, B>, step: u16) -> Result<(), Memory>
+    fn append_lasting(&self, out: &mut Vec<u8, A>, step: u16) -> Result<(), Memory>
         ensures { OnOk result (out.new.items ≡ out.old.items ++ row.lasting_text (seen_chart self.now) step) }
     {
         if !self.may_last(step) {
@@ -209,20 +209,20 @@ impl<'a, 'b, A: Allocator> Chart<'a, 'b, A> {
     }
 
     // Appends the latest time.
-    fn append_time<B: Allocator>(&self, out: &mut Vec<u8, B>, step: u16) -> Result<(), Memory>
+    fn append_time(&self, out: &mut Vec<u8, A>, step: u16) -> Result<(), Memory>
         ensures { OnOk result (out.new.items ≡ out.old.items ++ row.time_text (seen_chart self.now) step) }
     {
         let latest = window_at(self.windows, end_of(step)).1;
+        let (class, time) = (self.time_class(step), Seconds(latest));
         let (left, base) = (self.behind(step), self.words_base(step));
-        append_moment(out, self.time_class(step), left, base, latest)
+        in_memory(write!(
+            out,
+            "<text class='{class}' x='{left}' y='{base}'>{time}</text>"
+        ))
     }
 
     // Appends the mark at the latest start.
-    fn append_latest_mark<B: Allocator>(
-        &self,
-        out: &mut Vec<u8, B>,
-        step: u16,
-    ) -> Result<(), Memory>
+    fn append_latest_mark(&self, out: &mut Vec<u8, A>, step: u16) -> Result<(), Memory>
         ensures { OnOk result (out.new.items ≡ out.old.items ++ row.latest_mark (seen_chart self.now) step) }
     {
         if !self.may_wait(step) {
@@ -233,18 +233,18 @@ impl<'a, 'b, A: Allocator> Chart<'a, 'b, A> {
     }
 
     // Appends the number of the site that owns the step.
-    fn append_owner<B: Allocator>(&self, out: &mut Vec<u8, B>, step: u16) -> Result<(), Memory>
+    fn append_owner(&self, out: &mut Vec<u8, A>, step: u16) -> Result<(), Memory>
         ensures { OnOk result (out.new.items ≡ out.old.items ++ row.owner_text (seen_chart self.now) step) }
     {
-        if self.owner_of(step) == 0 {
-            Ok(())
-        } else {
-            append_edge(out, self.words_base(step), self.owner_of(step))
+        let (owner, base) = (self.owner_of(step), self.words_base(step));
+        if owner == 0 {
+            return Ok(());
         }
+        in_memory(write!(out, "<text class='s e' x='992' y='{base}'>{owner}</text>"))
     }
 
     // Appends the arrow to the start of a step that has not begun, from the event that holds it.
-    fn append_arrow<B: Allocator>(&self, out: &mut Vec<u8, B>, step: u16) -> Result<(), Memory>
+    fn append_arrow(&self, out: &mut Vec<u8, A>, step: u16) -> Result<(), Memory>
         ensures { OnOk result (out.new.items ≡ out.old.items ++ row.arrow_text (seen_chart self.now) step) }
     {
         let holder = self.holder_of(step);
@@ -264,43 +264,9 @@ impl<'a, 'b, A: Allocator> Chart<'a, 'b, A> {
     }
 }
 
-// Appends a number, and what begins the name behind it.
-fn append_number<B: Allocator>(out: &mut Vec<u8, B>, base: u64, number: u16) -> Result<(), Memory>
-    ensures { OnOk result (out.new.items ≡ out.old.items ++ row.number_text base number) }
-{
-    in_memory(write!(
-        out,
-        "<text class='s e' x='24' y='{base}'>{number}</text><text class='n' x='32' y='{base}'>"
-    ))
-}
-
-// Appends a time.
-fn append_moment<B: Allocator>(
-    out: &mut Vec<u8, B>,
-    class: &str,
-    left: u64,
-    base: u64,
-    time: Ms,
-) -> Result<(), Memory>
-    ensures { OnOk result (out.new.items ≡ out.old.items ++ row.moment_text class.now left base time) }
-{
-    let time = Seconds(time);
-    in_memory(write!(
-        out,
-        "<text class='{class}' x='{left}' y='{base}'>{time}</text>"
-    ))
-}
-
-// Appends the number of a site.
-fn append_edge<B: Allocator>(out: &mut Vec<u8, B>, base: u64, site: u16) -> Result<(), Memory>
-    ensures { OnOk result (out.new.items ≡ out.old.items ++ row.edge_text base site) }
-{
-    in_memory(write!(out, "<text class='s e' x='992' y='{base}'>{site}</text>"))
-}
-
 // Appends an arrow from one row to the other.
-fn append_arrow<B: Allocator>(
-    out: &mut Vec<u8, B>,
+fn append_arrow<A: Allocator>(
+    out: &mut Vec<u8, A>,
     left: u64,
     top: u64,
     right: u64,
@@ -311,42 +277,32 @@ fn append_arrow<B: Allocator>(
     ensures { OnOk result (out.new.items ≡ out.old.items ++ arrow_path left top right other) }
 {
     if top < other {
-        append_down(out, left, top + 18, right, other)
+        append_along(out, left, top + 18, right, other, "v6")
     } else {
-        append_up(out, left, top + 6, right, other + ROW_HEIGHT)
+        append_along(out, left, top + 6, right, other + ROW_HEIGHT, "v-6")
     }
 }
 
-fn append_down<B: Allocator>(
-    out: &mut Vec<u8, B>,
+// Appends an arrow down or up, and to its tip.
+fn append_along<A: Allocator>(
+    out: &mut Vec<u8, A>,
     left: u64,
-    top: u64,
+    begin: u64,
     right: u64,
-    other: u64,
+    end: u64,
+    tip: &str,
 ) -> Result<(), Memory>
-    ensures { OnOk result (out.new.items ≡ out.old.items ++ down_text left top right other) }
-{
-    in_memory(write!(out, "<path class='v' d='M{left} {top}V{other}H{right}v6'/>"))
-}
-
-fn append_up<B: Allocator>(
-    out: &mut Vec<u8, B>,
-    left: u64,
-    top: u64,
-    right: u64,
-    other: u64,
-) -> Result<(), Memory>
-    ensures { OnOk result (out.new.items ≡ out.old.items ++ up_text left top right other) }
+    ensures { OnOk result (out.new.items ≡ out.old.items ++ row.arrow_along left begin right end tip.now) }
 {
     in_memory(write!(
         out,
-        "<path class='v' d='M{left} {top}V{other}H{right}v-6'/>"
+        "<path class='v' d='M{left} {begin}V{end}H{right}{tip}'/>"
     ))
 }
 
 /// Appends a bar of a class.
-pub fn append_bar<B: Allocator>(
-    out: &mut Vec<u8, B>,
+pub fn append_bar<A: Allocator>(
+    out: &mut Vec<u8, A>,
     class: &str,
     left: u64,
     middle: u64,
@@ -357,21 +313,9 @@ pub fn append_bar<B: Allocator>(
     in_memory(write!(out, "<path class='{class}' d='M{left} {middle}h{width}'/>"))
 }
 
-// Appends what follows the class of a bar.
-fn append_line<B: Allocator>(
-    out: &mut Vec<u8, B>,
-    left: u64,
-    middle: u64,
-    width: u64,
-) -> Result<(), Memory>
-    ensures { OnOk result (out.new.items ≡ out.old.items ++ row.bar_line_text left middle width) }
-{
-    in_memory(write!(out, "' d='M{left} {middle}h{width}'/>"))
-}
-
 /// Appends a bar that fades.
-pub fn append_fading<B: Allocator>(
-    out: &mut Vec<u8, B>,
+pub fn append_fading<A: Allocator>(
+    out: &mut Vec<u8, A>,
     left: u64,
     top: u64,
     width: u64,
@@ -385,8 +329,8 @@ pub fn append_fading<B: Allocator>(
 }
 
 /// Appends the mark of a latest start, of a class.
-pub fn append_mark<B: Allocator>(
-    out: &mut Vec<u8, B>,
+pub fn append_mark<A: Allocator>(
+    out: &mut Vec<u8, A>,
     class: &str,
     left: u64,
     top: u64,

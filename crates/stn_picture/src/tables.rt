@@ -27,10 +27,8 @@ pub fn end_of(step: u16) -> usize
 pub fn window_at(windows: &[(Ms, Ms)], event: usize) -> (Ms, Ms)
     ensures { result ≡ window_at windows.now event }
 {
-    match windows.get(event) {
-        Some(window) => *window,
-        None => (Ms::new(0).unwrap(), Ms::new(0).unwrap()),
-    }
+    let none = Ms::new(0).unwrap();
+    windows.get(event).copied().unwrap_or((none, none))
 }
 
 /// The soonest time of an event, in milliseconds.
@@ -72,9 +70,7 @@ fn row_in(windows: &[(Ms, Ms)], steps: u16, step: u16) -> u16
 {
     let mut row = 0;
     for before in 0..steps {
-        if is_above(windows, step, before + 1) {
-            row += 1;
-        }
+        row += u16::from(is_above(windows, step, before + 1));
     }
     row
 }
@@ -101,13 +97,7 @@ pub fn moment_of(now: Option<Ms>) -> u64
     ensures small { result < 2 ^ 40 }
 {
     match now {
-        Some(now) => {
-            if now.get() < 0 {
-                0
-            } else {
-                now.get().unsigned_abs()
-            }
-        }
+        Some(now) => now.get().max(0).unsigned_abs(),
         None => 0,
     }
 }

@@ -3,8 +3,8 @@ ghost use Rattle.std.specs.Prelude.{◌≡◌, ◌+◌, ◌<◌, ◌≤◌, ◌^
 use std::alloc::Allocator;
 use stn_conflict::Link;
 use stn_net::Bound;
-use stn_questions::Repair;
 use stn_records::Id;
+use stn_repairs::Repair;
 
 /// What is drawn of a conflict.
 #[derive(Drop)]

@@ -1,5 +1,5 @@
 //! What is true of the rows of a conflict.
-ghost use Rattle.std.specs.Prelude.{◌≡◌, ◌<◌, ◌≤◌, ◌^◌, length, unsigned_abs};
+ghost use Rattle.std.specs.Prelude.{◌≡◌, ◌<◌, ◌≤◌, ◌^◌, length, pos, slice_index_or, unsigned_abs, All};
 ghost use Rattle.stn_conflict.specs.Arcs.{arc_of};
 ghost use Rattle.stn_picture.specs.Walk as is;
 ghost use Rattle.stn_picture.specs.WalkSeen.{seen_walk};
@@ -10,16 +10,18 @@ use stn_conflict::{Link, Side};
 use stn_net::Bound;
 use stn_site::{BoundName, bound_at, bound_name};
 
+/// Where the axis begins, and how wide it is.
+pub const AXIS_LEFT: u64 = 500;
+
+pub const AXIS_WIDTH: u64 = 440;
+
 impl<'a, 'b, A: Allocator> Walk<'a, 'b, A> {
     /// Where a row begins.
     pub fn sum_at(&self, row: usize) -> i64
         ensures value { result ≡ is.sum_at (seen_walk self.now) row }
         ensures small { unsigned_abs result < 2 ^ 45 }
     {
-        match self.sums.get(row) {
-            Some(sum) => *sum,
-            None => 0,
-        }
+        sum_in(self.sums, row)
     }
 
     // How far behind the beginning of the axis a time stands.
@@ -32,8 +34,8 @@ impl<'a, 'b, A: Allocator> Walk<'a, 'b, A> {
         (time + shift).unsigned_abs()
     }
 
-    // How long the axis is.
-    fn length_of_axis(&self) -> u64
+    /// How long the axis is.
+    pub fn length_of_axis(&self) -> u64
         ensures value { result ≡ is.length_of_axis (seen_walk self.now) }
         ensures some { 1 ≤ result }
     {
@@ -51,16 +53,13 @@ impl<'a, 'b, A: Allocator> Walk<'a, 'b, A> {
     }
 
     /// The link of a row.
-    pub fn link_at(&self, row: usize) -> Link
-        ensures { result ≡ is.link_at (seen_walk self.now) row }
+    pub fn row_link(&self, row: usize) -> Link
+        ensures { result ≡ is.row_link (seen_walk self.now) row }
     {
-        match self.links.get(row) {
-            Some(link) => *link,
-            None => Link {
-                place: 0,
-                side: Side::Upper,
-            },
-        }
+        self.links.get(row).copied().unwrap_or(Link {
+            place: 0,
+            side: Side::Upper,
+        })
     }
 
     /// The bound of a row.
@@ -82,7 +81,7 @@ impl<'a, 'b, A: Allocator> Walk<'a, 'b, A> {
     /// The event at which the link of a row begins.
     pub fn begins_at(&self, row: usize) -> u16
         requires { row < length self.now.links.now }
-        ensures { result ≡ (arc_of (is.bounds_in (seen_walk self.now)) (is.link_at (seen_walk self.now) row)).from }
+        ensures { result ≡ (arc_of (is.bounds_in (seen_walk self.now)) (is.row_link (seen_walk self.now) row)).from }
     {
         let bound = self.bound_of(row);
         match self.links[row].side {
@@ -90,6 +89,15 @@ impl<'a, 'b, A: Allocator> Walk<'a, 'b, A> {
             Side::Lower => bound.to().number(),
         }
     }
+}
+
+/// The sum at a place.
+pub fn sum_in(sums: &[i64], place: usize) -> i64
+    requires { All (λ sum. unsigned_abs sum < 2 ^ 45) sums.now }
+    ensures value { result ≡ slice_index_or sums.now place (pos 0) }
+    ensures small { unsigned_abs result < 2 ^ 45 }
+{
+    sums.get(place).copied().unwrap_or(0)
 }
 
 // Where a time stands, so far along an axis.
@@ -100,7 +108,7 @@ fn place_among(end: u64, along: u64) -> u64
     ensures small { result < 2 ^ 63 }
     ensures right { 500 ≤ result }
 {
-    500 + 440 * along / end
+    AXIS_LEFT + AXIS_WIDTH * along / end
 }
 
 /// Where a row begins, in pixels from the top.

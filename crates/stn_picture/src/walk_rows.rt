@@ -2,7 +2,7 @@
 ghost use Rattle.std.specs.{Prelude.{◌≡◌, ◌+◌, ◌++◌, ◌<◌, ◌≤◌, ◌^◌, length, OnOk}, List.flat_map};
 ghost use Rattle.stn_site.specs.Lines as site_lines;
 ghost use Rattle.stn_picture.specs.Walk as is;
-ghost use Rattle.stn_picture.specs.{Walk.{mends_text, mending_text, event_label, walk_arrow, drop_text, leaves_text}, WalkSeen.seen_walk};
+ghost use Rattle.stn_picture.specs.{Walk.{mends_text, leaves_text}, WalkSeen.seen_walk};
 
 use crate::escape::append_cut;
 use crate::memory::in_memory;
@@ -13,8 +13,8 @@ use std::alloc::Allocator;
 use std::io::Write;
 use stn_conflict::Side;
 use stn_net::Bound;
-use stn_questions::Repair;
 use stn_records::Id;
+use stn_repairs::Repair;
 use stn_site::BoundName;
 use stn_text::print_event;
 use stn_time::Memory;
@@ -32,16 +32,16 @@ const TIP: u64 = 9;
 
 impl<'a, 'b, A: Allocator> Walk<'a, 'b, A> {
     /// Appends the row of a link.
-    pub fn append_row<B: Allocator>(&self, out: &mut Vec<u8, B>, row: usize) -> Result<(), Memory>
+    pub fn append_row(&self, out: &mut Vec<u8, A>, row: usize) -> Result<(), Memory>
         requires { row < length self.now.links.now }
         ensures { OnOk result (out.new.items ≡ out.old.items ++ is.walk_row (seen_walk self.now) row) }
     {
         out.extend_from_slice(b"<g>")?;
         self.append_title(out, row)?;
         self.append_words(out, row)?;
-        self.append_row_mending(out, row)?;
-        self.append_row_label(out, row)?;
-        self.append_row_arrow(out, row)?;
+        self.append_mending(out, row)?;
+        self.append_label(out, row)?;
+        self.append_arrow(out, row)?;
         out.extend_from_slice(b"</g>\n")
     }
 
@@ -54,113 +54,88 @@ impl<'a, 'b, A: Allocator> Walk<'a, 'b, A> {
         self.place_of(self.sum_at(row))
     }
 
-    fn append_row_mending<B: Allocator>(
-        &self,
-        out: &mut Vec<u8, B>,
-        row: usize,
-    ) -> Result<(), Memory>
+    // Appends what the record of a row leaves, where it alone mends the conflict.
+    fn append_mending(&self, out: &mut Vec<u8, A>, row: usize) -> Result<(), Memory>
         requires { row < length self.now.links.now }
         ensures { OnOk result (out.new.items ≡ out.old.items ++ is.row_mending (seen_walk self.now) row) }
     {
-        append_mending(
-            out,
-            row,
-            self.link_at(row).side,
-            self.repairs,
-            self.name_of(row),
-        )
+        match self.name_of(row) {
+            BoundName::Plan(_) => Ok(()),
+            BoundName::Record(id) => append_each_mending(
+                out,
+                row,
+                self.row_link(row).side,
+                self.repairs,
+                id,
+            ),
+        }
     }
 
-    fn append_row_label<B: Allocator>(&self, out: &mut Vec<u8, B>, row: usize) -> Result<(), Memory>
+    // Appends the event at which the link of a row begins, on the side that the link leaves.
+    fn append_label(&self, out: &mut Vec<u8, A>, row: usize) -> Result<(), Memory>
         requires { row < length self.now.links.now }
         ensures { OnOk result (out.new.items ≡ out.old.items ++ is.row_label (seen_walk self.now) row) }
     {
         let (left, right) = (self.left_of(row), self.left_of(row + 1));
-        append_event_label(out, self.begins_at(row), left, right, top_of(row) + 21)
+        append_label_opening(out, left, right, top_of(row) + 21)?;
+        print_event(self.begins_at(row), out)?;
+        out.extend_from_slice(b"</text>")
     }
 
-    fn append_row_arrow<B: Allocator>(&self, out: &mut Vec<u8, B>, row: usize) -> Result<(), Memory>
+    // Appends an arrow, or a dot where it is shorter than its tip.
+    fn append_arrow(&self, out: &mut Vec<u8, A>, row: usize) -> Result<(), Memory>
         requires { row < length self.now.links.now }
         ensures { OnOk result (out.new.items ≡ out.old.items ++ is.row_arrow (seen_walk self.now) row) }
     {
         let (left, right) = (self.left_of(row), self.left_of(row + 1));
-        append_arrow(out, left, right, top_of(row) + 17)
+        let middle = top_of(row) + 17;
+        if left.abs_diff(right) < TIP {
+            in_memory(write!(out, "<circle class='x' cx='{left}' cy='{middle}' r='3'/>"))
+        } else {
+            in_memory(write!(out, "<path d='M{left} {middle}H{right}'/>"))
+        }
     }
 
     /// Appends the line from a row down to the next one.
-    pub fn append_row_drop<B: Allocator>(
-        &self,
-        out: &mut Vec<u8, B>,
-        row: usize,
-    ) -> Result<(), Memory>
+    pub fn append_drop(&self, out: &mut Vec<u8, A>, row: usize) -> Result<(), Memory>
         requires { row < length self.now.links.now }
         ensures { OnOk result (out.new.items ≡ out.old.items ++ is.row_drop (seen_walk self.now) row) }
     {
-        append_drop(out, self.left_of(row + 1), top_of(row) + 21)
+        let (right, top) = (self.left_of(row + 1), top_of(row) + 21);
+        in_memory(write!(out, "M{right} {top}v26"))
     }
 
     // Appends what a browser shows under the mouse.
-    fn append_title<B: Allocator>(&self, out: &mut Vec<u8, B>, row: usize) -> Result<(), Memory>
+    fn append_title(&self, out: &mut Vec<u8, A>, row: usize) -> Result<(), Memory>
         requires { row < length self.now.links.now }
         ensures { OnOk result (out.new.items ≡ out.old.items ++ is.walk_title (seen_walk self.now) row) }
     {
         if self.names.is_empty() {
             return Ok(());
         }
+        let bound = self.bound_of(row);
         out.extend_from_slice(b"<title>")?;
-        self.append_row_events(out, row)?;
+        self.append_event_words(out, bound.from().number())?;
+        self.append_event_words(out, bound.to().number())?;
         out.extend_from_slice(b"</title>")
     }
 
-    // Appends in words what the link of a row asks.
-    fn append_row_asked<B: Allocator>(
-        &self,
-        out: &mut Vec<u8, B>,
-        most: usize,
-        row: usize,
-    ) -> Result<(), Memory>
-        requires { row < length self.now.links.now }
-        ensures { OnOk result (out.new.items ≡ out.old.items ++ is.row_asked (seen_walk self.now) most row) }
-    {
-        self.append_asked(out, most, self.link_at(row).side, self.bound_of(row))
-    }
-
-    // Appends which steps its events start or end.
-    fn append_row_events<B: Allocator>(
-        &self,
-        out: &mut Vec<u8, B>,
-        row: usize,
-    ) -> Result<(), Memory>
-        requires { row < length self.now.links.now }
-        ensures { OnOk result (out.new.items ≡ out.old.items ++ is.row_events (seen_walk self.now) row) }
-    {
-        let bound = self.bound_of(row);
-        self.append_event_words(out, bound.from().number())?;
-        self.append_event_words(out, bound.to().number())
-    }
-
     // Appends the name of a link.
-    fn append_link_name<B: Allocator>(&self, out: &mut Vec<u8, B>, row: usize) -> Result<(), Memory>
+    fn append_link_name(&self, out: &mut Vec<u8, A>, row: usize) -> Result<(), Memory>
         requires { row < length self.now.links.now }
         ensures { OnOk result (out.new.items ≡ out.old.items ++ is.link_name (seen_walk self.now) row) }
     {
         self.name_of(row).print(out)?;
         out.extend_from_slice(b" ")?;
-        out.extend_from_slice(side_text(self.link_at(row).side))
+        out.extend_from_slice(side_text(self.row_link(row).side))
     }
 
     // Appends in words what a link asks.
-    fn append_asked<B: Allocator>(
-        &self,
-        out: &mut Vec<u8, B>,
-        most: usize,
-        side: Side,
-        bound: Bound,
-    ) -> Result<(), Memory>
-        ensures { OnOk result (out.new.items ≡ out.old.items ++ is.asked_text (seen_walk self.now) most side bound) }
+    fn append_asked(&self, out: &mut Vec<u8, A>, side: Side, bound: Bound) -> Result<(), Memory>
+        ensures { OnOk result (out.new.items ≡ out.old.items ++ is.asked_text (seen_walk self.now) side bound) }
     {
         if is_duration(bound) {
-            self.append_step_words(out, most, step_of(bound.to().number()))?;
+            self.append_step_words(out, MOST_SHORT, step_of(bound.to().number()))?;
             append_limit(out, side, bound)
         } else {
             bound.to().print(out)?;
@@ -171,26 +146,20 @@ impl<'a, 'b, A: Allocator> Walk<'a, 'b, A> {
     }
 
     // Appends a step by its number, and by its name if it has one.
-    fn append_step_words<B: Allocator>(
-        &self,
-        out: &mut Vec<u8, B>,
-        most: usize,
-        step: u16,
-    ) -> Result<(), Memory>
+    fn append_step_words(&self, out: &mut Vec<u8, A>, most: usize, step: u16) -> Result<(), Memory>
         ensures { OnOk result (out.new.items ≡ out.old.items ++ is.step_words (seen_walk self.now) most step) }
     {
         match self.names.get(usize::from(step).saturating_sub(1)) {
-            Some(name) => append_numbered_name(out, most, step, name),
+            Some(name) => {
+                in_memory(write!(out, "{step} "))?;
+                append_cut(out, most, name)
+            }
             None => in_memory(write!(out, "step {step}")),
         }
     }
 
     // Appends which step an event starts or ends.
-    fn append_event_words<B: Allocator>(
-        &self,
-        out: &mut Vec<u8, B>,
-        event: u16,
-    ) -> Result<(), Memory>
+    fn append_event_words(&self, out: &mut Vec<u8, A>, event: u16) -> Result<(), Memory>
         ensures { OnOk result (out.new.items ≡ out.old.items ++ is.event_words (seen_walk self.now) event) }
     {
         if event == 0 {
@@ -203,47 +172,28 @@ impl<'a, 'b, A: Allocator> Walk<'a, 'b, A> {
     }
 
     // Appends the name of a link, and what it asks.
-    fn append_words<B: Allocator>(&self, out: &mut Vec<u8, B>, row: usize) -> Result<(), Memory>
+    fn append_words(&self, out: &mut Vec<u8, A>, row: usize) -> Result<(), Memory>
         requires { row < length self.now.links.now }
         ensures { OnOk result (out.new.items ≡ out.old.items ++ is.walk_words (seen_walk self.now) row) }
     {
         append_name_opening(out, top_of(row) + 15)?;
         self.append_link_name(out, row)?;
         append_words_opening(out, top_of(row) + 15)?;
-        self.append_row_asked(out, MOST_SHORT, row)?;
+        self.append_asked(out, self.row_link(row).side, self.bound_of(row))?;
         out.extend_from_slice(b"</text>\n")
     }
 }
 
-// Appends the number of a step, and its name.
-fn append_numbered_name<B: Allocator>(
-    out: &mut Vec<u8, B>,
-    most: usize,
-    step: u16,
-    name: &[u8],
-) -> Result<(), Memory>
-    ensures { OnOk result (out.new.items ≡ out.old.items ++ is.numbered_name most step name.now) }
-{
-    in_memory(write!(out, "{step} "))?;
-    append_cut(out, most, name)
-}
-
-fn append_name_opening<B: Allocator>(out: &mut Vec<u8, B>, base: u64) -> Result<(), Memory>
+fn append_name_opening<A: Allocator>(out: &mut Vec<u8, A>, base: u64) -> Result<(), Memory>
     ensures { OnOk result (out.new.items ≡ out.old.items ++ is.name_opening base) }
 {
     in_memory(write!(out, "<text class='h' x='8' y='{base}'>"))
 }
 
-fn append_words_opening<B: Allocator>(out: &mut Vec<u8, B>, base: u64) -> Result<(), Memory>
+fn append_words_opening<A: Allocator>(out: &mut Vec<u8, A>, base: u64) -> Result<(), Memory>
     ensures { OnOk result (out.new.items ≡ out.old.items ++ is.words_opening base) }
 {
     in_memory(write!(out, "</text><text class='n' x='124' y='{base}'>"))
-}
-
-fn append_mend_opening<B: Allocator>(out: &mut Vec<u8, B>, base: u64) -> Result<(), Memory>
-    ensures { OnOk result (out.new.items ≡ out.old.items ++ is.mend_opening base) }
-{
-    in_memory(write!(out, "<text class='j' x='124' y='{base}'>alone mends it: "))
 }
 
 fn side_text(side: Side) -> &'static [u8]
@@ -256,41 +206,24 @@ fn side_text(side: Side) -> &'static [u8]
 }
 
 // Appends the limit that a side asks for.
-fn append_limit<B: Allocator>(out: &mut Vec<u8, B>, side: Side, bound: Bound) -> Result<(), Memory>
+fn append_limit<A: Allocator>(out: &mut Vec<u8, A>, side: Side, bound: Bound) -> Result<(), Memory>
     ensures { OnOk result (out.new.items ≡ out.old.items ++ is.limit_words side bound) }
 {
     match side {
         Side::Upper => {
             out.extend_from_slice(b" at most ")?;
-            bound.hi().print(out)?;
+            bound.hi().print(out)
         }
         Side::Lower => {
             out.extend_from_slice(b" at least ")?;
-            bound.lo().print(out)?;
+            bound.lo().print(out)
         }
     }
-    Ok(())
 }
 
-// Appends the range of each repair by the record of this name.
-fn append_mending<B: Allocator>(
-    out: &mut Vec<u8, B>,
-    row: usize,
-    side: Side,
-    repairs: &[Repair],
-    name: BoundName,
-) -> Result<(), Memory>
-    requires { row < 2 ^ 40 }
-    ensures { OnOk result (out.new.items ≡ out.old.items ++ mending_text row side repairs.now name) }
-{
-    match name {
-        BoundName::Plan(_) => Ok(()),
-        BoundName::Record(id) => append_each_mending(out, row, side, repairs, id),
-    }
-}
-
-fn append_each_mending<B: Allocator>(
-    out: &mut Vec<u8, B>,
+// Appends the range of each repair by the record.
+fn append_each_mending<A: Allocator>(
+    out: &mut Vec<u8, A>,
     row: usize,
     side: Side,
     repairs: &[Repair],
@@ -305,8 +238,8 @@ fn append_each_mending<B: Allocator>(
     Ok(())
 }
 
-fn append_mends<B: Allocator>(
-    out: &mut Vec<u8, B>,
+fn append_mends<A: Allocator>(
+    out: &mut Vec<u8, A>,
     row: usize,
     side: Side,
     id: Id,
@@ -315,29 +248,17 @@ fn append_mends<B: Allocator>(
     requires { row < 2 ^ 40 }
     ensures { OnOk result (out.new.items ≡ out.old.items ++ mends_text row side id repair) }
 {
-    if repair.id == id {
-        append_mend(out, row, side, repair)
-    } else {
-        Ok(())
+    if repair.id != id {
+        return Ok(());
     }
-}
-
-fn append_mend<B: Allocator>(
-    out: &mut Vec<u8, B>,
-    row: usize,
-    side: Side,
-    repair: Repair,
-) -> Result<(), Memory>
-    requires { row < 2 ^ 40 }
-    ensures { OnOk result (out.new.items ≡ out.old.items ++ is.mend_text row side repair) }
-{
-    append_mend_opening(out, top_of(row) + 29)?;
+    let base = top_of(row) + 29;
+    in_memory(write!(out, "<text class='j' x='124' y='{base}'>alone mends it: "))?;
     append_left(out, side, repair)?;
     out.extend_from_slice(b"</text>\n")
 }
 
 // Appends what the others leave.
-fn append_left<B: Allocator>(out: &mut Vec<u8, B>, side: Side, repair: Repair) -> Result<(), Memory>
+fn append_left<A: Allocator>(out: &mut Vec<u8, A>, side: Side, repair: Repair) -> Result<(), Memory>
     ensures { OnOk result (out.new.items ≡ out.old.items ++ leaves_text side repair) }
 {
     match side {
@@ -352,25 +273,8 @@ fn append_left<B: Allocator>(out: &mut Vec<u8, B>, side: Side, repair: Repair) -
     }
 }
 
-// Appends the event at which a link begins.
-fn append_event_label<B: Allocator>(
-    out: &mut Vec<u8, B>,
-    event: u16,
-    left: u64,
-    right: u64,
-    base: u64,
-) -> Result<(), Memory>
-    requires left { left < 2 ^ 63 }
-    requires least { 8 ≤ left }
-    ensures { OnOk result (out.new.items ≡ out.old.items ++ event_label event left right base) }
-{
-    append_label_opening(out, left, right, base)?;
-    print_event(event, out)?;
-    out.extend_from_slice(b"</text>")
-}
-
-fn append_label_opening<B: Allocator>(
-    out: &mut Vec<u8, B>,
+fn append_label_opening<A: Allocator>(
+    out: &mut Vec<u8, A>,
     left: u64,
     right: u64,
     base: u64,
@@ -386,44 +290,4 @@ fn append_label_opening<B: Allocator>(
         let place = left - 8;
         in_memory(write!(out, "<text class='e' x='{place}' y='{base}'>"))
     }
-}
-
-// Appends an arrow, or a dot where it is shorter than its tip.
-fn append_arrow<B: Allocator>(
-    out: &mut Vec<u8, B>,
-    left: u64,
-    right: u64,
-    middle: u64,
-) -> Result<(), Memory>
-    ensures { OnOk result (out.new.items ≡ out.old.items ++ walk_arrow left right middle) }
-{
-    if left.abs_diff(right) < TIP {
-        append_dot(out, left, middle)
-    } else {
-        append_stem(out, left, right, middle)
-    }
-}
-
-fn append_dot<B: Allocator>(out: &mut Vec<u8, B>, left: u64, middle: u64) -> Result<(), Memory>
-    ensures { OnOk result (out.new.items ≡ out.old.items ++ is.dot_text left middle) }
-{
-    in_memory(write!(out, "<circle class='x' cx='{left}' cy='{middle}' r='3'/>"))
-}
-
-fn append_stem<B: Allocator>(
-    out: &mut Vec<u8, B>,
-    left: u64,
-    right: u64,
-    middle: u64,
-) -> Result<(), Memory>
-    ensures { OnOk result (out.new.items ≡ out.old.items ++ is.stem_text left right middle) }
-{
-    in_memory(write!(out, "<path d='M{left} {middle}H{right}'/>"))
-}
-
-// Appends the line down to the next row.
-fn append_drop<B: Allocator>(out: &mut Vec<u8, B>, right: u64, top: u64) -> Result<(), Memory>
-    ensures { OnOk result (out.new.items ≡ out.old.items ++ drop_text right top) }
-{
-    in_memory(write!(out, "M{right} {top}v26"))
 }

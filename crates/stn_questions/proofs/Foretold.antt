@@ -1,10 +1,10 @@
 -- What the searches of a plan's bounds find of the events that are left.
-use Rattle.std.{proofs.{Common.{◌≡◌, inl, inr, ℕ, ℤ, ◌+◌, ◌<◌, ◌≤◌, ◌≤ℤ◌, ◌<ℤ◌, Bool, true, List, [], ◌∷◌, ◌++◌, length, Option, Some, None, refl, sym, ap, subst, ◌∙◌, arith}, lemmas.{Option.MatchOption-at_some, Int.{ints}, Bool.cases_lt, List.Elements.{All-append, All-nil}}}, specs.Prelude.{Vec, All, Result, Ok, Err, IfOk, MatchOption, is_some}}
+use Rattle.std.{proofs.{Common.{◌≡◌, ℕ, ℤ, ◌+◌, ◌<◌, ◌≤◌, ◌≤ℤ◌, ◌<ℤ◌, Bool, true, List, [], ◌++◌, length, Option, Some, None, refl, ap, subst, ◌∙◌, arith}, lemmas.{Option.MatchOption-at_some, Int.ints, List.Elements.{All-append, All-nil}}}, specs.Prelude.{Vec, All, Result, Ok, Err, IfOk, MatchOption, is_some}}
 use Rattle.stn_net.{specs.{Event.most_events, Difference.{Difference, NamesEvents}, Schedule.{HasSchedule, times_of}, Windows.{Dispatch.{IsLeft, IsReady, AreReadyTimes, CanWaitUntil}, Leading.IsLeastLatest, Soonest.{AreEarliest, AreLatest, AreSoonest}}}, proofs.Readiness.left_within}
 use Rattle.stn_lift.specs.PlanSource.{PlanSource, base_bounds, events_of, IsSoundSource}
 use Rattle.stn_records.specs.Content.{Content}
 use Rattle.stn_site.specs.Bounds.{all_bounds, live_bounds}
-use Rattle.stn_questions.{specs.{declared.ready_event.ReadyEvent.ReadyEvent, Foresight.{AreSoonestOf}, Ready.AreReadyEvents}, proofs.ReadyLists.{counted, pushed_other, pushed_same}}
+use Rattle.stn_questions.specs.{Foresight.AreSoonestOf, Ready.AreReadyEvents}
 
 -- the soonest times by the bounds that were searched are those of the plan's
 pub soonest_found : {A E : Type 0} (bounds all : List Difference) (events count : ℕ) (done : List Bool) (now : ℤ) (result : Result (Option (Vec ℤ A)) E) → bounds ≡ all → events ≡ count → events ≤ most_events
@@ -52,26 +52,6 @@ pub record IsLeastBelow (latest : ℕ → ℤ) (done : List Bool) (limit : ℕ) 
 abbrev pub IsLeastSoFar : (ℕ → ℤ) → List Bool → ℕ → Option ℤ → Type 0
 IsLeastSoFar latest done limit None = (event : ℕ) → event < limit → ¬ IsLeft done event
 IsLeastSoFar latest done limit (Some time) = IsLeastBelow latest done limit time
-
--- each of the events with numbers below the limit that may run from now on stands once in the list
-abbrev pub HasEachBelow : List Difference → List Bool → ℤ → ℕ → List ReadyEvent → Type 0
-HasEachBelow bounds done now limit ready = (event : ℕ) (time : ℤ) → event < limit → now ≤ℤ time → IsReady bounds done event time → counted ready event ≡ 1
-
--- one more that may run
-pub ready_pushed : (bounds : List Difference) (done : List Bool) (now : ℤ) (ready : List ReadyEvent) (one : ReadyEvent) (number : ℕ) → one.event ≡ number → counted ready number ≡ 0
-    → HasEachBelow bounds done now number ready → HasEachBelow bounds done now (number + 1) (ready ++ one ∷ [])
-ready_pushed bounds done now ready one number is none each event time below later able = elim (cases_lt event number) [
-  | inl before ↦ pushed_other ready one event (λ same. absurd (omega arith)) ∙ each event time before later able
-  | inr here ↦ (let same : event ≡ number = omega arith in pushed_same ready one event (is ∙ sym same) ∙ ap (λ n. counted ready n + 1) same ∙ ap (λ n. n + 1) none)
-]
-
--- one more that may not
-pub ready_kept : (bounds : List Difference) (done : List Bool) (now : ℤ) (ready : List ReadyEvent) (number event : ℕ) → event ≡ number → AreReadyTimes bounds done now event None
-    → HasEachBelow bounds done now number ready → HasEachBelow bounds done now (number + 1) ready
-ready_kept bounds done now ready number event is never each other time below later able = elim (cases_lt other number) [
-  | inl before ↦ each other time before later able
-  | inr here ↦ (let same : other ≡ event = omega arith in absurd (never time later (subst (λ n. IsReady bounds done n time) same able)))
-]
 
 -- the times by the bounds that were searched are those of the plan's bounds
 module _ {A : Type 0} (bounds all : List Difference) (events count : ℕ) (found : Option (Vec ℤ A × Vec ℤ A)) (both : Vec ℤ A × Vec ℤ A) (same : bounds ≡ all) (many : events ≡ count) (is : found ≡ Some both) where

@@ -1,9 +1,8 @@
 -- How long the steps of a plan last, by its bounds.
 use Rattle.std.{proofs.{Common.{◌≡◌, ℕ, ℤ, zero, suc, ◌+◌, ◌*◌, ◌<◌, ◌≤◌, List, [], ◌∷◌, ◌++◌, length, drop, get_or, Result, Ok, Err, refl, sym, ap, ◌∙◌, arith, length-append, length-drop, ⊎_elim}, lemmas.{List.{get_or-drop, get_or_append_left, get_or-append_right, get_or_at}, Bool.cases_lt}}, specs.Result.result_unwrap_or}
-use Rattle.stn_lift.{proofs.{FewBounds.length-duration_bounds, Steps.length-activities}, specs.{declared.{plan.fault.PlanFault.{PlanFault, TheVariants.{TooLong, Syntax, Number, Negative, TooManySteps, Memory}}, fault.{LiftFault.LiftFault, BaseFault.BaseFault}}, Plan.Steps.{PlannedStep, plan_of, is_plan_memory}, Activities.{Activity, activities}, BaseBounds.{duration_bound, duration_bounds, duration_of, events_interfere, event_times, orders, lifted_bounds}, PlanSource.{files, of_lift, steps_in, lifted, activities_of, source_with, base_of, base_bounds, events_of, IsSoundSource}}}
+use Rattle.stn_lift.{proofs.{FewBounds.length-duration_bounds, Steps.length-activities}, specs.{declared.{plan.fault.PlanFault.PlanFault, fault.{LiftFault.LiftFault, BaseFault.BaseFault}}, Plan.Steps.{PlannedStep, plan_of}, Activities.{Activity, activities}, BaseBounds.{duration_bound, duration_bounds, duration_of, events_interfere, event_times, orders, lifted_bounds}, PlanSource.{files, of_lift, steps_in, lifted, activities_of, source_with, base_of, base_bounds, events_of, IsSoundSource}}}
 use Rattle.stn_net.{specs.{Difference.Difference, Horizon.horizon_bounds, Schedule.times_of}, proofs.Horizons.length-horizon_bounds}
 use Rattle.stn_pddl.specs.{declared.fault.DomainFault.DomainFault, Schemas.ActionSchema, Domains.domain_of}
-use Rattle.stn_text.specs.Faults.{Fails}
 use Rattle.stn_questions.specs.{Steps.planned_steps, Durations.{least_of, AreDurations}}
 
 duration_at : (duration : ℕ → ℤ) (steps place : ℕ) (d : Difference) → place < steps → get_or (duration_bounds duration steps) place d ≡ duration_bound place (duration place)

@@ -16,5 +16,4 @@ pub mod SomeReport
 pub mod SomeAnswer
 pub mod SomeReady
 pub mod SomeDispatch
-pub mod Ranges
 pub mod Foretold

@@ -11,28 +11,6 @@ pub line_in_parts : (front first second third fourth fifth t1 t2 t3 t4 t5 t6 : L
 line_in_parts front first second third fourth fifth t1 t2 t3 t4 t5 t6 a b c d e f =
     f ∙ ap line (e ∙ ap (λ t. t ++ fifth) (d ∙ ap (λ t. t ++ fourth) (c ∙ ap (λ t. t ++ third) (b ∙ ap (λ t. t ++ second) a)))) ∙ simp append_assoc
 
--- the text of one number more
-pub range_more : (f : ℕ → List ℕ) (a n next : ℕ) → a + n ≡ next → flat_map f (range_with_len a (suc n)) ≡ flat_map f (range_with_len a n) ++ f next
-range_more f a zero next e = append-nil (f a) ∙ ap f (omega (arith, e))
-range_more f a (suc n) next e =
-    ap (λ rest. f a ++ rest) (range_more f (a + 1) n next (omega (arith, e))) ∙ sym (append_assoc (f a) (flat_map f (range_with_len (a + 1) n)) (f next))
-
--- a text that has grown by it
-pub range_grown : (f : ℕ → List ℕ) (a n next more : ℕ) (front old new : List ℕ) → a + n ≡ next → more ≡ suc n
-    → old ≡ front ++ flat_map f (range_with_len a n) → new ≡ old ++ f next → new ≡ front ++ flat_map f (range_with_len a more)
-range_grown f a n next more front old new e is was grown =
-    grown ∙ ap (λ text. text ++ f next) was ∙ append_assoc front (flat_map f (range_with_len a n)) (f next)
-    ∙ ap (λ text. front ++ text) (sym (range_more f a n next e)) ∙ ap (λ k. front ++ flat_map f (range_with_len a k)) (sym is)
-
--- a text that has grown by the text of one element more
-pub lines_grown : {X : Type 0} (f : X → List ℕ) (xs : List X) (place : ℕ) (x : X) (front old new : List ℕ) → place < length xs → x ≡ get_or xs place x
-    → old ≡ front ++ flat_map f (take place xs) → new ≡ old ++ f x → new ≡ front ++ flat_map f (take (place + 1) xs)
-lines_grown f xs place x front old new within is was grown =
-    grown ∙ ap (λ text. text ++ f x) was ∙ append_assoc front (flat_map f (take place xs)) (f x)
-    ∙ ap (λ more. front ++ more)
-    (sym (ap (flat_map f) (take_more xs place x within ∙ ap (λ y. take place xs ++ y ∷ []) (sym is))
-    ∙ flat_map-append f (take place xs) (x ∷ []) ∙ ap (λ last. flat_map f (take place xs) ++ last) (append-nil (f x))))
-
 -- the lines of one step more
 pub step_lines-push : (duration : ℕ → ℤ) (before place : ℕ) (steps : List PlannedStep) (step : PlannedStep) → before + length steps ≡ place
     → step_lines duration before (steps ++ step ∷ []) ≡ step_lines duration before steps ++ step_line (place + 1) step (duration place)

@@ -1,11 +1,11 @@
 -- A plan and a state have one answer to each question.
 use Rattle.std.{proofs.{Common.{◌≡◌, ℕ, ℤ, Bool, List, ◌++◌, refl, sym, ap, subst, ◌∙◌, ◌⊎◌, ⊎_elim, inl, inr}, lemmas.List.append_cancel_left}, specs.List.flat_map}
-use Rattle.stn_net.{specs.{Difference.Difference, Schedule.HasSchedule, declared.windows.answers.Next.{Next, TheVariants.{Run, AllDone, Overdue}}, Windows.Window.IsWindow}, proofs.{OneAnswer.one_next, WindowEnds.one_window}}
+use Rattle.stn_net.{specs.{Difference.Difference, Schedule.HasSchedule, declared.windows.answers.Next.{Next, TheVariants.{Run, AllDone, Overdue}}, Windows.Window.IsWindow, Ranges.IsRange}, proofs.{OneAnswer.one_next, WindowEnds.one_window, Ranges.one_range}}
 use Rattle.stn_lift.specs.PlanSource.{PlanSource}
 use Rattle.stn_records.specs.Content.{Content}
 use Rattle.stn_conflict.specs.{declared.links.Link.Link, Arcs.IsNegativeCycle, Named.IsWay}
 use Rattle.stn_site.specs.{Bounds.all_bounds, Report.{IsConflictPart, IsReport, heading}}
-use Rattle.stn_questions.{specs.{Repair.Ranges.IsRange, Ready.{ready_line, IsReadyAnswer, IsReadyWith}, Why.{end_text, IsReasonPart, IsWhyPart, IsApartPart}, declared.asked.Question.{Question, TheVariants.{Records, Steps, Bounds, Why, WhyApart}}, Records.{record_line, IsRecordsText}, Answer.IsAnswer}, proofs.{Ranges.one_range, KnownOnce.one_known, OneReady.one_list}}
+use Rattle.stn_questions.{specs.{Ready.{ready_line, IsReadyAnswer, IsReadyWith}, Why.{end_text, IsReasonPart, IsWhyPart, IsApartPart}, declared.asked.Question.{Question, TheVariants.{Records, Steps, Bounds, Why, WhyApart}}, Records.{record_line, IsRecordsText}, Answer.IsAnswer}, proofs.{KnownOnce.one_known, OneReady.one_list}}
 
 one_ready_answer : (bounds : List Difference) (done : List Bool) (now : ℤ) (answer : Next) (text other : List ℕ) → IsReadyAnswer bounds done now answer text
     → IsReadyAnswer bounds done now answer other → text ≡ other

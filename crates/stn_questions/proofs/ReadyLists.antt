@@ -1,5 +1,5 @@
 -- The events that are ready: each once, and in their order.
-use Rattle.std.{proofs.{Common.{◌≡◌, ◌≢◌, ℕ, ℤ, ◌+◌, ◌<◌, ◌≤◌, ◌≤ℤ◌, ◌<ℤ◌, Bool, true, false, cond, eqb, List, [], ◌∷◌, ◌++◌, get_or, Some, None, Ordering, Less, Equal, Greater, sym, ap, subst, ◌∙◌, arith, ⊎_elim}, lemmas.{Bool.{false≢true, cases_lt, eq-eqb, ne_eqb}, Int.ints, List.{Sorted.{sorted_far, ranks_by}, Sums.sum_by_push}, Cmp.{nat_cmp_total, int_cmp_total, on_total, then_total}}}, specs.{Cmp.{IsTotalOrder, ranks, int_ranks}, List.{AllPairs, count_by, Sorted.IsSorted}, Ordering.{MatchOrdering, nat_cmp, int_cmp, is_lt, ordering_then}}}
+use Rattle.std.{proofs.{Common.{◌≡◌, ◌≢◌, inl, inr, ℕ, ℤ, ◌+◌, ◌<◌, ◌≤ℤ◌, ◌<ℤ◌, Bool, true, false, cond, eqb, List, [], ◌∷◌, ◌++◌, get_or, Some, None, Ordering, Less, Equal, Greater, sym, ap, subst, ◌∙◌, arith}, lemmas.{Bool.{false≢true, cases_lt, eq-eqb, ne_eqb}, Int.ints, List.{Sorted.{sorted_far, ranks_by}, Sums.sum_by_push}, Cmp.{nat_cmp_total, int_cmp_total, on_total, then_total}}}, specs.{Cmp.{IsTotalOrder, ranks, int_ranks}, List.{AllPairs, count_by, Sorted.IsSorted}, Ordering.{MatchOrdering, nat_cmp, int_cmp, is_lt, ordering_then}}}
 use Rattle.stn_net.specs.{Difference.Difference, Windows.Dispatch.{IsReady, AreReadyTimes}}
 use Rattle.stn_questions.specs.{declared.ready_event.ReadyEvent.ReadyEvent, Ready.IsBefore}
 
@@ -51,23 +51,22 @@ module _ (bounds : List Difference) (done : List Bool) (now : ℤ) where
   abbrev pub HasTimes : ReadyEvent → Type 0
   HasTimes one = AreReadyTimes bounds done now one.event (Some (one.first, one.last))
 
-  -- each of the first events that may run from now on stands once in the list
-  abbrev pub HasEach : ℕ → List ReadyEvent → Type 0
-  HasEach most ready = (event : ℕ) (time : ℤ) → event ≤ most → now ≤ℤ time → IsReady bounds done event time → counted ready event ≡ 1
+  -- each of the events with numbers below the limit that may run from now on stands once in the list
+  abbrev pub HasEachBelow : ℕ → List ReadyEvent → Type 0
+  HasEachBelow limit ready = (event : ℕ) (time : ℤ) → event < limit → now ≤ℤ time → IsReady bounds done event time → counted ready event ≡ 1
 
-  -- the next event is ready
-  pub each_pushed : (ready : List ReadyEvent) (one : ReadyEvent) (before : ℕ) → one.event ≡ before + 1 → counted ready (before + 1) ≡ 0
-      → HasEach before ready → HasEach (before + 1) (ready ++ one ∷ [])
-  each_pushed ready one before is none each event time most later able = ⊎_elim
-      (λ less. pushed_other ready one event (λ same. absurd (omega arith)) ∙ each event time (omega arith) later able)
-      (λ last. let same : event ≡ before + 1 = omega arith in
-      pushed_same ready one event (is ∙ sym same) ∙ ap (λ n. counted ready n + 1) same ∙ ap (λ n. n + 1) none)
-      (cases_lt event (before + 1))
+  -- one more that may run
+  pub ready_pushed : (ready : List ReadyEvent) (one : ReadyEvent) (number : ℕ) → one.event ≡ number → counted ready number ≡ 0
+      → HasEachBelow number ready → HasEachBelow (number + 1) (ready ++ one ∷ [])
+  ready_pushed ready one number is none each event time below later able = elim (cases_lt event number) [
+    | inl before ↦ pushed_other ready one event (λ same. absurd (omega arith)) ∙ each event time before later able
+    | inr here ↦ (let same : event ≡ number = omega arith in pushed_same ready one event (is ∙ sym same) ∙ ap (λ n. counted ready n + 1) same ∙ ap (λ n. n + 1) none)
+  ]
 
-  -- the next event is not
-  pub each_kept : (ready : List ReadyEvent) (before number : ℕ) → number ≡ before + 1 → AreReadyTimes bounds done now number None
-      → HasEach before ready → HasEach (before + 1) ready
-  each_kept ready before number is never each event time most later able = ⊎_elim
-      (λ less. each event time (omega arith) later able)
-      (λ last. let same : event ≡ number = omega arith in absurd (never time later (subst (λ n. IsReady bounds done n time) same able)))
-      (cases_lt event (before + 1))
+  -- one more that may not
+  pub ready_kept : (ready : List ReadyEvent) (number event : ℕ) → event ≡ number → AreReadyTimes bounds done now event None
+      → HasEachBelow number ready → HasEachBelow (number + 1) ready
+  ready_kept ready number event is never each other time below later able = elim (cases_lt other number) [
+    | inl before ↦ each other time before later able
+    | inr here ↦ (let same : other ≡ event = omega arith in absurd (never time later (subst (λ n. IsReady bounds done n time) same able)))
+  ]

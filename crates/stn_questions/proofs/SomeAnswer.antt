@@ -1,12 +1,12 @@
 -- Each plan and each state have an answer to each question about events that the plan has.
 use Rattle.std.{proofs.{Common.{◌≡◌, inl, inr, ℕ, ℤ, ◌⊎◌, ◌≤◌, ◌<◌, true, ◌||◌, List, [], ◌∷◌, ◌++◌, neg_ℤ, map, Less, refl, sym, ap, ◌∙◌, arith}, lemmas.{Bool.{cases_lt, and_parts}, Map.Views.{Contains-from_any, list_any-from_Contains}}}, specs.{List.{AllByRecursion, flat_map, Sorted.IsStrictlySortedBy}, Set.is_member, FinMap.{is_sorted, contains_key-keys, Entries.below_all}}}
 use Rattle.std.specs.FinMap as fin
-use Rattle.stn_net.{specs.{Difference.Difference, Matrix.Tightest.IsTightest, Windows.Window.IsWindow}, proofs.WindowEnds.window_of_ends}
+use Rattle.stn_net.{specs.{Difference.Difference, Matrix.Tightest.IsTightest, Windows.Window.IsWindow, Ranges.IsRange}, proofs.{WindowEnds.window_of_ends, Ranges.range_of_ends}}
 use Rattle.stn_lift.specs.PlanSource.{PlanSource, events_of}
 use Rattle.stn_records.{specs.{Id.{SiteCounter, id_cmp, same_ids}, Content.{Content, IdSet, with_ids, replaced_set, is_known}}, proofs.{Entries.{in_order, less_is}, Replaced.with_ids_member}}
 use Rattle.stn_conflict.{specs.{declared.links.Link.Link, Arcs.weight_of, Named.IsWay}, proofs.CycleSums.weight_of_way}
 use Rattle.stn_site.specs.{Bounds.all_bounds, Report.IsConflictPart}
-use Rattle.stn_questions.{specs.{Repair.Ranges.IsRange, declared.asked.Question.{Question, TheVariants.{Records, Steps, Bounds, Why, WhyApart}}, Answer.{IsAnswer, AsksOfNoEvent}, Records.{AreKnown, record_line}, Steps.steps_text, Bounds.bounds_text, Why.{end_text, IsReasonPart}}, proofs.{Ranges.range_of_ends, Found.{AreFound, possible_found, tightest_found}, Levels.some_way, SomeReport.{IsSoundState, differences, some_conflict}, KnownOnce.{laws, same_is}}}
+use Rattle.stn_questions.{specs.{declared.asked.Question.{Question, TheVariants.{Records, Steps, Bounds, Why, WhyApart}}, Answer.{IsAnswer, AsksOfNoEvent}, Records.{AreKnown, record_line}, Steps.steps_text, Bounds.bounds_text, Why.{end_text, IsReasonPart}}, proofs.{Found.{AreFound, possible_found, tightest_found}, Levels.some_way, SomeReport.{IsSoundState, differences, some_conflict}, KnownOnce.{laws, same_is}}}
 
 -- ---- the known ids
 module _ {X : Type 0} where

@@ -5,8 +5,7 @@ use Rattle.stn_net.specs.declared.windows.answers.RehearseFault.TheVariants as f
 use Rattle.stn_lift.specs.PlanSource.{PlanSource, events_of}
 use Rattle.stn_records.specs.Content.{Content, AllProper}
 use Rattle.stn_conflict.proofs.Tightness.{schedule_before}
-use Rattle.stn_site.specs.{Bounds.all_bounds, Lines.line}
-use Rattle.stn_replica.{specs.Dispatch.IsRestWith, proofs.Rest.rest_of_plan}
+use Rattle.stn_site.{specs.{Bounds.all_bounds, Lines.line, Dispatch.IsRestWith}, proofs.Rest.rest_of_plan}
 use Rattle.stn_questions.{specs.Ready.{IsReadyWith, ready_line}, proofs.{Found.{possible_found, tightest_found}, SomeReport.{IsSoundState, differences}, SomeReady.some_ready_events}}
 
 module _ (source : PlanSource) (state : Content) (sound : IsSoundState source state) where

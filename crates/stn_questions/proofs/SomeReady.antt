@@ -1,7 +1,7 @@
 -- The events that are ready have a list in their order.
-use Rattle.std.{proofs.{Common.{◌≡◌, ◌⊎◌, inl, inr, ℕ, ℤ, zero, suc, ◌+◌, ◌<◌, Bool, eqb, cond, List, [], ◌∷◌, ◌++◌, get_or, All, Option, Some, None, refl, ◌∙◌, arith}, lemmas.{Bool.cases_lt, Int.{ints, by_lt_z}, List.{Elements.{All-nil, All-cons, All-push}, Kept.AllPairs-cons, Sorted.{IsPermutation-refl, IsPermutation-cons, IsPermutation-middle, IsPermutation-trans, All-permutation, sum_by-IsPermutation}}}}, specs.List.{AllPairs, Sorted.IsPermutation}}
+use Rattle.std.{proofs.{Common.{◌≡◌, ◌⊎◌, inl, inr, ℕ, ℤ, zero, suc, ◌+◌, ◌≤◌, Bool, eqb, cond, List, [], ◌∷◌, ◌++◌, get_or, All, Option, Some, None, refl, subst, add-one, ◌∙◌, arith}, lemmas.{Bool.cases_lt, Int.{ints, by_lt_z}, List.{Elements.{All-nil, All-cons, All-push}, Kept.AllPairs-cons, Sorted.{IsPermutation-refl, IsPermutation-cons, IsPermutation-middle, IsPermutation-trans, All-permutation, sum_by-IsPermutation}}}}, specs.List.{AllPairs, Sorted.IsPermutation}}
 use Rattle.stn_net.{specs.{Difference.Difference, Matrix.Table.Table, Windows.Dispatch.AreReadyTimes}, proofs.{Readiness.left_within, ReadyTimes.some_ready_times, SomeNext.AreFlagged}}
-use Rattle.stn_questions.{specs.{declared.ready_event.ReadyEvent.ReadyEvent, Ready.{IsBefore, AreReadyEvents}}, proofs.{OneReady.first_before, ReadyLists.{counted, HasTimes, HasEach, pushed_other, each_pushed, each_kept}}}
+use Rattle.stn_questions.{specs.{declared.ready_event.ReadyEvent.ReadyEvent, Ready.{IsBefore, AreReadyEvents}}, proofs.{OneReady.first_before, ReadyLists.{counted, HasTimes, HasEachBelow, pushed_other, ready_pushed, ready_kept}}}
 
 -- ---- an order
 before_or_after : (x y : ReadyEvent) → IsBefore x y ⊎ IsBefore y x
@@ -51,50 +51,44 @@ all_ordered (x ∷ xs) =
     (zs, record { same = IsPermutation-trans (x ∷ xs) (x ∷ ys) zs (IsPermutation-cons x xs ys rest.same) whole.same; order = whole.order })
 
 -- ---- by number
--- of the first events, those that are ready, each once, and no other
-record AreReadyUpTo (bounds : List Difference) (done : List Bool) (now : ℤ) (most : ℕ) (ready : List ReadyEvent) : Type 0 where
+-- of the events with numbers below the limit, those that are ready, each once, and no other
+record AreReadyBelow (bounds : List Difference) (done : List Bool) (now : ℤ) (limit : ℕ) (ready : List ReadyEvent) : Type 0 where
   times : All (HasTimes bounds done now) ready
-  once : HasEach bounds done now most ready
-  none : (event : ℕ) → most < event → counted ready event ≡ 0
+  once : HasEachBelow bounds done now limit ready
+  none : (event : ℕ) → limit ≤ event → counted ready event ≡ 0
 
 module _ (bounds : List Difference) (table : Table) (done : List Bool) (now : ℤ) (are : AreFlagged bounds table done) where
-  one_more : (before : ℕ) (ready : List ReadyEvent) (times : Option (ℤ × ℤ)) → AreReadyUpTo bounds done now before ready
-      → AreReadyTimes bounds done now (suc before) times → (more : List ReadyEvent) × AreReadyUpTo bounds done now (suc before) more
-  one_more before ready None so_far is = (
+  one_more : (number : ℕ) (ready : List ReadyEvent) (times : Option (ℤ × ℤ)) → AreReadyBelow bounds done now number ready
+      → AreReadyTimes bounds done now number times → (more : List ReadyEvent) × AreReadyBelow bounds done now (number + 1) more
+  one_more number ready None so_far is = (
     ready,
     record {
       times = so_far.times;
-      once = λ event time within. each_kept bounds done now ready before (suc before) (omega arith) is so_far.once event time (omega arith);
+      once = ready_kept bounds done now ready number number refl is so_far.once;
       none = λ event past. so_far.none event (omega arith);
     },
   )
-  one_more before ready (Some ends) so_far is =
-      let one : ReadyEvent = record { first = ends.0; event = suc before; last = ends.1 } in (
+  one_more number ready (Some ends) so_far is =
+      let one : ReadyEvent = record { first = ends.0; event = number; last = ends.1 } in (
         ready ++ one ∷ [],
         record {
           times = All-push (HasTimes bounds done now) ready one so_far.times is;
-          once = λ event time within. each_pushed bounds done now ready one before (omega arith) (so_far.none (before + 1) (omega arith)) so_far.once event time (omega arith);
+          once = ready_pushed bounds done now ready one number refl (so_far.none number (omega arith)) so_far.once;
           none = λ event past. pushed_other ready one event (λ same. omega arith) ∙ so_far.none event (omega arith);
         },
       )
 
-  by_number : (most : ℕ) → (ready : List ReadyEvent) × AreReadyUpTo bounds done now most ready
-  by_number zero = (
-    [],
-    record {
-      times = All-nil (HasTimes bounds done now);
-      once = λ event time within later able. absurd (omega (arith, able.left.0));
-      none = λ event past. refl;
-    },
-  )
-  by_number (suc before) =
-      let (ready, so_far) = by_number before in
-      let (times, is) = some_ready_times bounds table done now (suc before) are in
-      one_more before ready times so_far is
+  by_number : (limit : ℕ) → (ready : List ReadyEvent) × AreReadyBelow bounds done now limit ready
+  by_number zero = ([], record { times = All-nil (HasTimes bounds done now); once = λ event time below. absurd (omega arith); none = λ event past. refl })
+  by_number (suc number) =
+      let (ready, so_far) = by_number number in
+      let (times, is) = some_ready_times bounds table done now number are in
+      let (more, all) = one_more number ready times so_far is in
+      (more, subst (λ limit. AreReadyBelow bounds done now limit more) (add-one number) all)
 
   pub some_ready_events : (ready : List ReadyEvent) × AreReadyEvents bounds done now ready
   some_ready_events =
-      let (ready, all) = by_number table.events in
+      let (ready, all) = by_number (table.events + 1) in
       let (ordered, is) = all_ordered ready in (
         ordered,
         record {

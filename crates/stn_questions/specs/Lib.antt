@@ -4,7 +4,6 @@ pub mod Durations
 pub mod Ready
 pub mod Among
 pub mod Records
-pub mod Repair
 pub mod Steps
 pub mod Why
 pub mod Foresight

@@ -42,10 +42,6 @@ abbrev pub name_lines : ℕ → List PlannedStep → List ℕ
 name_lines before [] = []
 name_lines before (step ∷ steps) = line (step_name_text (before + 1) step) ++ name_lines (before + 1) steps
 
--- the names of the steps of a plan text
-abbrev pub names_text : List ℕ → List ℕ
-names_text plan = name_lines 0 (planned_steps plan)
-
 -- a line for each step from 1 on: its number; in a domain also its action, its planned start and the duration in the domain
 abbrev pub steps_text : PlanSource → List ℕ
 steps_text (bare steps) = flat_map (λ number. line (decimal number)) (range_with_len 1 steps)

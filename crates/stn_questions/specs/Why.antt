@@ -1,12 +1,11 @@
 -- What `why` prints of an event, and of two.
 use Rattle.std.specs.{Prelude.{◌≡◌, ◌⊎◌, ◌<◌, ℕ, ℤ, neg_ℤ, ◌+◌, List, ◌++◌, codes}, List.flat_map}
 use Rattle.stn_time.specs.Text.{printed}
-use Rattle.stn_net.specs.{Difference.Difference, Event.event_text, Schedule.HasSchedule, Windows.Window.IsWindow}
+use Rattle.stn_net.specs.{Difference.Difference, Event.event_text, Schedule.HasSchedule, Windows.Window.IsWindow, Ranges.IsRange}
 use Rattle.stn_lift.specs.PlanSource.{PlanSource, base_bounds, events_of}
 use Rattle.stn_records.specs.Content.{Content}
 use Rattle.stn_conflict.specs.{declared.links.{Link.Link, BothWays.BothWays}, Arcs.weight_of, Named.{IsWay, IsWayOf}}
-use Rattle.stn_site.specs.{Bounds.{all_bounds, live_bounds}, Names.live_ids, Lines.{line, times_text, window_line, link_line}, Report.{is_done, IsConflictPart}}
-use Rattle.stn_questions.specs.Repair.Ranges.{IsRange}
+use Rattle.stn_site.specs.{Bounds.{all_bounds, live_bounds}, Names.live_ids, Lines.{line, range_line, window_line, link_line}, Report.{is_done, IsConflictPart}}
 
 -- `<word> <time>`, and the line of each link
 abbrev pub end_text : PlanSource → Content → List ℕ → ℤ → List Link → List ℕ
@@ -50,10 +49,6 @@ IsWhyPart source state event =
 -- the text that `why` prints of an event of the plan: why its window ends where it does, or the conflict
 abbrev pub IsWhyText : PlanSource → Content → ℕ → List ℕ → Type 0
 IsWhyText source state event text = IsWhyPart source state event text ⊎ IsConflictPart source state text
-
--- `<from> <to> <least> <greatest>`
-abbrev pub range_line : ℕ → ℕ → ℤ → ℤ → List ℕ
-range_line from to least greatest = line (event_text from ++ codes " " ++ event_text to ++ codes " " ++ times_text least greatest)
 
 -- of two events: the line of their range
 abbrev pub IsApartPart : PlanSource → Content → ℕ → ℕ → List ℕ → Type 0

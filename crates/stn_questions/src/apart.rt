@@ -1,14 +1,15 @@
 ghost use Rattle.std.specs.Prelude.{◌≡◌, ◌↔◌, ◌≤◌, ◌++◌, ℕ, List, IfOk, OnOk, OnErr, IsErrOf};
 ghost use Rattle.stn_lift.specs.PlanSource.{events_of};
-ghost use Rattle.stn_questions.specs.Why.{range_line, HoldEnds, IsApartPart, IsApartText, NamesNoEvent};
+ghost use Rattle.stn_site.specs.Lines.{range_line};
+ghost use Rattle.stn_questions.specs.Why.{HoldEnds, IsApartPart, IsApartText, NamesNoEvent};
 
 use crate::ends::{append_ends, ends_of, times_of};
 use crate::why::WhyFault;
 use std::alloc::Allocator;
 use stn_conflict::BothWays;
 use stn_net::Event;
-use stn_site::SitePlan;
-use stn_time::{Memory, Ms};
+use stn_site::{SitePlan, append_range_line};
+use stn_time::Memory;
 
 /// Appends why one event comes no sooner and no later after another: the least and the greatest time from
 /// `from` to `to` over all schedules, and for each of both the way of bounds that holds it. Where all
@@ -71,27 +72,7 @@ fn text_of<A: Allocator + Copy>(
 {
     let (least, greatest) = times_of(ends);
     let mut text = Vec::new(plan.alloc());
-    append_range(&mut text, from, to, least, greatest)?;
+    append_range_line(&mut text, from, to, least, greatest)?;
     append_ends(plan, b"least", b"greatest", ends, &mut text)?;
     Ok(text)
-}
-
-// Appends the line of two events and the least and the greatest time from the one to the other.
-pub(crate) fn append_range<B: Allocator>(
-    out: &mut Vec<u8, B>,
-    from: Event,
-    to: Event,
-    least: Ms,
-    greatest: Ms,
-) -> Result<(), Memory>
-    ensures { OnOk result (out.new.items ≡ out.old.items ++ range_line from to least greatest) }
-{
-    from.print(out)?;
-    out.extend_from_slice(b" ")?;
-    to.print(out)?;
-    out.extend_from_slice(b" ")?;
-    least.print(out)?;
-    out.extend_from_slice(b" ")?;
-    greatest.print(out)?;
-    out.extend_from_slice(b"\n")
 }

@@ -5,8 +5,7 @@ ghost use Rattle.std.specs.Prelude.{◌≡◌, ◌⊎◌, ℕ, ◌+◌, length, 
 ghost use Rattle.stn_net.specs.{Schedule.HasSchedule, Windows.{Dispatch.{IsNext, CanWaitUntil}, Rehearsal.IsRehearseFault}, declared.windows.answers.RehearseFault.TheVariants.{Overdue, Memory as want_of_memory}};
 ghost use Rattle.stn_lift.specs.PlanSource.{events_of};
 ghost use Rattle.stn_records.specs.Content.{AllProper};
-ghost use Rattle.stn_site.specs.Bounds.{all_bounds};
-ghost use Rattle.stn_replica.specs.Dispatch.{IsRestWith};
+ghost use Rattle.stn_site.specs.{Bounds.all_bounds, Dispatch.IsRestWith};
 ghost use Rattle.stn_questions.specs.Foresight.{IsForecast, AreSoonestOf};
 
 use std::alloc::Allocator;

@@ -1,6 +1,6 @@
 //! Questions that people ask of a plan: which records, steps and bounds it has, what may run from now on,
-//! why an event's window ends where it does, why two events come no closer and no further apart, and what
-//! mends a conflict. They change nothing.
+//! why an event's window ends where it does, and why two events come no closer and no further apart. They
+//! change nothing.
 #![tactic(auto)]
 
 pub use answer::print_answer;
@@ -17,10 +17,6 @@ pub use names::{source_names, step_names};
 pub use ready::print_ready_with;
 pub use ready_event::ReadyEvent;
 pub use records::print_records;
-pub use repair::{
-    Repair, kept_is_maximal, one_repairs_text, print_repairs, repairs_lie_on_each_cycle,
-    repairs_of, same_repairs,
-};
 pub use steps::{names_of, print_steps};
 pub use why::{WhyFault, print_why};
 
@@ -35,6 +31,5 @@ mod names;
 mod ready;
 mod ready_event;
 mod records;
-mod repair;
 mod steps;
 mod why;

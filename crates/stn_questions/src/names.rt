@@ -27,7 +27,8 @@ fn names_among<'a, A: Allocator + Copy>(
 {
     let mut names = Vec::new(alloc);
     for step in steps {
-        let name = name_of(alloc, step)?;
+        let mut name = Vec::new(alloc);
+        append_words(step.action, &step.args, &mut name)?;
         names.push(name)?;
     }
     Ok(names)
@@ -44,12 +45,4 @@ pub fn source_names<A: Allocator + Copy>(plan: &SitePlan<A>) -> Result<Vec<Vec<u
             step_names(plan.alloc(), &read)
         }
     }
-}
-
-fn name_of<'a, A: Allocator + Copy>(alloc: A, step: &Step<'a, A>) -> Result<Vec<u8, A>, Memory>
-    ensures { IfOk result (λ name. name.items ≡ step_name (planned_step step.now)) }
-{
-    let mut name = Vec::new(alloc);
-    append_words(step.action, &step.args, &mut name)?;
-    Ok(name)
 }

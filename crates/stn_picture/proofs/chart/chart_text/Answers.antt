@@ -20,25 +20,23 @@ returns g c =
     let windows = c.args.drawn.now.windows.items in
     let present = c.args.look.now.present in
     let overdue = overdue_of source state present c.args.drawn.now in
-    let steps : c.steps.result ≡ steps_of source = c.steps.ensures.value ∙ ap steps_of c.base-base.ensures in
-    let steps2 : c.steps-2.result ≡ steps_of source = c.steps-2.ensures.value ∙ ap steps_of c.base-base.ensures in
-    let steps3 : c.steps-3.result ≡ steps_of source = c.steps-3.ensures.value ∙ ap steps_of c.base-base.ensures in
+    let steps : c.steps-steps.result ≡ steps_of source = c.steps-steps.ensures.value ∙ ap steps_of c.base-base.ensures in
     let events : c.events.result ≡ events_of source = c.events.ensures.value ∙ ap events_of c.base-base.ensures in
     let base = c.bounds.ensures.value ∙ ap base_bounds c.base-base.ensures in
     let live = c.deref-3.ensures.value ∙ c.in_ok-live.ensures.value in
     let done = c.deref-6.ensures.value ∙ c.in_ok-done.ensures in
     let rows = c.deref-7.ensures.value ∙ c.in_ok-rows.ensures ∙ (λ i. map (row_in (c.deref.ensures.value i) (steps i)) (range_with_len 0 (steps i + 1))) in
     let holders = c.deref-8.ensures.value ∙ c.in_ok-holders.ensures
-    ∙ (λ i. map (λ step. holder_in (c.deref-2.ensures.value i) step (base i ++ live i)) (range_with_len 0 (steps2 i + 1))) in
+    ∙ (λ i. map (λ step. holder_in (c.deref-2.ensures.value i) step (base i ++ live i)) (range_with_len 0 (steps i + 1))) in
     let far = c.axis_reach-far.ensures.value ∙ (λ i. axis_reach (c.deref-4.ensures.value i) (events i) present) in
     let gap = c.gap_of-gap.ensures.gap ∙ ap (gap_of 0) far in
     let ticks = c.gaps_in.ensures.value ∙ (λ i. gaps_in (gap i) (far i)) in
     let chart : Chart = chart_of look names source state windows overdue in
-    c.in_ok-append_plan.ensures
+    c.in_ok-append.ensures
     ∙ (λ i. c.new-text.ensures.items i ++ plan_text (record {
       look = look;
       names = names;
-      steps = steps3 i;
+      steps = steps i;
       windows = c.deref-5.ensures.value i;
       done = done i;
       rows = rows i;

@@ -1,5 +1,5 @@
-use Rattle.std.{proofs.{Common.{◌≡◌, ◌+◌, ◌*◌, ◌++◌, ◌<◌, ◌≤◌, ◌^◌, ℤ, pos, w64, get_or, sym, subst, ap, ◌∙◌, arith}, lemmas.{Int.{to_z-of_z, ints}, List.get_or_default}}, specs.Prelude.{◌+ℤ◌, unsigned_abs}}
-use Rattle.stn_picture.{specs.Walk.sum_of, proofs.Sums.{value_at, values_grown, all_grown, sum_step, abs_add}}
+use Rattle.std.{proofs.{Common.{◌≡◌, ◌+◌, ◌*◌, ◌++◌, ◌<◌, ◌≤◌, ◌^◌, ℤ, pos, w64, get_or, sym, subst, ap, ◌∙◌, arith}, lemmas.{Int.{to_z-of_z, ints}, List.{get_or_default, FromFn.get_or-map-range_with_len}}}, specs.Prelude.{◌+ℤ◌, unsigned_abs}}
+use Rattle.stn_picture.{specs.Walk.sum_of, proofs.Sums.{values_grown, all_grown, sum_step, abs_add}}
 use Rattle.stn_picture.proofs.conflict.sums_of.Goals as goal
 
 pub loop-place-preserved : goal.loop-place-preserved
@@ -12,7 +12,7 @@ loop-place-preserved g c =
     let weight = c.weight_of-weight.result in
     let next = c.added.result in
     let read : sum ≡ f place =
-    c.sum_in.ensures.value ∙ ap (λ sums. get_or sums place (pos 0)) (c.deref.ensures.value ∙ c.loop-place.invariant.0) ∙ value_at f (place + 1) place (pos 0) (omega arith) in
+    c.sum_in.ensures.value ∙ ap (λ sums. get_or sums place (pos 0)) (c.deref.ensures.value ∙ c.loop-place.invariant.0) ∙ get_or-map-range_with_len f 0 (place + 1) place place (pos 0) (omega arith) (omega arith) in
     let total : next ≡ sum +ℤ weight =
     c.added.ensures ∙ (λ i. to_z-of_z w64 sum (record { sfits = c.sum_in.type_inv }) i +ℤ to_z-of_z w64 weight (record { sfits = c.weight_of-weight.type_inv }) i) in
     let step : next ≡ f (place + 1) = sum_step bounds links place _ sum weight next c.loop-place-test.true (get_or_default links place _ _ c.loop-place-test.true) read c.weight_of-weight.ensures.value total in

@@ -11,7 +11,7 @@ invariant_of-walk g c =
     let state = c.args.plan.now.state in
     let base = c.bounds-base.ensures.value ∙ ap base_bounds c.base.ensures in
     let live = c.requires.live in
-    let ids = c.deref-3.ensures.value ∙ c.in_ok-ids.ensures in
+    let ids = c.deref-2.ensures.value ∙ c.in_ok-ids.ensures in
     record {
       some_gap = omega (arith, c.gap_of-gap.ensures.least);
       small_gap = c.gap_of-gap.ensures.most;
@@ -21,7 +21,7 @@ invariant_of-walk g c =
       places = λ k d within. omega (arith, c.requires.places k d within, length-append (base_bounds source) (live_bounds state), ap length base, ap length live);
       named = omega (arith, ap length ids, ap length live, length-map (live_of state) (λ (entry : SiteCounter × Record). entry.0), length-map (live_of state) (λ (entry : SiteCounter × Record). entry.1.bound));
       few_bounds = omega (arith, c.bounds-base.ensures.sound.few, ap length c.bounds-base.ensures.value);
-      small_sums = subst (λ (sums : List ℤ). All (λ sum. unsigned_abs sum < 2 ^ 45) sums) (sym c.deref-4.ensures.value) c.in_ok-sums.ensures.small;
+      small_sums = subst (λ (sums : List ℤ). All (λ sum. unsigned_abs sum < 2 ^ 45) sums) (sym c.deref-3.ensures.value) c.in_ok-sums.ensures.small;
     }
 
 pub returns : goal.returns
@@ -32,10 +32,10 @@ returns g c =
     let names : List (List ℕ) = map (λ name. name.items) c.args.names.now in
     let base = c.bounds-base.ensures.value ∙ ap base_bounds c.base.ensures in
     let live = c.requires.live in
-    let ids = c.deref-3.ensures.value ∙ c.in_ok-ids.ensures in
+    let ids = c.deref-2.ensures.value ∙ c.in_ok-ids.ensures in
     let sums = c.in_ok-sums.ensures.sums ∙ (λ i. sums_of (base i ++ live i) links) in
-    let before = c.greatest_early-before.ensures.value ∙ ap (greatest early) (c.deref.ensures.value ∙ sums) in
-    let after = c.greatest_late-after.ensures.value ∙ ap (greatest late) (c.deref-2.ensures.value ∙ sums) in
+    let before = c.reach_of-before.ensures.before ∙ ap (greatest early) (c.deref.ensures.value ∙ sums) in
+    let after = c.reach_of-before.ensures.after ∙ ap (greatest late) (c.deref.ensures.value ∙ sums) in
     let gap = c.gap_of-gap.ensures.gap ∙ (λ i. gap_of (before i) (after i)) in
     let first = c.gaps_in.ensures.value ∙ (λ i. gaps_in (gap i) (before i)) in
     let last = c.gaps_in-2.ensures.value ∙ (λ i. gaps_in (gap i) (after i)) in
@@ -53,8 +53,8 @@ returns g c =
             ids = ids i;
             others = live i;
             links = links;
-            sums = (c.deref-4.ensures.value ∙ sums) i;
-            repairs = c.deref-5.ensures.value i;
+            sums = (c.deref-3.ensures.value ∙ sums) i;
+            repairs = c.deref-4.ensures.value i;
             gap = gap i;
             before = first i;
             after = last i;

@@ -1,4 +1,4 @@
-use Rattle.std.proofs.{Common.{append_assoc}, lemmas.Result.IfOk-equal}
+use Rattle.std.proofs.Common.{append_assoc}
 use Rattle.stn_picture.proofs.Grown.{on_ok, then, last}
 use Rattle.stn_picture.proofs.walk_frame.append_again.Goals as goal
 
@@ -7,4 +7,4 @@ returns g c =
     let out = c.args.out.now.items in
     let first = on_ok _ c.write.result c.in_ok-in_memory.ensures c.write.ensures.bytes in
     let second = then out _ _ first c.in_ok-print_event.ensures.printed in
-    IfOk-equal c.extend_from_slice.result _ _ _ (last c.extend_from_slice.result out _ _ second c.extend_from_slice.ensures.items) (simp append_assoc)
+    last c.extend_from_slice.result out _ _ _ second c.extend_from_slice.ensures.items (simp append_assoc)

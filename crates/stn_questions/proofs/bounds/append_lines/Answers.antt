@@ -1,5 +1,6 @@
 use Rattle.std.proofs.Common.{◌+◌, ◌++◌, ◌∙◌, add-one, arith}
-use Rattle.stn_questions.{specs.Bounds.{named_line, listed_line}, proofs.Listing.range_grown}
+use Rattle.stn_questions.specs.Bounds.{named_line, listed_line}
+use Rattle.stn_text.proofs.Growing.{range_grown}
 use Rattle.stn_questions.proofs.bounds.append_lines.Goals as goal
 
 pub loop-place-preserved : goal.loop-place-preserved

@@ -1,8 +1,7 @@
 use Rattle.std.proofs.Common.{inr, length, refl, ap, arith}
 use Rattle.stn_net.{specs.{Schedule.{HasSchedule, times_of}, Windows.{Dispatch.IsOverdue, Soonest.AreSoonest}}, proofs.Rehearsals.{overdue_cannot_wait, rehearsed_schedule, rehearsed_rising, rehearsed_in_time, rehearsed_once}}
 use Rattle.stn_lift.specs.PlanSource.{events_of}
-use Rattle.stn_site.specs.Bounds.{all_bounds}
-use Rattle.stn_replica.proofs.Rest.{rest_of_plan}
+use Rattle.stn_site.{specs.Bounds.all_bounds, proofs.Rest.rest_of_plan}
 use Rattle.stn_questions.specs.Foresight.{AreSoonestOf}
 use Rattle.stn_questions.proofs.foresight.rehearse_with.Goals as goal
 

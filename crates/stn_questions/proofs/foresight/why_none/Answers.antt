@@ -1,8 +1,8 @@
 use Rattle.std.proofs.{Common.{◌≡◌, ◌+◌, ◌++◌, length, ap, subst, ◌∙◌, arith}, lemmas.Option.MatchOption-at_some}
 use Rattle.stn_net.specs.{Schedule.times_of, Windows.{Dispatch.{IsOverdue, CanWaitUntil}, Soonest.AreLatest}}
 use Rattle.stn_lift.specs.PlanSource.{base_bounds, events_of, IsSoundSource}
-use Rattle.stn_site.specs.Bounds.{all_bounds, live_bounds}
-use Rattle.stn_questions.proofs.Foretold.{all_named}
+use Rattle.stn_site.specs.Bounds.{all_bounds}
+use Rattle.stn_questions.proofs.Foretold.{all_in, all_named}
 use Rattle.stn_questions.proofs.foresight.why_none.Goals as goal
 
 pub returns-in-Some : goal.returns-in-Some
@@ -10,10 +10,9 @@ returns-in-Some g c =
     let source = c.args.plan.now.source in
     let state = c.args.plan.now.state in
     let all = all_bounds source state in
-    let extra : c.deref.result.now ≡ live_bounds state = c.deref.ensures.value ∙ c.in_ok-live.ensures.value in
     let bounds : c.bounds.result.now ++ c.deref.result.now ≡ all =
-    ap (λ front. front ++ c.deref.result.now) (c.bounds.ensures.value ∙ ap (λ of. base_bounds of) c.base-base.ensures) ∙ ap (λ back. base_bounds source ++ back) extra in
-    let events : c.events.result ≡ events_of source = c.events.ensures.value ∙ ap (λ of. events_of of) c.base-base.ensures in
+    all_in source state _ _ _ (c.bounds.ensures.value ∙ ap base_bounds c.base-base.ensures) c.deref.ensures.value c.in_ok-live.ensures.value in
+    let events : c.events.result ≡ events_of source = c.events.ensures.value ∙ ap events_of c.base-base.ensures in
     let found : (length c.in-Some.times.items ≡ events_of source + 1) × AreLatest all (events_of source) (times_of c.in-Some.times.items) =
     rw (bounds, events) at (rw c.in-Some.is at c.in_ok-times.ensures) in
     let (long, latest) = rw (← c.deref-in-Some.ensures.value) at found in

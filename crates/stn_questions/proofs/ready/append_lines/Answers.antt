@@ -1,4 +1,5 @@
-use Rattle.stn_questions.{specs.Ready.ready_line, proofs.Listing.lines_grown}
+use Rattle.stn_questions.specs.Ready.{ready_line}
+use Rattle.stn_text.proofs.Growing.{lines_grown}
 use Rattle.stn_questions.proofs.ready.append_lines.Goals as goal
 
 pub loop-one-preserved : goal.loop-one-preserved

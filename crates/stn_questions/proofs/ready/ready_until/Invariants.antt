@@ -1,6 +1,6 @@
 use Rattle.std.proofs.Common.{◌≡◌, ℕ, ℤ, ◌≤ℤ◌, ◌≤◌, List, All, Some}
 use Rattle.stn_net.specs.{Difference.Difference, Schedule.times_of, Windows.{Dispatch.AreReadyTimes, Leading.AreReadyAt}}
-use Rattle.stn_questions.proofs.{Foretold.HasEachBelow, ReadyLists.counted}
+use Rattle.stn_questions.proofs.ReadyLists.{HasEachBelow, counted}
 use Rattle.stn_questions.proofs.ready.ready_until.Given as goal
 
 abbrev pub invariant-loop-number : goal.invariant-loop-number

@@ -1,4 +1,5 @@
-use Rattle.stn_questions.{specs.Records.record_line, proofs.Listing.lines_grown}
+use Rattle.stn_questions.specs.Records.{record_line}
+use Rattle.stn_text.proofs.Growing.{lines_grown}
 use Rattle.stn_questions.proofs.records.append_lines.Goals as goal
 
 pub loop-id-preserved : goal.loop-id-preserved

@@ -1,6 +1,6 @@
 use Rattle.std.proofs.Common.{◌+◌, [], ◌∷◌, ◌++◌, ◌∙◌, ap, add-one, arith, decimal, append_assoc}
 use Rattle.stn_site.specs.Lines.{line}
-use Rattle.stn_questions.proofs.Listing.{range_grown}
+use Rattle.stn_text.proofs.Growing.{range_grown}
 use Rattle.stn_questions.proofs.steps.append_numbers.Goals as goal
 
 pub loop-before-preserved : goal.loop-before-preserved

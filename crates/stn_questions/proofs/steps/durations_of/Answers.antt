@@ -1,7 +1,6 @@
 use Rattle.std.proofs.{Common.{length, drop, sym, ap, subst, ◌∙◌, arith}, lemmas.List.take_rest}
-use Rattle.stn_lift.specs.PlanSource.{base_bounds, events_of, IsSoundSource}
+use Rattle.stn_lift.{specs.PlanSource.{base_bounds, events_of, IsSoundSource}, proofs.PlanHorizon.horizon_within}
 use Rattle.stn_questions.{specs.Durations.AreDurations, proofs.Lasting.durations_last}
-use Rattle.stn_replica.proofs.Opening.{horizon_within}
 use Rattle.stn_questions.proofs.steps.durations_of.Goals as goal
 
 pub slice_bounds-result-count : goal.slice_bounds-result-count

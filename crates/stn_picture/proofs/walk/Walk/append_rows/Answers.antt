@@ -1,5 +1,6 @@
 use Rattle.std.proofs.Common.{◌+◌, add-one, arith}
-use Rattle.stn_picture.{proofs.Drawing.range_grown, specs.{Walk.walk_row, WalkSeen.seen_walk}}
+use Rattle.stn_text.proofs.Growing.{range_grown}
+use Rattle.stn_picture.specs.{Walk.walk_row, WalkSeen.seen_walk}
 use Rattle.stn_picture.proofs.walk.Walk.append_rows.Goals as goal
 
 pub loop-row-preserved : goal.loop-row-preserved

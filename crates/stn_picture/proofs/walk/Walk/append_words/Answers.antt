@@ -1,5 +1,5 @@
-use Rattle.std.proofs.{Common.{◌++◌, ◌+◌, append_assoc, ap, ◌∙◌}, lemmas.Result.IfOk-equal}
-use Rattle.stn_picture.{proofs.Grown.{then, last}, specs.Walk.{name_opening, words_opening}}
+use Rattle.std.proofs.Common.{◌++◌, ◌+◌, append_assoc, ap, ◌∙◌}
+use Rattle.stn_picture.{proofs.Grown.{then, last}, specs.{Walk.{name_opening, words_opening, asked_text}, WalkSeen.seen_walk}}
 use Rattle.stn_picture.proofs.walk.Walk.append_words.Goals as goal
 
 pub returns : goal.returns
@@ -8,5 +8,6 @@ returns g c =
     let opening = c.in_ok-append_name_opening.ensures ∙ ap (λ top. out ++ name_opening (top + 15)) c.top_of.ensures.value in
     let name = then out _ _ opening c.in_ok-append_link_name.ensures in
     let words = then out _ _ name (c.in_ok-append_words_opening.ensures ∙ ap (λ top. c.append_link_name.new.out.items ++ words_opening (top + 15)) c.top_of-2.ensures.value) in
-    let asked = then out _ _ words c.in_ok-append_row_asked.ensures in
-    IfOk-equal c.extend_from_slice.result _ _ _ (last c.extend_from_slice.result out _ _ asked c.extend_from_slice.ensures.items) (simp append_assoc)
+    let asked = then out _ _ words
+    (c.in_ok-append_asked.ensures ∙ (λ i. c.append_words_opening.new.out.items ++ asked_text (seen_walk c.args.self.now) (c.row_link.ensures i).side (c.bound_of.ensures i))) in
+    last c.extend_from_slice.result out _ _ _ asked c.extend_from_slice.ensures.items (simp append_assoc)

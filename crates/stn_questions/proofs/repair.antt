@@ -1,9 +1,0 @@
-mod Found
-mod Once
-mod Elements
-mod Cycles
-mod Refusing
-mod Largest
-mod LiveOnce
-mod Listing
-mod RepairFound

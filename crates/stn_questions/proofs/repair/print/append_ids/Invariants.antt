@@ -1,6 +1,0 @@
-use Rattle.std.{proofs.Common.{◌≡◌, ◌++◌, take}, specs.List.flat_map}
-use Rattle.stn_questions.specs.Repair.Text.{listed_id}
-use Rattle.stn_questions.proofs.repair.print.append_ids.Given as goal
-
-abbrev pub invariant-loop-id : goal.invariant-loop-id
-invariant-loop-id g l = l.out.items ≡ l.initial.out.items ++ flat_map listed_id (take l.id-index l.ids)

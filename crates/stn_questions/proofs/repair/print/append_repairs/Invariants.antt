@@ -1,6 +1,0 @@
-use Rattle.std.{proofs.Common.{◌≡◌, ◌++◌, take}, specs.List.flat_map}
-use Rattle.stn_questions.specs.Repair.Text.{repair_line}
-use Rattle.stn_questions.proofs.repair.print.append_repairs.Given as goal
-
-abbrev pub invariant-loop-repair : goal.invariant-loop-repair
-invariant-loop-repair g l = l.out.items ≡ l.initial.out.items ++ flat_map repair_line (take l.repair-index l.repairs)

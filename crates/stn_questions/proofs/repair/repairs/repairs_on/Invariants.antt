@@ -1,7 +1,0 @@
-use Rattle.std.proofs.Common.{take}
-use Rattle.stn_lift.specs.PlanSource.{base_bounds}
-use Rattle.stn_questions.specs.Repair.Repairs.{AreRepairs}
-use Rattle.stn_questions.proofs.repair.repairs.repairs_on.Given as goal
-
-abbrev pub invariant-loop-id : goal.invariant-loop-id
-invariant-loop-id g l = AreRepairs (base_bounds l.base) l.live (take l.id-index l.live) l.repairs.items

@@ -1,5 +1,0 @@
-pub mod Ranges
-pub mod Repairs
-pub mod Links
-pub mod Dropped
-pub mod Text

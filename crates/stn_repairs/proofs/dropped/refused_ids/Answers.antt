@@ -1,0 +1,48 @@
+use Rattle.std.proofs.{Common.{◌≡◌, ◌+◌, List, [], ◌∷◌, ◌++◌, ap, sym, subst, ◌∙◌}, lemmas.Bool.iff_false}
+use Rattle.stn_net.specs.Difference.{Difference}
+use Rattle.stn_conflict.specs.Listing.{ListedBounds}
+use Rattle.stn_lift.specs.PlanSource.{base_bounds, events_of}
+use Rattle.stn_repairs.{specs.Dropped.AreRefused, proofs.{Listing.named_at, Refusing.{IsRefusedSoFar, none_refused, keeps_one, refuses_one, all_refused}, dropped.refused_ids.Goals.{then-not-branch+in_ok-push, else-not-branch}}}
+use Rattle.stn_repairs.proofs.dropped.refused_ids.Goals as goal
+
+pub loop-id-init : goal.loop-id-init
+loop-id-init g c =
+    let order = c.args.order.now in
+    let bounds = ap (λ (l : ListedBounds). l.bounds) c.in_ok-kept.ensures ∙ ap (λ (l : List Difference). l ++ []) c.bounds.ensures.value in
+    record {
+      events = ap (λ (l : ListedBounds). l.events) c.in_ok-kept.ensures ∙ c.events.ensures.value;
+      so_far = λ later h. rw c.new-refused.ensures.items (none_refused (base_bounds c.args.base.now) order later (subst (λ kept. AreRefused kept order later) bounds h));
+    }
+
+pub take-requires : goal.take-requires
+take-requires g c =
+    named_at (events_of c.args.base.now) c.args.order.now c.requires c.loop-id.kept.events c.loop-id.id-index c.loop-id-item.result c.loop-id.invariant.events c.loop-id-test.true c.loop-id-item.is
+
+pub loop-id-preserved : goal.loop-id-preserved
+loop-id-preserved g c =
+    let base = base_bounds c.args.base.now in
+    let order = c.args.order.now in
+    let index = c.loop-id.id-index in
+    let entry = c.loop-id-item.result in
+    let refused = c.loop-id.refused.items in
+    let h = c.loop-id.invariant in
+    let e = c.in_ok-take.ensures in
+    elim c.if-not-branch.branch [
+      | then-not-branch+in_ok-push w ↦
+          let same : c.take.new.self ≡ c.loop-id.kept = e.refused w.if-not-branch.true in
+          record {
+            events = ap (λ (l : ListedBounds). l.events) same ∙ h.events;
+            so_far = rw (w.refused-is, w.in_ok-push.ensures.items) (subst (IsRefusedSoFar base order (index + 1) (refused ++ entry.0 ∷ [])) (sym (ap (λ (l : ListedBounds). l.bounds) same))
+                (refuses_one base order index entry refused c.loop-id.kept.bounds c.loop-id-test.true c.loop-id-item.is h.so_far (iff_false e.possible w.if-not-branch.true)));
+          }
+      | else-not-branch w ↦
+          let grown = e.taken w.if-not-branch.false in
+          record {
+            events = ap (λ (l : ListedBounds). l.events) grown ∙ h.events;
+            so_far = rw w.refused-is (subst (IsRefusedSoFar base order (index + 1) refused) (sym (ap (λ (l : ListedBounds). l.bounds) grown))
+                (keeps_one base order index entry refused c.loop-id.kept.bounds c.loop-id-test.true c.loop-id-item.is h.so_far (e.possible.0 w.if-not-branch.false)));
+          }
+    ]
+
+pub returns : goal.returns
+returns g c = all_refused (base_bounds c.args.base.now) c.args.order.now c.loop-id.id-index c.loop-id.refused.items c.loop-id.kept.bounds c.loop-id-test.false c.loop-id.invariant.so_far

@@ -1,0 +1,4 @@
+pub mod Repairs
+pub mod Links
+pub mod Dropped
+pub mod Text
