@@ -1,10 +1,9 @@
 -- Where all steps are chosen, the events that don't count as left, by the steps of a plan and without them.
-use Rattle.std.{proofs.{Common.{◌≡◌, ℕ, ◌+◌, ◌*◌, ◌≤◌, false, ◌||◌, ◌&&◌, not, leb, [], ◌∷◌, None, ap, ◌∙◌, arith, rules}, lemmas.List.FromFn.{fill_by_all, get_or-map-range_with_len, length-map-range_with_len}}, specs.List.list_any}
-use Rattle.stn_replica.{proofs.AllOwn.has_all, specs.{declared.own.{StepRange.StepRange, Own.Own}, Own.{has, is_end, is_own, done_or_others}}}
+use Rattle.std.{proofs.{Common.{◌≡◌, ℕ, ◌+◌, ◌*◌, ◌≤◌, false, ◌||◌, ◌&&◌, not, leb, List, [], ◌∷◌, Bor, Option, Some, None, unwrap_or, option_map, ap, ◌∙◌, arith, rules}, lemmas.List.FromFn.{fill_by_all, get_or-map-range_with_len, length-map-range_with_len}}, specs.List.list_any}
+use Rattle.stn_site.{proofs.AllOwn.has_all, specs.{declared.own.{StepRange.StepRange, Own.Own}, Own.{has, is_end, is_own, done_or_others}, Report.{is_done, done_events}}}
 use Rattle.stn_lift.specs.{BaseBounds.step_of, PlanSource.{PlanSource, steps_of, events_of}}
 use Rattle.stn_records.specs.Content.{Content}
-use Rattle.stn_site.specs.Report.{is_done, done_events}
-use Rattle.stn_command.specs.Dispatch.{every_event, is_chosen, done_or_not_chosen}
+use Rattle.stn_command.specs.{declared.queries.Choice.Choice as ChoiceOfCode, Dispatch.{every_event, is_chosen, done_or_not_chosen}, Query.seen_choice}
 
 chosen_all : (own : Own) (range : StepRange) (steps event : ℕ) → own.steps.now ≡ range ∷ [] → range.first ≡ 0 → range.last ≡ steps → event ≤ 2 * steps
     → is_own own event ≡ is_chosen (record { steps = None; starts = own.starts }) event
@@ -21,6 +20,18 @@ all_chosen own range source state list first last =
     (λ k below.
     get_or-map-range_with_len (λ event. is_done state event || not (is_own own event)) 0 (events_of source + 1) k k false below (omega arith)
     ∙ ap (λ t. is_done state k || not t) (chosen_all own range (steps_of source) k list first last (omega arith)))
+
+-- the same of the steps that a choice names, or of all
+pub chosen_own : (choice : ChoiceOfCode) (steps all : Bor (List StepRange)) (range : StepRange) (source : PlanSource) (state : Content) → steps ≡ unwrap_or choice.steps all
+    → all.now ≡ range ∷ [] → range.first ≡ 0 → range.last ≡ steps_of source
+    → done_or_others (record { steps = steps; starts = choice.starts }) source state ≡ done_or_not_chosen (seen_choice choice) source state
+chosen_own choice steps all range source state is list first last = by choice.steps is
+  where
+    by : (found : Option (Bor (List StepRange))) → steps ≡ unwrap_or found all
+        → done_or_others (record { steps = steps; starts = choice.starts }) source state
+        ≡ done_or_not_chosen (record { steps = option_map (λ ranges. ranges.now) found; starts = choice.starts }) source state
+    by None e = all_chosen (record { steps = steps; starts = choice.starts }) range source state (ap (λ (one : Bor (List StepRange)). one.now) e ∙ list) first last
+    by (Some ranges) e = ap (λ (one : Bor (List StepRange)). done_or_others (record { steps = one; starts = choice.starts }) source state) e
 
 -- where every event is chosen, those count as left that are not done
 pub every_chosen : (source : PlanSource) (state : Content) → done_or_not_chosen every_event source state ≡ done_events source state

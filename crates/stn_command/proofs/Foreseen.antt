@@ -39,7 +39,7 @@ module _ (source : PlanSource) (s t : Content) (live : live_of s ≡ live_of t) 
   rest_same (inr p) (inr q) = p.said ∙ sym q.said
 
 pub foreseen_same : (outlook : Outlook) (choice : Choice) (now : ℤ) (one other : Held) (text last : List ℕ) → one.source ≡ other.source → live_of one.state ≡ live_of other.state
-    → IsForeseen outlook one (done_or_not_chosen choice one.source one.state) now text → IsForeseen outlook other (done_or_not_chosen choice other.source other.state) now last → text ≡ last
+    → IsForeseen outlook one.source one.state (done_or_not_chosen choice one.source one.state) now text → IsForeseen outlook other.source other.state (done_or_not_chosen choice other.source other.state) now last → text ≡ last
 foreseen_same outlook.Next choice now one other text last plan live p q =
     next_same other.source one.state other.state live choice now text last
     (subst (λ (source : PlanSource). IsNextText source one.state (done_or_not_chosen choice source one.state) now text) plan p) q

@@ -1,7 +1,6 @@
 -- What comes next has one text, and a rehearsal has one, or one cause that refuses it.
 use Rattle.std.{proofs.Common.{◌≡◌, inl, inr, ℕ, ◌≤◌, ℤ, Bool, List, ◌++◌, append_assoc, length, take, take_all, Result, Ok, Err, OnOk, sym, ap, ◌∙◌}, specs.{Prelude.{if◌then◌else◌, is_ok, codes}, List.flat_map}}
 use Rattle.stn_net.{specs.declared.windows.answers.Next.{Next, TheVariants.{Run, AllDone, Overdue}}, proofs.OneAnswer.{one_next, one_rehearsal}}
-use Rattle.stn_net.specs.declared.windows.answers.RehearseFault.TheVariants as rehearse_fault
 use Rattle.stn_lift.specs.PlanSource.{PlanSource}
 use Rattle.stn_records.specs.Content.{Content}
 use Rattle.stn_site.specs.{Bounds.all_bounds, Lines.line}

@@ -5,16 +5,18 @@ use Rattle.stn_refusal.specs.{declared.failure.Failure.Failure, Refusals.refused
 use Rattle.stn_lift.specs.{Plan.Steps.PlannedStep, PlanSource.PlanSource}
 use Rattle.stn_records.specs.Content.{Content}
 use Rattle.stn_site.specs.{Held.Held, Bounds.all_bounds, Report.IsReport}
-use Rattle.stn_questions.{specs.{declared.asked.Question.{Question, TheVariants.{Records, Steps, Bounds, Why, WhyApart}}, Answer.IsAnswer, Steps.{source_names, step_name}, Repair.Text.IsRepairsText}, proofs.OneAnswer.one_ready_text}
+use Rattle.stn_questions.{specs.{declared.asked.Question.Question, Answer.IsAnswer, Steps.{source_names, step_name}}, proofs.OneAnswer.one_ready_text}
+use Rattle.stn_repairs.specs.Text.{IsRepairsText}
 use Rattle.stn_picture.specs.{Chart.Look, Picture.IsPicture}
-use Rattle.stn_command.{specs.{Query.{Query, report, check, foresee, ask, repairs, draw, IsSaid, IsForeseen, IsRehearseRefusal, IsOutlookRefusal, IsQuestionRefusal, IsQueryRefusal}, Dispatch.done_or_not_chosen, declared.queries.Outlook.Outlook, Named.{IsNamed, IsSaidWithNames}, NamedLines.with_names}, proofs.Foresight.{one_next_text, one_rest_text, one_overdue}}
+use Rattle.stn_command.{specs.{Query.{Query, report, check, foresee, ask, repairs, draw, IsSaid, IsForeseen, IsRehearseRefusal, IsOutlookRefusal, IsQuestionRefusal, IsQueryRefusal}, Dispatch.done_or_not_chosen, declared.queries.Outlook.Outlook, Named.{Naming, names_alone, in_picture, at_lines, naming, IsNamed, IsNamedBy, IsSaidWithNames}, NamedLines.with_names}, proofs.Foresight.{one_next_text, one_rest_text, one_overdue}}
 use Rattle.stn_command.specs.declared.queries.Outlook.TheVariants as outlook
 use Rattle.stn_net.specs.{Failures.bound_failure, declared.bound.BoundFault.TheVariants.NoEvent}
 
-one_foreseen : (outlook : Outlook) (held : Held) (done : List Bool) (now : ℤ) (text other : List ℕ) → IsForeseen outlook held done now text → IsForeseen outlook held done now other → text ≡ other
-one_foreseen outlook.Next held done now text other p q = one_next_text held.source held.state done now text other p q
-one_foreseen outlook.Ready held done now text other p q = one_ready_text (all_bounds held.source held.state) done now text other p q
-one_foreseen outlook.Rehearse held done now text other p q = one_rest_text held.source held.state done now text other p q
+one_foreseen : (outlook : Outlook) (source : PlanSource) (state : Content) (done : List Bool) (now : ℤ) (text other : List ℕ) → IsForeseen outlook source state done now text
+    → IsForeseen outlook source state done now other → text ≡ other
+one_foreseen outlook.Next source state done now text other p q = one_next_text source state done now text other p q
+one_foreseen outlook.Ready source state done now text other p q = one_ready_text (all_bounds source state) done now text other p q
+one_foreseen outlook.Rehearse source state done now text other p q = one_rest_text source state done now text other p q
 
 abbrev pub OnePicture : Type 0
 OnePicture = (look : Look) → (names : List (List ℕ)) → (source : PlanSource) → (state : Content) → (text other : List ℕ)
@@ -28,7 +30,7 @@ pub one_text : ((source : PlanSource) → (state : Content) → (text other : Li
 one_text reports answers mends pictures report held text other p q = reports held.source held.state text other p q
 one_text reports answers mends pictures (check times) held text other p q = p ∙ sym q
 one_text reports answers mends pictures (foresee outlook now choice) held text other p q =
-    one_foreseen outlook held (done_or_not_chosen choice held.source held.state) now text other p q
+    one_foreseen outlook held.source held.state (done_or_not_chosen choice held.source held.state) now text other p q
 one_text reports answers mends pictures (ask question) held text other p q = answers held.source held.state question text other p q
 one_text reports answers mends pictures repairs held text other p q = mends held.source held.state text other p q
 one_text reports answers mends pictures (draw look) held text other p q = pictures look (source_names held.source) held.source held.state text other p q
@@ -42,16 +44,12 @@ module _ (one : (query : Query) (held : Held) (text other : List ℕ) → IsSaid
 
   pub one_named : OnePicture → (query : Query) (steps : List PlannedStep) (held : Held) (text other : List ℕ) → IsNamed query steps held text
       → IsNamed query steps held other → text ≡ other
-  one_named pictures report steps held text other p q = with_names_once report steps held text other p q
-  one_named pictures (check times) steps held text other p q = with_names_once (check times) steps held text other p q
-  one_named pictures (foresee outlook now choice) steps held text other p q = with_names_once (foresee outlook now choice) steps held text other p q
-  one_named pictures (ask Records) steps held text other p q = with_names_once (ask Records) steps held text other p q
-  one_named pictures (ask Steps) steps held text other p q = p ∙ sym q
-  one_named pictures (ask Bounds) steps held text other p q = with_names_once (ask Bounds) steps held text other p q
-  one_named pictures (ask (Why event)) steps held text other p q = with_names_once (ask (Why event)) steps held text other p q
-  one_named pictures (ask (WhyApart from to)) steps held text other p q = with_names_once (ask (WhyApart from to)) steps held text other p q
-  one_named pictures repairs steps held text other p q = with_names_once repairs steps held text other p q
-  one_named pictures (draw look) steps held text other p q = pictures look (map step_name steps) held.source held.state text other p q
+  one_named pictures query steps held text other p q = by (naming query) p q
+    where
+      by : (kind : Naming) → IsNamedBy kind query steps held text → IsNamedBy kind query steps held other → text ≡ other
+      by names_alone p q = p ∙ sym q
+      by (in_picture look) p q = pictures look (map step_name steps) held.source held.state text other p q
+      by at_lines p q = with_names_once query steps held text other p q
 
 -- one test, and what stands against a query where it holds
 one_of : {P Q : Type 0} (found cause other : Option Failure) → ¬ (P × Q) → (P × (cause ≡ found)) ⊎ (Q × (cause ≡ None))
@@ -61,45 +59,46 @@ one_of found cause other not_both (inl p) (inr q) = absurd (not_both (p.0, q.0))
 one_of found cause other not_both (inr p) (inl q) = absurd (not_both (q.0, p.0))
 one_of found cause other not_both (inr p) (inr q) = p.1 ∙ sym q.1
 
-rehearsal_refused : (held : Held) (done : List Bool) (now : ℤ) (cause other : Option Failure) → IsRehearseRefusal held done now cause → IsRehearseRefusal held done now other → cause ≡ other
-rehearsal_refused held done now cause other (inl p) (inl q) =
-    p.2 ∙ (ap (λ (event : ℕ). Some (refused_of code.Overdue event)) (one_overdue held.source held.state done now p.0 q.0 p.1 q.1) ∙ sym q.2)
-rehearsal_refused held done now cause other (inl p) (inr q) = absurd (q.0 (p.0, p.1))
-rehearsal_refused held done now cause other (inr p) (inl q) = absurd (p.0 (q.0, q.1))
-rehearsal_refused held done now cause other (inr p) (inr q) = p.1 ∙ sym q.1
+rehearsal_refused : (source : PlanSource) (state : Content) (done : List Bool) (now : ℤ) (cause other : Option Failure) → IsRehearseRefusal source state done now cause
+    → IsRehearseRefusal source state done now other → cause ≡ other
+rehearsal_refused source state done now cause other (inl p) (inl q) =
+    p.2 ∙ (ap (λ (event : ℕ). Some (refused_of code.Overdue event)) (one_overdue source state done now p.0 q.0 p.1 q.1) ∙ sym q.2)
+rehearsal_refused source state done now cause other (inl p) (inr q) = absurd (q.0 (p.0, p.1))
+rehearsal_refused source state done now cause other (inr p) (inl q) = absurd (p.0 (q.0, q.1))
+rehearsal_refused source state done now cause other (inr p) (inr q) = p.1 ∙ sym q.1
 
-outlook_refused : (outlook : Outlook) (held : Held) (done : List Bool) (now : ℤ) (cause other : Option Failure) → IsOutlookRefusal outlook held done now cause
-    → IsOutlookRefusal outlook held done now other → cause ≡ other
-outlook_refused outlook.Next held done now cause other p q = p ∙ sym q
-outlook_refused outlook.Ready held done now cause other p q = p ∙ sym q
-outlook_refused outlook.Rehearse held done now cause other p q = rehearsal_refused held done now cause other p q
+outlook_refused : (outlook : Outlook) (source : PlanSource) (state : Content) (done : List Bool) (now : ℤ) (cause other : Option Failure)
+    → IsOutlookRefusal outlook source state done now cause → IsOutlookRefusal outlook source state done now other → cause ≡ other
+outlook_refused outlook.Next source state done now cause other p q = p ∙ sym q
+outlook_refused outlook.Ready source state done now cause other p q = p ∙ sym q
+outlook_refused outlook.Rehearse source state done now cause other p q = rehearsal_refused source state done now cause other p q
 
 -- a test that refuses where it fails, and what refuses else
-one_behind : (t : Bool) (found : Option Failure) (Refuses : Option Failure → Type 0) (cause other : Option Failure)
+one_after : (t : Bool) (found : Option Failure) (Refuses : Option Failure → Type 0) (cause other : Option Failure)
     → ((a b : Option Failure) → Refuses a → Refuses b → a ≡ b) → ((t ≡ false) × (cause ≡ found)) ⊎ ((t ≡ true) × Refuses cause)
     → ((t ≡ false) × (other ≡ found)) ⊎ ((t ≡ true) × Refuses other) → cause ≡ other
-one_behind t found Refuses cause other one (inl p) (inl q) = p.1 ∙ sym q.1
-one_behind t found Refuses cause other one (inl p) (inr q) = absurd (true≢false (sym q.0 ∙ p.0))
-one_behind t found Refuses cause other one (inr p) (inl q) = absurd (true≢false (sym p.0 ∙ q.0))
-one_behind t found Refuses cause other one (inr p) (inr q) = one cause other p.1 q.1
+one_after t found Refuses cause other one (inl p) (inl q) = p.1 ∙ sym q.1
+one_after t found Refuses cause other one (inl p) (inr q) = absurd (true≢false (sym q.0 ∙ p.0))
+one_after t found Refuses cause other one (inr p) (inl q) = absurd (true≢false (sym p.0 ∙ q.0))
+one_after t found Refuses cause other one (inr p) (inr q) = one cause other p.1 q.1
 
-question_refused : (held : Held) (question : Question) (cause other : Option Failure) → IsQuestionRefusal held question cause → IsQuestionRefusal held question other → cause ≡ other
-question_refused held question cause other (inl p) (inl q) = p.1 ∙ sym q.1
-question_refused held question cause other (inl p) (inr (inl q)) = absurd (q.0 p.0)
-question_refused held question cause other (inl p) (inr (inr q)) = absurd (q.0 p.0)
-question_refused held question cause other (inr (inl p)) (inl q) = absurd (p.0 q.0)
-question_refused held question cause other (inr (inr p)) (inl q) = absurd (p.0 q.0)
-question_refused held question cause other (inr (inl p)) (inr (inl q)) = p.2 ∙ sym q.2
-question_refused held question cause other (inr (inl p)) (inr (inr q)) = absurd (q.1 p.1)
-question_refused held question cause other (inr (inr p)) (inr (inl q)) = absurd (p.1 q.1)
-question_refused held question cause other (inr (inr p)) (inr (inr q)) = p.2 ∙ sym q.2
+question_refused : (source : PlanSource) (question : Question) (cause other : Option Failure) → IsQuestionRefusal source question cause → IsQuestionRefusal source question other → cause ≡ other
+question_refused source question cause other (inl p) (inl q) = p.1 ∙ sym q.1
+question_refused source question cause other (inl p) (inr (inl q)) = absurd (q.0 p.0)
+question_refused source question cause other (inl p) (inr (inr q)) = absurd (q.0 p.0)
+question_refused source question cause other (inr (inl p)) (inl q) = absurd (p.0 q.0)
+question_refused source question cause other (inr (inr p)) (inl q) = absurd (p.0 q.0)
+question_refused source question cause other (inr (inl p)) (inr (inl q)) = p.2 ∙ sym q.2
+question_refused source question cause other (inr (inl p)) (inr (inr q)) = absurd (q.1 p.1)
+question_refused source question cause other (inr (inr p)) (inr (inl q)) = absurd (p.1 q.1)
+question_refused source question cause other (inr (inr p)) (inr (inr q)) = p.2 ∙ sym q.2
 
 pub one_refusal : (query : Query) (held : Held) (cause other : Option Failure) → IsQueryRefusal query held cause → IsQueryRefusal query held other → cause ≡ other
 one_refusal report held cause other p q = p ∙ sym q
 one_refusal (check times) held cause other p q = one_of _ cause other (λ both. both.0 both.1) p q
 one_refusal (foresee outlook now choice) held cause other p q =
-    one_behind _ (Some (bound_failure NoEvent)) (IsOutlookRefusal outlook held (done_or_not_chosen choice held.source held.state) now) cause other
-    (outlook_refused outlook held (done_or_not_chosen choice held.source held.state) now) p q
-one_refusal (ask question) held cause other p q = question_refused held question cause other p q
+    one_after _ (Some (bound_failure NoEvent)) (IsOutlookRefusal outlook held.source held.state (done_or_not_chosen choice held.source held.state) now) cause other
+    (outlook_refused outlook held.source held.state (done_or_not_chosen choice held.source held.state) now) p q
+one_refusal (ask question) held cause other p q = question_refused held.source question cause other p q
 one_refusal repairs held cause other p q = p ∙ sym q
 one_refusal (draw look) held cause other p q = p ∙ sym q

@@ -1,10 +1,10 @@
 -- Each plan and each state have a picture, however it is drawn and with any names of the steps.
-use Rattle.std.{proofs.{Common.{◌≡◌, ◌⊎◌, inl, inr, ℕ, ℤ, pos, ◌+◌, ◌<◌, ◌≤◌, not, List, [], ◌∷◌, ◌++◌, map, filter, neg_ℤ, refl, sym, subst, arith}, lemmas.{Int.{ints, by_lt_z}, List.{Elements.{All-filter, All-from_get_or, All-map, All-nil, All-weaker}, FromFn.{get_or-map-range_with_len, get_or-range_with_len, length-map-range_with_len, length-range_with_len}}}}, specs.{Prelude.{Option, Some, None, All}, List.range_with_len}}
+use Rattle.std.{proofs.{Common.{◌⊎◌, inl, inr, ℕ, ℤ, pos, ◌+◌, ◌<◌, ◌≤◌, not, List, [], ◌∷◌, ◌++◌, map, filter, neg_ℤ, refl, sym, subst, arith}, lemmas.{Int.{ints, by_lt_z}, List.{Elements.{All-filter, All-from_get_or, All-map, All-nil, All-weaker}, FromFn.{get_or-map-range_with_len, get_or-range_with_len, length-map-range_with_len, length-range_with_len}}}}, specs.{Prelude.{Option, Some, None, All}, List.range_with_len}}
 use Rattle.stn_time.{proofs.Each.All-right, specs.Time.horizon}
 use Rattle.stn_net.specs.{Difference.{Difference, IsBoundWithin}, Schedule.{Meets, HasSchedule}, Windows.Window.IsWindow}
 use Rattle.stn_lift.specs.PlanSource.{PlanSource, base_bounds, events_of}
 use Rattle.stn_records.specs.Content.{Content, live_of}
-use Rattle.stn_site.specs.{Bounds.{all_bounds, live_bounds}, Names.live_ids, Report.is_done, Windows.{window_at, AreWindows}}
+use Rattle.stn_site.specs.{Bounds.{all_bounds, live_bounds}, Names.live_ids, Report.is_done, Windows.{AreWindows}}
 use Rattle.stn_questions.proofs.{Found.{AreFound, IsInOrder, possible_found, window_found}, Cycles.some_cycle, SomeReport.{IsSoundState, differences}}
 use Rattle.stn_picture.specs.{Chart.{Look, floor, floors, floors_at, overdue_event, chart_of}, Frame.plan_text, Walk.{walk_of, walk_text}, Picture.IsPicture}
 use Rattle.stn_command.proofs.SomeRepairs.{IsBegun, base_begun, found_or_none, live_in_order, more_begun, some_repairs}

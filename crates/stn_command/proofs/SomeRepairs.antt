@@ -1,11 +1,12 @@
 -- Each plan and each state have a text of what mends a conflict.
 use Rattle.std.{proofs.{Common.{◌≡◌, ◌⊎◌, inl, inr, ℕ, ℤ, ◌+◌, List, [], ◌∷◌, ◌++◌, not, filter, map, codes, take, neg_ℤ, refl, arith}, lemmas.{Int.ints, List.Elements.{All-append, All-filter, All-head, All-push, All-tail, All-take, All-weaker}}}, specs.{Prelude.All, List.flat_map, Set.is_member}}
-use Rattle.stn_net.specs.{Difference.{Difference, IsBoundWithin}, Horizon.horizon_bounds, Schedule.{Meets, HasSchedule}}
+use Rattle.stn_net.{specs.{Difference.{Difference, IsBoundWithin}, Horizon.horizon_bounds, Schedule.{Meets, HasSchedule}}, proofs.Ranges.range_of_ends}
 use Rattle.stn_lift.specs.PlanSource.{PlanSource, events_of, base_bounds, IsSoundSource}
 use Rattle.stn_records.specs.{Id.{SiteCounter, same_ids}, Record.same_marks, declared.record.{Record.Record, Mark.TheVariants.{Plain, Done}}, Content.{Content, live_of}}
 use Rattle.stn_conflict.proofs.Known.{known_within, known_first}
 use Rattle.stn_site.{specs.{Bounds.bounds_of, Lines.line}, proofs.Named.{records_from_bounds, bounds_from_records}}
-use Rattle.stn_questions.{specs.{declared.repair.Repair.Repair, Repair.{Repairs.{without, others, IsRepair, AreRepairs}, Dropped.{marked, facts_first, AreRefused}, Text.{repair_line, drop_line, IsRepairsText}}}, proofs.{Ranges.range_of_ends, Found.{AreFound, IsInOrder, possible_found, tightest_found, found_or_refused}, SomeReport.IsSoundState}}
+use Rattle.stn_repairs.specs.{declared.repair.Repair.Repair, Repairs.{without, others, IsRepair, AreRepairs}, Dropped.{marked, facts_first, AreRefused}, Text.{repair_line, drop_line, IsRepairsText}}
+use Rattle.stn_questions.proofs.{Found.{AreFound, IsInOrder, possible_found, tightest_found, found_or_refused}, SomeReport.IsSoundState}
 
 abbrev Entries : Type 0
 Entries = List (SiteCounter × Record)

@@ -8,7 +8,7 @@ use Rattle.stn_site.specs.{Held.Held, SoundSite.IsSoundSite, Lines.line, Names.b
 use Rattle.stn_questions.{specs.{declared.asked.Question.{Question, TheVariants.{Records, Steps, Bounds, Why, WhyApart}}, Answer.{AsksOfNoEvent, AsksOfSameEvent}, Steps.{source_names, step_name, name_lines}}, proofs.{SomeReport.{IsSoundState, some_report}, SomeAnswer.some_answer, SomeDispatch.{possible_or_none, some_next, some_rest, some_ready}}}
 use Rattle.stn_guard.specs.Adding.{are_within}
 use Rattle.stn_picture.specs.Chart.{Look}
-use Rattle.stn_command.{specs.{declared.queries.Outlook.Outlook, Named.{IsNamed, IsSaidWithNames}, NamedLines.with_names, Dispatch.{Choice, is_chosen, done_or_not_chosen, check_text, next_text, runs_text}, Query.{Query, report, check, foresee, ask, repairs, draw, IsForeseen, IsSaid, IsOutlookRefusal, has_steps, IsQueryRefusal}}, proofs.{OneSaid.one_refusal, SomeRepairs.some_repairs_text, SomePicture.some_picture}}
+use Rattle.stn_command.{specs.{declared.queries.Outlook.Outlook, Named.{Naming, names_alone, in_picture, at_lines, naming, IsNamed, IsNamedBy, IsSaidWithNames}, NamedLines.with_names, Dispatch.{Choice, is_chosen, done_or_not_chosen, check_text, next_text, runs_text}, Query.{Query, report, check, foresee, ask, repairs, draw, IsForeseen, IsSaid, IsOutlookRefusal, has_steps, IsQueryRefusal}}, proofs.{OneSaid.one_refusal, SomeRepairs.some_repairs_text, SomePicture.some_picture}}
 use Rattle.stn_command.specs.declared.queries.Outlook.TheVariants as outlook
 
 -- something is said to the query, which nothing refuses, or a cause refuses it
@@ -19,8 +19,8 @@ IsSaidOrRefused query held =
 -- and so of the events that are left
 abbrev IsForeseenOrRefused : Outlook → Held → List Bool → ℤ → Type 0
 IsForeseenOrRefused outlook held done now =
-    ((text : List ℕ) × IsOutlookRefusal outlook held done now None × IsForeseen outlook held done now text)
-    ⊎ ((cause : Refusal) × IsOutlookRefusal outlook held done now (Some (Refused cause)))
+    ((text : List ℕ) × IsOutlookRefusal outlook held.source held.state done now None × IsForeseen outlook held.source held.state done now text)
+    ⊎ ((cause : Refusal) × IsOutlookRefusal outlook held.source held.state done now (Some (Refused cause)))
 
 not_past : (last event : ℕ) → (last < event) ⊎ (¬ (last < event))
 not_past last event = elim (cases_lt last event) [ inl past ↦ inl past | inr within ↦ inr (λ past. omega (arith, past, within)) ]
@@ -134,13 +134,9 @@ module _ (held : Held) (sound : IsSoundSite held) where
   by_said query steps free = (let (text, is) = some_said query free in (with_names (map step_name steps) held.state text, (text, is, refl)))
 
   pub some_named : (query : Query) (steps : List PlannedStep) → IsQueryRefusal query held None → (text : List ℕ) × IsNamed query steps held text
-  some_named report steps free = by_said report steps free
-  some_named (check times) steps free = by_said (check times) steps free
-  some_named (foresee outlook now choice) steps free = by_said (foresee outlook now choice) steps free
-  some_named (ask Records) steps free = by_said (ask Records) steps free
-  some_named (ask Steps) steps free = (name_lines 0 steps, refl)
-  some_named (ask Bounds) steps free = by_said (ask Bounds) steps free
-  some_named (ask (Why event)) steps free = by_said (ask (Why event)) steps free
-  some_named (ask (WhyApart from to)) steps free = by_said (ask (WhyApart from to)) steps free
-  some_named repairs steps free = by_said repairs steps free
-  some_named (draw look) steps free = some_picture held.source held.state state_sound look (map step_name steps)
+  some_named query steps free = by (naming query)
+    where
+      by : (kind : Naming) → (text : List ℕ) × IsNamedBy kind query steps held text
+      by names_alone = (name_lines 0 steps, refl)
+      by (in_picture look) = some_picture held.source held.state state_sound look (map step_name steps)
+      by at_lines = by_said query steps free

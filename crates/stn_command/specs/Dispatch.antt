@@ -5,8 +5,7 @@ use Rattle.stn_net.specs.{Event.event_text, Schedule.HasSchedule, declared.windo
 use Rattle.stn_net.specs.declared.windows.answers.RehearseFault.TheVariants as rehearse_fault
 use Rattle.stn_lift.specs.PlanSource.{PlanSource, events_of}
 use Rattle.stn_records.specs.Content.{Content}
-use Rattle.stn_site.specs.{declared.names.BoundName.BoundName, Bounds.all_bounds, Lines.line, Names.name_text, Report.is_done}
-use Rattle.stn_replica.specs.{Dispatch.IsRestWith, Own.{has, is_end}, declared.own.StepRange.StepRange}
+use Rattle.stn_site.specs.{declared.{names.BoundName.BoundName, own.StepRange.StepRange}, Bounds.all_bounds, Lines.line, Names.name_text, Report.is_done, Dispatch.IsRestWith, Own.{has, is_end}}
 
 -- events of a plan: those of the steps of some ranges, or of all steps where none are given; or the starts of these steps alone
 pub record Choice : Type 0 where

@@ -4,19 +4,32 @@ use Rattle.stn_refusal.specs.{declared.failure.Failure.Failure, Refusals.out_of_
 use Rattle.stn_lift.specs.{Plan.{Steps.{PlannedStep, plan_of}, Failures.plan_failure}, declared.plan.fault.PlanFault.PlanFault, PlanSource.steps_of}
 use Rattle.stn_site.specs.Held.{Held}
 use Rattle.stn_questions.specs.{declared.asked.Question.TheVariants.Steps, Steps.{planned_steps, step_name, name_lines}}
-use Rattle.stn_picture.specs.Picture.{IsPicture}
+use Rattle.stn_picture.specs.{Chart.Look, Picture.IsPicture}
 use Rattle.stn_command.specs.{NamedLines.with_names, Query.{Query, ask, draw, IsSaid, IsQueryRefusal}, Words.no_such_word}
 
 -- the answer without names, and at the end of its lines those of such steps
 abbrev pub IsSaidWithNames : Query → List PlannedStep → Held → List ℕ → Type 0
 IsSaidWithNames query steps held text = (plain : List ℕ) × IsSaid query held plain × (text ≡ with_names (map step_name steps) held.state plain)
 
--- the text answers the query, where the steps have the actions and arguments of such steps: these are all that is said of the steps, and
--- a picture has them as names
+-- where the names of steps stand: they are all that is said; or a picture has them; or they stand at the ends of the lines
+pub data Naming : Type 0 where
+  names_alone : Naming
+  in_picture : (look : Look) → Naming
+  at_lines : Naming
+
+abbrev pub naming : Query → Naming
+naming (ask Steps) = names_alone
+naming (draw look) = in_picture look
+naming query = at_lines
+
+abbrev pub IsNamedBy : Naming → Query → List PlannedStep → Held → List ℕ → Type 0
+IsNamedBy names_alone query steps held text = text ≡ name_lines 0 steps
+IsNamedBy (in_picture look) query steps held text = IsPicture look (map step_name steps) held.source held.state text
+IsNamedBy at_lines query steps held text = IsSaidWithNames query steps held text
+
+-- the text answers the query, where the steps have the actions and arguments of such steps
 abbrev pub IsNamed : Query → List PlannedStep → Held → List ℕ → Type 0
-IsNamed (ask Steps) steps held text = text ≡ name_lines 0 steps
-IsNamed (draw look) steps held text = IsPicture look (map step_name steps) held.source held.state text
-IsNamed query steps held text = IsSaidWithNames query steps held text
+IsNamed query = IsNamedBy (naming query) query
 
 -- the text is said; or something refuses the query, or memory ran out
 abbrev pub SaysNamed : {A : Type 0} → Query → List PlannedStep → Held → Result (Vec ℕ A) Failure → Type 0
@@ -28,14 +41,14 @@ abbrev pub count_refusal : ℕ → Result (List PlannedStep) PlanFault → Optio
 count_refusal steps (Err fault) = Some (plan_failure fault)
 count_refusal steps (Ok named) = if length named == steps then None else Some no_such_word
 
--- a cause comes before others
-abbrev pub IsBehind : Option Failure → (Option Failure → Type 0) → Option Failure → Type 0
-IsBehind (Some failure) Next cause = cause ≡ Some failure
-IsBehind None Next cause = Next cause
+-- a cause, or those after it
+abbrev pub IsAfter : Option Failure → (Option Failure → Type 0) → Option Failure → Type 0
+IsAfter (Some failure) Next cause = cause ≡ Some failure
+IsAfter None Next cause = Next cause
 
 -- why nothing is said with these names: the plan names no steps of this one, or the query is refused
 abbrev pub IsNamesRefusal : Query → List ℕ → Held → Option Failure → Type 0
-IsNamesRefusal query plan held cause = IsBehind (count_refusal (steps_of held.source) (plan_of plan)) (IsQueryRefusal query held) cause
+IsNamesRefusal query plan held cause = IsAfter (count_refusal (steps_of held.source) (plan_of plan)) (IsQueryRefusal query held) cause
 
 -- what is said with the names of a plan's text, or with none, and why it is not
 abbrev pub IsSaidBy : Option (List ℕ) → Query → Held → List ℕ → Type 0

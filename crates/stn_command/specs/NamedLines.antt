@@ -1,5 +1,5 @@
 -- Answers whose lines end in the names of the steps that they are about.
-use Rattle.std.specs.{Prelude.{ℕ, ◌-◌, ◌==◌, ◌||◌, Bool, bytes_eq, if◌then◌else◌, List, [], ◌∷◌, ◌++◌, codes, length, take, slice_index_or, Option, Some, None}, List.{filter_map, flat_map, list_any, range_with_len}}
+use Rattle.std.specs.{Prelude.{ℕ, ◌-◌, ◌==◌, ◌||◌, bytes_eq, if◌then◌else◌, List, [], ◌∷◌, ◌++◌, codes, length, take, slice_index_or, Option, Some, None}, List.{filter_map, flat_map, list_any, range_with_len}}
 use Rattle.std.specs.FinMap as map
 use Rattle.stn_text.specs.Lines.{lines_of, words_of}
 use Rattle.stn_lift.specs.BaseBounds.{step_of}

@@ -3,11 +3,12 @@ use Rattle.std.specs.{Prelude.{◌≡◌, ◌≢◌, ◌⊎◌, ℕ, ℤ, pos, B
 use Rattle.stn_refusal.specs.declared.code.Code.TheVariants as code
 use Rattle.stn_refusal.specs.{declared.failure.Failure.Failure, Refusals.{refused_of, out_of_memory}}
 use Rattle.stn_net.specs.{Failures.bound_failure, Schedule.times_of, declared.bound.BoundFault.TheVariants.{NoEvent, SameEvent}}
-use Rattle.stn_lift.specs.PlanSource.{events_of, steps_of}
-use Rattle.stn_site.specs.{Bounds.all_bounds, Held.Held, Names.broken_bound, Report.IsReport}
-use Rattle.stn_replica.specs.Own.{is_within}
+use Rattle.stn_lift.specs.PlanSource.{PlanSource, events_of, steps_of}
+use Rattle.stn_records.specs.Content.{Content}
+use Rattle.stn_site.specs.{Bounds.all_bounds, Held.Held, Names.broken_bound, Report.IsReport, Own.is_within}
 use Rattle.stn_guard.specs.Adding.{are_within}
-use Rattle.stn_questions.specs.{declared.asked.Question.Question, Answer.{IsAnswer, AsksOfNoEvent, AsksOfSameEvent}, Ready.IsReadyWith, Steps.source_names, Repair.Text.IsRepairsText}
+use Rattle.stn_questions.specs.{declared.asked.Question.Question, Answer.{IsAnswer, AsksOfNoEvent, AsksOfSameEvent}, Ready.IsReadyWith, Steps.source_names}
+use Rattle.stn_repairs.specs.Text.{IsRepairsText}
 use Rattle.stn_picture.specs.{Chart.{Look, seen_look}, Picture.IsPicture}
 use Rattle.stn_command.specs.{declared.queries.{Query.Query as QueryOfCode, Choice.Choice as ChoiceOfCode, Outlook.Outlook}, Words.no_such_word, Dispatch.{Choice, done_or_not_chosen, check_text, IsNextText, IsRestText, IsOverdueAt, IsRefusedRehearsal}}
 use Rattle.stn_command.specs.declared.queries.Query.TheVariants as asked
@@ -37,72 +38,82 @@ seen_query asked.Repairs = repairs
 seen_query (asked.Draw look) = draw (seen_look look)
 
 -- what is said of the events that are left from now on, where these events count as done
-abbrev pub IsForeseen : Outlook → Held → List Bool → ℤ → List ℕ → Type 0
-IsForeseen outlook.Next held done now text = IsNextText held.source held.state done now text
-IsForeseen outlook.Ready held done now text = IsReadyWith (all_bounds held.source held.state) done now text
-IsForeseen outlook.Rehearse held done now text = IsRestText held.source held.state done now text
+abbrev pub IsForeseen : Outlook → PlanSource → Content → List Bool → ℤ → List ℕ → Type 0
+IsForeseen outlook.Next source state done now text = IsNextText source state done now text
+IsForeseen outlook.Ready source state done now text = IsReadyWith (all_bounds source state) done now text
+IsForeseen outlook.Rehearse source state done now text = IsRestText source state done now text
 
--- the text answers the query; the origin's time is 0
+-- the text answers the query about a plan and what a site holds; the origin's time is 0
+abbrev pub IsSaidIn : PlanSource → Content → Query → List ℕ → Type 0
+IsSaidIn source state report text = IsReport source state text
+IsSaidIn source state (check times) text = text ≡ check_text (broken_bound source state (times_of (pos 0 ∷ times)))
+IsSaidIn source state (foresee outlook now choice) text = IsForeseen outlook source state (done_or_not_chosen choice source state) now text
+IsSaidIn source state (ask question) text = IsAnswer source state question text
+IsSaidIn source state repairs text = IsRepairsText source state text
+IsSaidIn source state (draw look) text = IsPicture look (source_names source) source state text
+
 abbrev pub IsSaid : Query → Held → List ℕ → Type 0
-IsSaid report held text = IsReport held.source held.state text
-IsSaid (check times) held text = text ≡ check_text (broken_bound held.source held.state (times_of (pos 0 ∷ times)))
-IsSaid (foresee outlook now choice) held text = IsForeseen outlook held (done_or_not_chosen choice held.source held.state) now text
-IsSaid (ask question) held text = IsAnswer held.source held.state question text
-IsSaid repairs held text = IsRepairsText held.source held.state text
-IsSaid (draw look) held text = IsPicture look (source_names held.source) held.source held.state text
+IsSaid query held text = IsSaidIn held.source held.state query text
 
 -- why a check is refused: there is not one time for each event
-abbrev pub IsCheckRefusal : Held → List ℤ → Option Failure → Type 0
-IsCheckRefusal held times cause = ((length times ≢ events_of held.source) × (cause ≡ Some no_such_word))
-    ⊎ ((length times ≡ events_of held.source) × (cause ≡ None))
+abbrev pub IsCheckRefusal : PlanSource → List ℤ → Option Failure → Type 0
+IsCheckRefusal source times cause = ((length times ≢ events_of source) × (cause ≡ Some no_such_word))
+    ⊎ ((length times ≡ events_of source) × (cause ≡ None))
 
 -- why a rehearsal is: an event is overdue
-abbrev pub IsRehearseRefusal : Held → List Bool → ℤ → Option Failure → Type 0
-IsRehearseRefusal held done now cause = ((event : ℕ) × IsOverdueAt held.source held.state done now event × (cause ≡ Some (refused_of code.Overdue event)))
-    ⊎ ((¬ IsRefusedRehearsal held.source held.state done now) × (cause ≡ None))
+abbrev pub IsRehearseRefusal : PlanSource → Content → List Bool → ℤ → Option Failure → Type 0
+IsRehearseRefusal source state done now cause = ((event : ℕ) × IsOverdueAt source state done now event × (cause ≡ Some (refused_of code.Overdue event)))
+    ⊎ ((¬ IsRefusedRehearsal source state done now) × (cause ≡ None))
 
 -- why nothing is said of the events that are left
-abbrev pub IsOutlookRefusal : Outlook → Held → List Bool → ℤ → Option Failure → Type 0
-IsOutlookRefusal outlook.Rehearse held done now cause = IsRehearseRefusal held done now cause
-IsOutlookRefusal other held done now cause = cause ≡ None
+abbrev pub IsOutlookRefusal : Outlook → PlanSource → Content → List Bool → ℤ → Option Failure → Type 0
+IsOutlookRefusal outlook.Rehearse source state done now cause = IsRehearseRefusal source state done now cause
+IsOutlookRefusal other source state done now cause = cause ≡ None
 
 -- a plan of so many steps has all steps that are chosen
 abbrev pub has_steps : Choice → ℕ → Bool
 has_steps choice steps = list_all (λ range. is_within steps range) (unwrap_or choice.steps [])
 
 -- why nothing is said of chosen events: the plan has not all their steps; or the same
-abbrev pub IsForesightRefusal : Held → Outlook → ℤ → Choice → Option Failure → Type 0
-IsForesightRefusal held outlook now choice cause = ((has_steps choice (steps_of held.source) ≡ false) × (cause ≡ Some (bound_failure NoEvent)))
-    ⊎ ((has_steps choice (steps_of held.source) ≡ true) × IsOutlookRefusal outlook held (done_or_not_chosen choice held.source held.state) now cause)
+abbrev pub IsForesightRefusal : PlanSource → Content → Outlook → ℤ → Choice → Option Failure → Type 0
+IsForesightRefusal source state outlook now choice cause = ((has_steps choice (steps_of source) ≡ false) × (cause ≡ Some (bound_failure NoEvent)))
+    ⊎ ((has_steps choice (steps_of source) ≡ true) × IsOutlookRefusal outlook source state (done_or_not_chosen choice source state) now cause)
 
 -- why a question is: it is about an event that the plan has not, or about an event and itself
-abbrev pub IsQuestionRefusal : Held → Question → Option Failure → Type 0
-IsQuestionRefusal held question cause = (AsksOfNoEvent held.source question × (cause ≡ Some (bound_failure NoEvent)))
-    ⊎ ((¬ AsksOfNoEvent held.source question) × AsksOfSameEvent question × (cause ≡ Some (bound_failure SameEvent)))
-    ⊎ ((¬ AsksOfNoEvent held.source question) × (¬ AsksOfSameEvent question) × (cause ≡ None))
+abbrev pub IsQuestionRefusal : PlanSource → Question → Option Failure → Type 0
+IsQuestionRefusal source question cause = (AsksOfNoEvent source question × (cause ≡ Some (bound_failure NoEvent)))
+    ⊎ ((¬ AsksOfNoEvent source question) × AsksOfSameEvent question × (cause ≡ Some (bound_failure SameEvent)))
+    ⊎ ((¬ AsksOfNoEvent source question) × (¬ AsksOfSameEvent question) × (cause ≡ None))
 
 -- why a picture is: the plan has not all steps that sites are said to own
-abbrev pub draw_refusal : Look → Held → Option Failure
-draw_refusal look held = if are_within (steps_of held.source) look.owned then None else Some (bound_failure NoEvent)
+abbrev pub draw_refusal : Look → PlanSource → Option Failure
+draw_refusal look source = if are_within (steps_of source) look.owned then None else Some (bound_failure NoEvent)
 
 -- why a query is refused, or that it is not
-abbrev pub IsQueryRefusal : Query → Held → Option Failure → Type 0
-IsQueryRefusal report held cause = cause ≡ None
-IsQueryRefusal (check times) held cause = IsCheckRefusal held times cause
-IsQueryRefusal (foresee outlook now choice) held cause = IsForesightRefusal held outlook now choice cause
-IsQueryRefusal (ask question) held cause = IsQuestionRefusal held question cause
-IsQueryRefusal repairs held cause = cause ≡ None
-IsQueryRefusal (draw look) held cause = cause ≡ draw_refusal look held
+abbrev pub IsRefusedIn : PlanSource → Content → Query → Option Failure → Type 0
+IsRefusedIn source state report cause = cause ≡ None
+IsRefusedIn source state (check times) cause = IsCheckRefusal source times cause
+IsRefusedIn source state (foresee outlook now choice) cause = IsForesightRefusal source state outlook now choice cause
+IsRefusedIn source state (ask question) cause = IsQuestionRefusal source question cause
+IsRefusedIn source state repairs cause = cause ≡ None
+IsRefusedIn source state (draw look) cause = cause ≡ draw_refusal look source
 
--- where memory may run out: nothing refuses the query; or the plan has all steps that a rehearsal chooses, and an event may be overdue
+abbrev pub IsQueryRefusal : Query → Held → Option Failure → Type 0
+IsQueryRefusal query held cause = IsRefusedIn held.source held.state query cause
+
+-- an event of a rehearsal may be overdue: the plan has all steps that it chooses
+abbrev pub MayBeOverdue : Query → PlanSource → Type 0
+MayBeOverdue (foresee outlook.Rehearse now choice) source = has_steps choice (steps_of source) ≡ true
+MayBeOverdue other source = ⊥
+
+-- where memory may run out
 abbrev pub LacksMemory : Query → Held → Type 0
-LacksMemory (foresee outlook.Rehearse now choice) held = has_steps choice (steps_of held.source) ≡ true
-LacksMemory other held = IsQueryRefusal other held None
+LacksMemory query held = IsQueryRefusal query held None ⊎ MayBeOverdue query held.source
 
 -- the text is said of the events that are left; or something refuses that, or memory ran out
 abbrev pub Foresees : {A : Type 0} → Outlook → ℤ → List Bool → Held → Result (Vec ℕ A) Failure → Type 0
-Foresees outlook now done held (Ok text) = IsForeseen outlook held done now text.items × IsOutlookRefusal outlook held done now None
-Foresees outlook now done held (Err failure) = IsOutlookRefusal outlook held done now (Some failure) ⊎ (failure ≡ out_of_memory)
+Foresees outlook now done held (Ok text) = IsForeseen outlook held.source held.state done now text.items × IsOutlookRefusal outlook held.source held.state done now None
+Foresees outlook now done held (Err failure) = IsOutlookRefusal outlook held.source held.state done now (Some failure) ⊎ (failure ≡ out_of_memory)
 
 -- the text is said; or something refuses the query, or memory ran out
 abbrev pub Says : {A : Type 0} → Query → Held → Result (Vec ℕ A) Failure → Type 0

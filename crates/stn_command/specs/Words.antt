@@ -1,8 +1,8 @@
 -- What single words say.
-use Rattle.std.specs.{Prelude.{ℕ, ℤ, ◌+◌, ◌==◌, Bool, ◌&&◌, nat_le, if◌then◌else◌, List, [], ◌∷◌, find, Option, Some, None, Result, Ok, Err}, List.{range_with_len, before_first, after_first}, Str.{bytes_eq, Parse.digits_value}}
+use Rattle.std.specs.{Prelude.{ℕ, ℤ, neg_ℤ, ◌+◌, ◌==◌, Bool, ◌&&◌, nat_le, if◌then◌else◌, List, [], ◌∷◌, find, Option, Some, None, Result, Ok, Err, ok_or}, List.{range_with_len, before_first, after_first}, Str.{bytes_eq, Parse.digits_value}}
 use Rattle.stn_refusal.specs.{declared.{code.Code.TheVariants.Line, failure.Failure.Failure}, Refusals.refused_at}
-use Rattle.stn_time.specs.{TimeOf.time_of, Failures.time_failure, declared.reading.TimeFault.TimeFault}
-use Rattle.stn_net.specs.Event.{most_events, event_text}
+use Rattle.stn_time.specs.{Time.horizon, TimeOf.time_of, Failures.time_failure, declared.reading.TimeFault.TimeFault}
+use Rattle.stn_net.specs.{Difference.Difference, Event.{most_events, event_text}}
 use Rattle.stn_records.specs.Id.{most_sites, most_counter, SiteCounter, id_text}
 
 -- the event below a number that is printed so
@@ -39,6 +39,18 @@ spelled (Err fault) = Err (time_failure fault)
 abbrev pub time_read : List ℕ → Result ℤ Failure
 time_read word = spelled (time_of word)
 
+-- the side of a bound that a word spells; the open one, where there is no word
+abbrev pub side_read : ℤ → Option (List ℕ) → Result ℤ Failure
+side_read open_side None = Ok open_side
+side_read open_side (Some word) = time_read word
+
+-- the bound of two events and two sides; the lower side is read first
+abbrev pub bound_between : ℕ → ℕ → Option (List ℕ) → Option (List ℕ) → Result Difference Failure
+bound_between from to lo hi =
+    and_then (side_read (neg_ℤ horizon) lo) (λ least.
+    and_then (side_read horizon hi) (λ greatest.
+    Ok (record { from = from; to = to; lo = least; hi = greatest })))
+
 -- what each of the words says, or the first fault
 abbrev pub each_read : {X : Type 0} → (List ℕ → Result X Failure) → List (List ℕ) → Result (List X) Failure
 each_read read [] = Ok []
@@ -54,5 +66,4 @@ no_such_word = refused_at Line 0
 
 -- what a word names
 abbrev pub named : {X : Type 0} → Option X → Result X Failure
-named (Some value) = Ok value
-named None = Err no_such_word
+named value = ok_or value no_such_word

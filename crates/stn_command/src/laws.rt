@@ -6,8 +6,9 @@ ghost use Rattle.stn_records.specs.Content.{Content};
 ghost use Rattle.stn_command.specs.{declared.queries.Outlook.Outlook, Dispatch.{Choice, every_event, done_or_not_chosen}, Named.IsNamed, Query.{Query, foresee, IsSaid, IsQueryRefusal}};
 
 use stn_picture::one_picture;
-use stn_questions::{one_answer, one_repairs_text};
+use stn_questions::one_answer;
 use stn_records::counts_same;
+use stn_repairs::one_repairs_text;
 use stn_site::one_report;
 
 /// The law that what a site holds has one answer to each query, also by the names of another plan's steps, and one

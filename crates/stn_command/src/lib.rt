@@ -8,7 +8,7 @@ pub use laws::{chosen_all, every_query_has_an_answer, one_said, same_foreseen};
 pub use names::say_named;
 pub use queries::{Choice, Outlook, Query, append_said, say};
 pub use steps::{read_owned, read_steps};
-pub use words::{no_such_word, read_event, read_id, read_time};
+pub use words::{no_such_word, read_between, read_event, read_id, read_side, read_time};
 
 mod changes;
 mod dispatch;

@@ -8,6 +8,7 @@ ghost use Rattle.stn_command.specs.NamedLines as named;
 
 use crate::words::{read_event, read_id};
 use std::alloc::Allocator;
+use stn_lift::step_of;
 use stn_net::Event;
 use stn_records::{Record, Records};
 use stn_site::SitePlan;
@@ -158,11 +159,4 @@ fn has_step(events: &[Event], step: u16) -> bool
     ensures { result ≡ list_any (λ other. steps.step_of other == step) events.now }
 {
     events.iter().any(|other| step_of(*other) == step)
-}
-
-// The step that an event starts or ends; 0 for the origin.
-fn step_of(event: Event) -> u16
-    ensures { result ≡ steps.step_of event }
-{
-    (event.number() + 1) / 2
 }

@@ -5,7 +5,7 @@ ghost use Rattle.stn_net.specs.Event.{most_events};
 ghost use Rattle.stn_lift.specs.PlanSource.{events_of, steps_of};
 ghost use Rattle.stn_records.specs.Content.{AllProper};
 ghost use Rattle.stn_refusal.specs.Refusals.{out_of_memory};
-ghost use Rattle.stn_replica.specs.Own.{done_or_others};
+ghost use Rattle.stn_site.specs.Own.{done_or_others};
 ghost use Rattle.stn_guard.specs.Adding as adding;
 ghost use Rattle.stn_picture.specs.Chart.{seen_look};
 ghost use Rattle.stn_command.specs.{Dispatch.done_or_not_chosen, Query.{report, check, ask, repairs, seen_query, seen_choice, IsSaid, IsQueryRefusal, LacksMemory, Says, Foresees}};
@@ -17,12 +17,10 @@ use std::alloc::Allocator;
 use stn_guard::OwnedSteps;
 use stn_net::BoundFault;
 use stn_picture::{Look, print_picture};
-use stn_questions::{
-    Question, WhyFault, print_answer, print_ready_with, print_repairs, source_names,
-};
+use stn_questions::{Question, WhyFault, print_answer, print_ready_with, source_names};
 use stn_refusal::{Failure, Fault};
-use stn_replica::{Own, StepRange, flags_among};
-use stn_site::{EVENT_FLAGS, SitePlan};
+use stn_repairs::print_repairs;
+use stn_site::{EVENT_FLAGS, Own, SitePlan, StepRange, flags_among};
 use stn_time::{Memory, Ms};
 
 /// What is asked of the events that are left.
@@ -66,7 +64,7 @@ pub enum Query<'a> {
 /// Refused as 70 where a check has not one time for each event, 4 where a question is about an event that the plan has not,
 /// or a step is chosen or said to be owned that it has not, 5 where a question is about an event and itself, 7 where an event of a rehearsal is
 /// overdue; or where memory runs out.
-#[tactic(auto, using(crate::proofs::Alike::memory_of, crate::proofs::Alike::lacks_where_free))]
+#[tactic(auto, using(crate::proofs::Alike::memory_of))]
 pub fn append_said<A: Allocator + Copy, B: Allocator>(
     plan: &SitePlan<A>,
     query: &Query<'_>,
@@ -144,7 +142,10 @@ fn foresee<A: Allocator + Copy>(
     ensures { Says (asked.foresee outlook now (seen_choice choice.now)) plan.now result }
 {
     if has_steps(choice, plan.base().steps()) {
-        of_chosen(plan, outlook, now, choice)
+        let all = [all_steps(plan)];
+        let starts = choice.starts;
+        let steps = choice.steps.unwrap_or(&all);
+        of_own(plan, outlook, now, &Own { steps, starts })
     } else {
         Err(Failure::from(BoundFault::NoEvent))
     }
@@ -157,33 +158,6 @@ fn has_steps(choice: &Choice<'_>, steps: u16) -> bool
     match choice.steps {
         Some(ranges) => ranges.iter().all(|range| range.is_within(steps)),
         None => true,
-    }
-}
-
-// The same of chosen events, whose steps the plan has.
-fn of_chosen<A: Allocator + Copy>(
-    plan: &SitePlan<A>,
-    outlook: Outlook,
-    now: Ms,
-    choice: &Choice<'_>,
-) -> Result<Vec<u8, A>, Failure>
-    ensures { Foresees outlook now (done_or_not_chosen (seen_choice choice.now) plan.now.source plan.now.state) plan.now result }
-{
-    let starts = choice.starts;
-    match choice.steps {
-        Some(steps) => of_own(plan, outlook, now, &Own { steps, starts }),
-        None => {
-            let all = [all_steps(plan)];
-            of_own(
-                plan,
-                outlook,
-                now,
-                &Own {
-                    steps: &all,
-                    starts,
-                },
-            )
-        }
     }
 }
 

@@ -10,7 +10,7 @@ use std::alloc::{AllocError, Allocator};
 use stn_guard::OwnedSteps;
 use stn_records::{MOST_SITES, Site};
 use stn_refusal::Failure;
-use stn_replica::StepRange;
+use stn_site::StepRange;
 use stn_text::read_number;
 use stn_time::Memory;
 
@@ -174,10 +174,7 @@ fn read_site(word: &str) -> Result<Site, Failure>
 fn read_digits(word: &str) -> Result<u32, Failure>
     ensures { result ≡ named.digits_read word.now }
 {
-    match read_number(word.as_bytes()) {
-        Some(number) => Ok(number),
-        None => Err(no_such_word()),
-    }
+    read_number(word.as_bytes()).ok_or(no_such_word())
 }
 
 // The parts of a word before the first mark and after it, where it has one.

@@ -1,8 +1,9 @@
 -- The first part of a heading: the steps of a bare plan, or the blocks of a domain and of a plan.
-use Rattle.std.{proofs.{Common.{◌≡◌, ℕ, ◌+◌, ◌<◌, true, false, cond, List, [], ◌∷◌, ◌++◌, length, length-append, take, append-nil, inl, inr, Option, Some, None, Err, refl, sym, ap, ◌∙◌, arith, codes, append_assoc}, Math.Seq.take-append_seam}, specs.Option.option_map}
+use Rattle.std.{proofs.{Common.{◌≡◌, ℕ, ◌+◌, ◌<◌, true, false, cond, List, [], ◌∷◌, ◌++◌, length, length-append, take, append-nil, inl, inr, Option, Some, None, Ok, Err, refl, sym, ap, ◌∙◌, arith, codes, append_assoc}, Math.Seq.take-append_seam}, specs.Option.option_map}
 use Rattle.stn_text.specs.Lines.{IsCutBehindLine, lines_of, words_of}
-use Rattle.stn_refusal.specs.{declared.code.Code.TheVariants.Line, Refusals.refused_at}
-use Rattle.stn_exec.specs.{Blocks.{Block, is_alone, with_text, line_text, block_from}, Script.{Found, next_line, bare_part, files_part, first_part, based}}
+use Rattle.stn_refusal.specs.declared.failure.Failure.{Failure}
+use Rattle.stn_command.specs.Words.{and_then}
+use Rattle.stn_exec.specs.{Blocks.{Block, is_alone, with_text, line_text, block_from}, Script.{Found, next_line, or_line, bare_part, files_part, first_part, based}}
 
 -- ---- blocks
 with_texts : (front more : List ℕ) (block : Option Block) → option_map (with_text front) (option_map (with_text more) block) ≡ option_map (with_text (front ++ more)) block
@@ -70,17 +71,17 @@ sought_none number text at left sought none =
     sym (sought.same ∙ ap (option_map (with_text sought.front)) (ap (block_from at) none ∙ block_from-none at))
 
 -- ---- the first part, by the line that was found
-pub based-none : (last : ℕ) (lines : List (List ℕ)) → None ≡ next_line 1 lines → based last lines ≡ Err (refused_at Line last)
+pub based-none : (last : ℕ) (lines : List (List ℕ)) (cause : Failure) → or_line last (next_line 1 lines) ≡ Err cause → based last lines ≡ Err cause
 unfolding based
-based-none last lines e = ap (first_part last) (sym e)
+based-none last lines cause e = ap (λ r. and_then r (first_part last)) e
 
-based-by : (last : ℕ) (lines : List (List ℕ)) (found : Found) → Some found ≡ next_line 1 lines → first_part last (Some found) ≡ based last lines
+based-by : (last : ℕ) (lines : List (List ℕ)) (found : Found) → Ok found ≡ or_line last (next_line 1 lines) → first_part last found ≡ based last lines
 unfolding based
-based-by last lines found e = ap (first_part last) e
+based-by last lines found e = ap (λ r. and_then r (first_part last)) e
 
 -- a line that is `domain`, and one that is not
-pub based-files : (last : ℕ) (lines : List (List ℕ)) (found : Found) → Some found ≡ next_line 1 lines → is_alone (codes "domain") found.words ≡ true → files_part last found ≡ based last lines
+pub based-files : (last : ℕ) (lines : List (List ℕ)) (found : Found) → Ok found ≡ or_line last (next_line 1 lines) → is_alone (codes "domain") found.words ≡ true → files_part last found ≡ based last lines
 based-files last lines found e is = sym (ap (λ t. cond t (files_part last found) (bare_part found)) is) ∙ based-by last lines found e
 
-pub based-bare : (last : ℕ) (lines : List (List ℕ)) (found : Found) → Some found ≡ next_line 1 lines → is_alone (codes "domain") found.words ≡ false → bare_part found ≡ based last lines
+pub based-bare : (last : ℕ) (lines : List (List ℕ)) (found : Found) → Ok found ≡ or_line last (next_line 1 lines) → is_alone (codes "domain") found.words ≡ false → bare_part found ≡ based last lines
 based-bare last lines found e other = sym (ap (λ t. cond t (files_part last found) (bare_part found)) other) ∙ based-by last lines found e

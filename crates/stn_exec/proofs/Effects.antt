@@ -1,12 +1,12 @@
 -- What calls of a world answer.
-use Rattle.std.{proofs.{Common.{◌≡◌, ◌⊎◌, ℕ, true, Bool, cond, List, ◌++◌, Option, Some, None, Result, Ok, Err, OnOk, IfErr, inl, inr, refl, sym, ap, subst, ◌∙◌}, lemmas.Bool.{false_from_ne_true, false≢true}}, specs.Prelude.{◌+◌, not, length, is_some, unwrap_or, OnErr, MatchOption}}
-use Rattle.stn_refusal.specs.{declared.{code.Code.TheVariants.NoSite, failure.Failure.Failure}, Refusals.{refused, out_of_memory}}
-use Rattle.stn_records.specs.{Id.SiteCounter, Content.Content}
-use Rattle.stn_site.specs.{Held.{Held, holding_state}, Change.change_id, declared.change.Change.{Change, TheVariants.{Add, Amend, Withdraw, Done}}}
-use Rattle.stn_world.{specs.{declared.faults.WorldFault.WorldFault, Failures.world_failure, World.{World, HasSite, has_site, content_at, next_id_at}, Steps.{Step, changed, sent, step_refusal, send_refusal, after, IsStep, IsSending}}, proofs.Accepted.site_decides}
+use Rattle.std.{proofs.{Common.{◌≡◌, ℕ, cond, List, Option, Some, None, Result, Ok, Err, inl, inr, refl, sym, ap, subst, ◌∙◌}}, specs.Prelude.{unwrap_or}}
+use Rattle.stn_refusal.specs.{declared.{code.Code.TheVariants.NoSite, failure.Failure.Failure}, Refusals.{refused}}
+use Rattle.stn_records.specs.{Id.SiteCounter}
+use Rattle.stn_site.specs.{Change.change_id, declared.change.Change.{Change, TheVariants.{Add, Amend, Withdraw, Done}}}
+use Rattle.stn_world.{specs.{declared.faults.WorldFault.WorldFault, Failures.world_failure, World.{World, HasSite, next_id_at}, Steps.{Step, changed, step_refusal, after, IsStep}}, proofs.Accepted.site_decides}
 use Rattle.stn_world.specs.declared.faults.WorldFault.TheVariants as world_fault
-use Rattle.stn_command.{specs.{declared.changes.Made.{Made, TheVariants.{Added, Amended}}, Change.made_by, Query.{Query, IsSaid, IsQueryRefusal}}, proofs.Alike.{said_alike, refused_alike}}
-use Rattle.stn_exec.specs.{declared.answer.Answer.Answer, Answer.answer_text, Command.{Action, sites_command}, Output.{IsAnswerText, Declines}, Saying.{IsEffect, IsDone, call_answer, sent_answer}, Effect.{CommandEffect, said, declined, refusing, answered, called, sending, changing, telling, action_effect, command_effect}}
+use Rattle.stn_command.{specs.{declared.changes.Made.{Made, TheVariants.{Added, Amended}}, Change.made_by}}
+use Rattle.stn_exec.specs.{declared.answer.Answer.Answer, Command.{Action, sites_command}, Output.{Declines}, Saying.{IsEffect, IsDone, call_answer}, Effect.{CommandEffect, said, declined, refusing, answered, called, changing, action_effect, command_effect}}
 use Rattle.stn_exec.specs.declared.answer.Answer.TheVariants as answer
 
 -- a call that was refused: its fault is what refuses the call, or lack of memory
@@ -43,18 +43,18 @@ call_effect old new step made (Err fault) outcome effect is same seen =
 
 -- ---- changes
 -- words that can't be read
-pub unread : (world : World) (site : ℕ) (read : Result Change Failure) (cause failure : Failure) → Err cause ≡ read → failure ≡ cause
-    → IsEffect (Err failure) world (changing world site read)
-unread world site read cause failure is same =
-    inr (ap (λ (given : Failure). record { world = world; reply = declined given }) same ∙ ap (changing world site) is)
+pub unread : (world : World) (site : ℕ) (asked : Result Change Failure) (cause failure : Failure) → asked ≡ Err cause → failure ≡ cause
+    → IsEffect (Err failure) world (changing world site asked)
+unread world site asked cause failure is same =
+    inr (ap (λ (given : Failure). record { world = world; reply = declined given }) same ∙ ap (changing world site) (sym is))
 
 -- a change that was refused, and one that was made
-pub refused_change : (T : Type 0) (old new : World) (site : ℕ) (read : Result Change Failure) (asked : Change) (fault : WorldFault) (failure : Failure)
-    → Ok asked ≡ read → IsStep {T = T} old (changed site asked) (Err fault) new → failure ≡ world_failure fault
-    → IsEffect (Err failure) new (changing old site read)
-refused_change T old new site read asked fault failure is step gives =
-    refused_call T old new (changed site asked) (answer.Changed (made_by asked (next_id_at old site))) fault failure (changing old site read) step gives
-    (ap (changing old site) is)
+pub refused_change : (T : Type 0) (old new : World) (site : ℕ) (asked : Result Change Failure) (one : Change) (fault : WorldFault) (failure : Failure)
+    → asked ≡ Ok one → IsStep {T = T} old (changed site one) (Err fault) new → failure ≡ world_failure fault
+    → IsEffect (Err failure) new (changing old site asked)
+refused_change T old new site asked one fault failure is step gives =
+    refused_call T old new (changed site one) (answer.Changed (made_by one (next_id_at old site))) fault failure (changing old site asked) step gives
+    (ap (changing old site) (sym is))
 
 -- what it made is told by the id that it gave
 made_given : (asked : Change) (id next : SiteCounter) → id ≡ change_id asked next → made_by asked id ≡ made_by asked next
@@ -63,38 +63,16 @@ made_given (Amend old bound) id next is = ap Amended is
 made_given (Withdraw gone) id next is = refl
 made_given (Done event time) id next is = ap Added is
 
-pub made_change : (old new : World) (site : ℕ) (read : Result Change Failure) (asked : Change) (id : SiteCounter) (made : Made) → Ok asked ≡ read
-    → id ≡ change_id asked (next_id_at old site) → made ≡ made_by asked id → IsStep {T = SiteCounter} old (changed site asked) (Ok id) new
-    → record { world = new; reply = said (answer.Changed made) } ≡ changing old site read
-made_change old new site read asked id made is given by step =
-    accepted_call SiteCounter id old new (changed site asked) (answer.Changed made) (changing old site read) step
-    (ap (λ (one : Made). called old (changed site asked) (answer.Changed one)) (by ∙ made_given asked id (next_id_at old site) given) ∙ ap (changing old site) is)
+pub made_change : (old new : World) (site : ℕ) (asked : Result Change Failure) (one : Change) (id : SiteCounter) (made : Made) → asked ≡ Ok one
+    → id ≡ change_id one (next_id_at old site) → made ≡ made_by one id → IsStep {T = SiteCounter} old (changed site one) (Ok id) new
+    → record { world = new; reply = said (answer.Changed made) } ≡ changing old site asked
+made_change old new site asked one id made is given by step =
+    accepted_call SiteCounter id old new (changed site one) (answer.Changed made) (changing old site asked) step
+    (ap (λ (told : Made). called old (changed site one) (answer.Changed told)) (by ∙ made_given one id (next_id_at old site) given) ∙ ap (changing old site) (sym is))
 
--- ---- sendings
-pub sending_effect : (old new : World) (site : ℕ) (part : Content) (held : Bool) (call : Result ℕ WorldFault) (outcome : Result Answer Failure)
-    → IsSending old (sent site part) (send_refusal old site held) call new → outcome ≡ sent_answer call → IsEffect outcome new (sending old site part held)
-sending_effect old new site part held (Ok number) outcome step same =
-    subst (λ (o : Result Answer Failure). IsEffect o new (sending old site part held)) (sym same)
-    (ap (λ (w : World). record { world = w; reply = said (answer.Sent number) }) step.2
-    ∙ (ap (λ (n : ℕ). record { world = after old (sent site part); reply = said (answer.Sent n) }) step.3
-    ∙ sym (ap (answered old (after old (sent site part)) (answer.Sent (length old.packets + 1))) step.0)))
-sending_effect old new site part held (Err fault) outcome step same =
-    subst (λ (o : Result Answer Failure). IsEffect o new (sending old site part held)) (sym same)
-    (refused_answer old new (after old (sent site part)) (answer.Sent (length old.packets + 1)) (send_refusal old site held) fault (world_failure fault) _ step.0 step.1 refl refl)
-
--- ---- a site that is there, and one that is not
+-- ---- a site that is there
 pub there_effect : (world : World) (site : ℕ) (action : Action) → HasSite world site → action_effect world site action ≡ command_effect world (sites_command site action)
 there_effect world site action there = ap (λ b. cond b (action_effect world site action) (refusing world (refused NoSite))) (sym ((site_decides world site).1 there))
-
-pub missing_effect : (world : World) (site : ℕ) (action : Action) → ¬ HasSite world site → refusing world (refused NoSite) ≡ command_effect world (sites_command site action)
-missing_effect world site action missing =
-    ap (λ b. cond b (action_effect world site action) (refusing world (refused NoSite))) (sym (false_from_ne_true (has_site world site) (λ e. missing ((site_decides world site).0 e))))
-
--- a replica that is not there
-pub not_there : {R : Type 0} (found : Option R) (none : Bool) (Missing : Type 0) (There : R → Type 0) → is_some found ≡ not none → none ≡ true
-    → MatchOption found Missing There → Missing
-not_there None none Missing There is tested found = found
-not_there (Some replica) none Missing There is tested found = absurd (false≢true (sym (is ∙ ap not tested)))
 
 -- ---- what was appended
 -- a refusal
@@ -102,37 +80,3 @@ pub refused_done : (world : World) (old : List ℕ) (effect : CommandEffect) (ca
     → IsDone world old old effect (Err cause)
 refused_done world old effect cause is =
     inr (ap (λ (e : CommandEffect). e.world) is, subst (λ (e : CommandEffect). Declines e.reply cause) is refl, refl)
-
--- a call that gave no answer, and one that did
-pub undone : (world : World) (old : List ℕ) (effect : CommandEffect) (outcome : Result Answer Failure) (cause failure : Failure) → outcome ≡ Err cause → failure ≡ cause
-    → IsEffect outcome world effect → IsDone world old old effect (Err failure)
-undone world old effect outcome cause failure failed same is = by (subst (λ (o : Result Answer Failure). IsEffect o world effect) failed is)
-  where
-    by : IsEffect (Err cause) world effect → IsDone world old old effect (Err failure)
-    by (inl lack) = inl (same ∙ lack)
-    by (inr reply) = refused_done world old effect failure (ap (λ (given : Failure). record { world = world; reply = declined given }) same ∙ reply)
-
-pub answer_done : (world : World) (old new : List ℕ) (effect : CommandEffect) (outcome : Result Answer Failure) (one : Answer) → outcome ≡ Ok one
-    → new ≡ old ++ answer_text one → IsEffect outcome world effect → IsDone world old new effect (Ok tt)
-answer_done world old new effect outcome one given appended is =
-    let reply = subst (λ (o : Result Answer Failure). IsEffect o world effect) given is in
-    (ap (λ (e : CommandEffect). e.world) reply, (answer_text one, subst (λ (e : CommandEffect). IsAnswerText e.reply (answer_text one)) reply refl, appended))
-
--- a query whose words can't be read, and one that was read
-pub untold : (world : World) (site : ℕ) (old : List ℕ) (read : Result Query Failure) (cause failure : Failure) → Err cause ≡ read → failure ≡ cause
-    → IsDone world old old (telling world site read) (Err failure)
-untold world site old read cause failure is same =
-    refused_done world old (telling world site read) failure
-    (ap (λ (given : Failure). record { world = world; reply = declined given }) same ∙ ap (telling world site) is)
-
-pub told_done : (world : World) (site : ℕ) (held : Held) (asked : Query) (old new : List ℕ) (result : Result (Unit {0}) Failure)
-    → held.source ≡ world.source → held.state ≡ content_at world site
-    → OnOk result ((text : List ℕ) × IsSaid asked held text × (new ≡ old ++ text)) → OnOk result (IsQueryRefusal asked held None)
-    → IfErr result (λ failure. (failure ≡ out_of_memory) ⊎ IsQueryRefusal asked held (Some failure)) → OnErr result (new ≡ old)
-    → IsDone world old new (telling world site (Ok asked)) result
-told_done world site held asked old new (Ok done) plan state text accepted refused kept =
-    let there = holding_state world.source (content_at world site) in
-    (refl, (text.0, (refused_alike held there plan state asked None accepted, said_alike held there plan state asked text.0 text.1), text.2))
-told_done world site held asked old new (Err failure) plan state text accepted (inl lack) kept = inl lack
-told_done world site held asked old new (Err failure) plan state text accepted (inr refusal) kept =
-    inr (refl, refused_alike held (holding_state world.source (content_at world site)) plan state asked (Some failure) refusal, kept)

@@ -5,8 +5,7 @@ pub mod Runs
 pub mod Scripts
 pub mod Reports
 mod ReadBack
-mod Told
+mod Causes
 mod Texts
-mod Based
 mod Headings
 mod SomeOutput

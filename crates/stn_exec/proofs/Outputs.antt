@@ -1,9 +1,9 @@
 -- Replies have one output, and one number of refusals.
 use Rattle.std.{proofs.{Common.{◌≡◌, inl, inr, ℕ, ◌+◌, ◌≤◌, Bool, true, false, cond, List, [], ◌∷◌, ◌++◌, Option, Some, None, refl, sym, ap, subst, ◌∙◌, arith}, lemmas.{Bool.Decides.same_from_decides, Option.none-some}}, specs.{Bool.Decides, Prelude.unwrap_or}}
-use Rattle.stn_refusal.specs.declared.failure.Failure.{Failure, TheVariants.{Refused, Failed}}
+use Rattle.stn_refusal.specs.{declared.{refusal.Refusal.Refusal, failure.Failure.{Failure, TheVariants.Refused}}, Printed.refusal_text}
 use Rattle.stn_site.specs.Held.{Held, holding_state}
 use Rattle.stn_command.{specs.Query.{Query, IsSaid}, proofs.OneSaid.one_refusal as one_cause}
-use Rattle.stn_exec.specs.{Effect.{CommandReply, said, declined, told}, Output.{IsAnswerText, Declines, IsFailureText, IsReplyText, IsOutput, IsRefusal, CountsRefusals}}
+use Rattle.stn_exec.specs.{Effect.{CommandReply, said, declined, told}, Output.{IsAnswerText, Declines, IsReplyText, IsOutput, IsRefusal, CountsRefusals}}
 
 -- what another law says of answers to queries
 abbrev pub OneSaid : Type 0
@@ -26,17 +26,15 @@ same_cause (declined given) cause other p q = p ∙ sym q
 same_cause (told source state query) cause other p q =
     ap (λ (found : Option Failure). unwrap_or found cause) (one_cause query (holding_state source state) (Some cause) (Some other) p q)
 
-same_line : (cause : Failure) (text other : List ℕ) → IsFailureText cause text → IsFailureText cause other → text ≡ other
-same_line (Refused refusal) text other p q = p ∙ sym q
-same_line (Failed fault) text other p q = absurd p
-
 -- a reply has one text
 one_text : OneSaid → (reply : CommandReply) (text other : List ℕ) → IsReplyText reply text → IsReplyText reply other → text ≡ other
 one_text one reply text other (inl p) (inl q) = same_answer one reply text other p q
-one_text one reply text other (inl p) (inr q) = absurd (not_both reply text q.0 p q.1)
-one_text one reply text other (inr p) (inl q) = absurd (not_both reply other p.0 q p.1)
-one_text one reply text other (inr p) (inr q) =
-    same_line q.0 text other (subst (λ (cause : Failure). IsFailureText cause text) (same_cause reply p.0 q.0 p.1 q.1) p.2) q.2
+one_text one reply text other (inl p) (inr q) = absurd (not_both reply text (Refused q.0) p q.1)
+one_text one reply text other (inr p) (inl q) = absurd (not_both reply other (Refused p.0) q p.1)
+one_text one reply text other (inr p) (inr q) = p.2 ∙ (ap refusal_text (same_refusal p.0 q.0 (same_cause reply (Refused p.0) (Refused q.0) p.1 q.1)) ∙ sym q.2)
+  where
+    same_refusal : (refusal last : Refusal) → Refused refusal ≡ Refused last → refusal ≡ last
+    same_refusal refusal last is = cc
 
 pub one_output : OneSaid → (replies : List CommandReply) (text other : List ℕ) → IsOutput replies text → IsOutput replies other → text ≡ other
 one_output one [] text other p q = p ∙ sym q

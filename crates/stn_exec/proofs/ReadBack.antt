@@ -1,5 +1,5 @@
 -- The printed line of a bound is read by an addition as the bound.
-use Rattle.std.{proofs.{Common.{◌≡◌, ℕ, ◌+◌, ◌-◌, ◌*◌, ◌/◌, ◌%◌, ◌<◌, ◌≤◌, ◌^◌, Bool, true, false, ◌==◌, cond, not, List, [], ◌∷◌, ◌++◌, length, ℤ, pos, negsuc, neg_ℤ, Option, Some, None, Ok, Err, codes, decimal, refl, sym, ap, ◌∙◌, arith, append_assoc, bytes_eq}, lemmas.{Bool.{eqb-true, eqb-false, and_parts, and_from, Decides.{nat_tests, Decides-int_eq}}, Fmt.{digits_decimal, digits_value-decimal, decimal_nonempty}, Int.ints, List.Splits.slice_split-cons_no, Slice.Eq.bytes_eq-Decides}}, specs.{Prelude.{unsigned_abs, filter, option_map}, Char.is_ascii_digit, Fmt.sign_text, Int.is_negative, List.{list_all, slice_split, onto_first}, Ordering.int_eq, Str.{all_ascii_digits, Parse.digits_value}}}
+use Rattle.std.{proofs.{Common.{◌≡◌, ℕ, ◌+◌, ◌-◌, ◌*◌, ◌/◌, ◌%◌, ◌<◌, ◌≤◌, ◌^◌, Bool, true, false, ◌==◌, cond, not, List, [], ◌∷◌, ◌++◌, length, ℤ, pos, negsuc, neg_ℤ, Option, Some, None, Ok, Err, codes, decimal, refl, sym, ap, ◌∙◌, arith, append_assoc, append-nil, bytes_eq}, lemmas.{Bool.{eqb-true, eqb-false, not-true, and_parts, and_from, Decides.{nat_tests, Decides-int_eq}}, Fmt.{digits_decimal, digits_value-decimal, decimal_nonempty}, Int.ints, List.Splits.slice_split-cons_no, Slice.Eq.bytes_eq-Decides}}, specs.{Prelude.{unsigned_abs, filter}, Char.is_ascii_digit, Fmt.sign_text, Int.is_negative, List.{list_all, slice_split, onto_first}, Ordering.int_eq, Str.{all_ascii_digits, Parse.digits_value}}}
 use Rattle.std.specs.FinMap as map
 use Rattle.stn_text.{specs.Lines.{is_gap, is_word, words_of}, proofs.Digits.own}
 use Rattle.stn_time.{specs.{Time.{horizon, IsWithinHorizon}, Text.{printed, whole_text, three_digits}, TimeOf.time_of, declared.reading.TimeFault.TheVariants.Malformed}, proofs.Prints.{time_of-printed, decimal-whole_text}}
@@ -8,8 +8,8 @@ use Rattle.stn_records.specs.{Id.{SiteCounter, IsId, id_text}, Record.is_done_ma
 use Rattle.stn_site.specs.{declared.names.BoundName.BoundName, Lines.{line, done_text}, Names.name_text}
 use Rattle.stn_site.specs.declared.names.BoundName.TheVariants as kind
 use Rattle.stn_questions.specs.{Bounds.{lower_text, upper_text, bound_text, named_line}, Records.{held_text, amends_text, word_where, is_amended, record_line}}
-use Rattle.stn_command.{specs.Words.{event_of, spelled}, proofs.Events.event_below-some}
-use Rattle.stn_exec.specs.{Command.bound_words, Effect.{side_of, bound_read}, ReadBack.{IsReadable, IsName, ReadsBack}}
+use Rattle.stn_command.{specs.Words.{event_of, spelled, side_read}, proofs.Events.event_below-some}
+use Rattle.stn_exec.specs.{Command.{side_word, bound_asked}, ReadBack.{IsReadable, IsName, ReadsBack}}
 
 -- no byte parts words
 abbrev no_gap : List ℕ → Bool
@@ -25,21 +25,17 @@ abbrev is_apart : List ℕ → Bool
 is_apart [] = true
 is_apart (byte ∷ bytes) = byte == 32
 
-not_true : (b : Bool) → not b ≡ true → b ≡ false
-not_true true e = absurd (cc)
-not_true false e = refl
-
 split_word : (word rest : List ℕ) → no_gap word ≡ true → slice_split is_gap (word ++ 32 ∷ rest) ≡ word ∷ slice_split is_gap rest
 split_word [] rest e = refl
 split_word (x ∷ xs) rest e =
     let both = and_parts (not (is_gap x)) (no_gap xs) e in
-    slice_split-cons_no is_gap x (xs ++ 32 ∷ rest) (not_true (is_gap x) both.0) ∙ ap (onto_first x) (split_word xs rest both.1)
+    slice_split-cons_no is_gap x (xs ++ 32 ∷ rest) (not-true (is_gap x) both.0) ∙ ap (onto_first x) (split_word xs rest both.1)
 
 split_last : (word : List ℕ) → no_gap word ≡ true → slice_split is_gap word ≡ word ∷ []
 split_last [] e = refl
 split_last (x ∷ xs) e =
     let both = and_parts (not (is_gap x)) (no_gap xs) e in
-    slice_split-cons_no is_gap x xs (not_true (is_gap x) both.0) ∙ ap (onto_first x) (split_last xs both.1)
+    slice_split-cons_no is_gap x xs (not-true (is_gap x) both.0) ∙ ap (onto_first x) (split_last xs both.1)
 
 -- a word, a space, and what stands behind it
 words_behind : (word rest : List ℕ) → IsOneWord word → words_of (word ++ 32 ∷ rest) ≡ word ∷ words_of rest
@@ -53,13 +49,9 @@ unfolding words_of
 word_alone [] is = let none = is.some in absurd (cc)
 word_alone (x ∷ xs) is = ap (filter is_word) (split_last (x ∷ xs) is.whole)
 
-append_none : (xs : List ℕ) → xs ++ [] ≡ xs
-append_none [] = refl
-append_none (x ∷ xs) = ap (λ rest. x ∷ rest) (append_none xs)
-
 -- a word and what stands apart behind it
 words_apart : (word tail : List ℕ) → IsOneWord word → is_apart tail ≡ true → (rest : List (List ℕ)) × (words_of (word ++ tail) ≡ word ∷ rest)
-words_apart word [] is e = ([], ap words_of (append_none word) ∙ word_alone word is)
+words_apart word [] is e = ([], ap words_of (append-nil word) ∙ word_alone word is)
 words_apart word (byte ∷ bytes) is e =
     (words_of bytes, ap (λ (b : ℕ). words_of (word ++ b ∷ bytes)) (eqb-true byte 32 e) ∙ words_behind word bytes is)
 
@@ -181,7 +173,7 @@ no_star millis within = no_star-by millis (bytes_eq (printed millis) (codes "*")
 
 -- a side that is printed, as `*` where it is the open one, reads as itself
 side_back-by : (widest side : ℤ) (is_open : Bool) → IsWithinHorizon side → (is_open ≡ true → side ≡ widest)
-    → side_of widest (cond is_open (codes "*") (printed side)) ≡ Ok side
+    → side_read widest (side_word (cond is_open (codes "*") (printed side))) ≡ Ok side
 side_back-by widest side true within same = ap (λ (n : ℤ). Ok n) (sym (same refl))
 side_back-by widest side false within same = rw (no_star side within) (ap spelled (time_of-printed side within))
 
@@ -193,15 +185,15 @@ side_word-by : (side : ℤ) (is_open : Bool) → IsWithinHorizon side → IsOneW
 side_word-by side true within = record { some = refl; whole = refl }
 side_word-by side false within = printed_word side (within_size side within)
 
-lower_back : (lo : ℤ) → IsWithinHorizon lo → side_of (neg_ℤ horizon) (lower_text lo) ≡ Ok lo
+lower_back : (lo : ℤ) → IsWithinHorizon lo → side_read (neg_ℤ horizon) (side_word (lower_text lo)) ≡ Ok lo
 lower_back lo within = side_back-by (neg_ℤ horizon) lo (int_eq lo (neg_ℤ horizon)) within (Decides-int_eq lo (neg_ℤ horizon)).0
 
-upper_back : (hi : ℤ) → IsWithinHorizon hi → side_of horizon (upper_text hi) ≡ Ok hi
+upper_back : (hi : ℤ) → IsWithinHorizon hi → side_read horizon (side_word (upper_text hi)) ≡ Ok hi
 upper_back hi within = side_back-by horizon hi (int_eq hi horizon) within (Decides-int_eq hi horizon).0
 
 -- the words of a printed bound
 words_back : (bound : Difference) → IsReadable bound
-    → option_map bound_read (bound_words (event_text bound.from ∷ (event_text bound.to ∷ (lower_text bound.lo ∷ (upper_text bound.hi ∷ [])))))
+    → bound_asked (event_text bound.from ∷ (event_text bound.to ∷ (lower_text bound.lo ∷ (upper_text bound.hi ∷ []))))
     ≡ Some (Ok (record { from = bound.from; to = bound.to; lo = bound.lo; hi = bound.hi }))
 words_back bound is =
     rw (event_of-text bound.from is.events.from) (rw (event_of-text bound.to is.events.to) (rw (lower_back bound.lo is.lo) (rw (upper_back bound.hi is.hi) refl)))
@@ -248,7 +240,7 @@ pub named_back : (name : BoundName) (bound : Difference) → IsName name → IsR
 named_back name bound is readable = (
   (name_text name ++ codes " ") ++ bound_text bound,
   refl,
-  reads_back _ (name_text name) [] bound readable (name_word name is) refl (sym (append_none _)),
+  reads_back _ (name_text name) [] bound readable (name_word name is) refl (sym (append-nil _)),
 )
 
 done_apart : (done : Bool) → is_apart (done_text done) ≡ true

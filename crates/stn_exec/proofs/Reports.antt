@@ -1,18 +1,16 @@
 -- The commands of a script are a run of the world's steps.
 use Rattle.std.{proofs.{Common.{◌≡◌, ◌↔◌, ℕ, ℤ, ◌+◌, Bool, true, false, cond, is_some, List, [], ◌∷◌, ◌++◌, length, Option, Some, None, Result, Ok, Err, inl, inr, option_map, option_to_list, refl, sym, ap, subst, ◌∙◌, arith, append_assoc, append-nil}, lemmas.{Bool.false≢true, Option.none-some, List.Sums.fold-append}}, specs.{Prelude.option_and_then, Result.result_ok}}
-use Rattle.stn_time.specs.declared.reading.TimeFault.{TimeFault}
 use Rattle.stn_lift.specs.PlanSource.{PlanSource, events_of}
 use Rattle.stn_text.specs.Lines.{lines_of, words_of}
 use Rattle.stn_site.specs.{Bounds.all_bounds, Report.{IsReport, done_events}, Held.holding_state, declared.change.Change.Change}
 use Rattle.stn_world.{specs.{declared.faults.WorldFault.{WorldFault, TheVariants.NoSite}, World.{World, HasSite, has_site, opening_world, content_at}, Parts.holds_all, Whole.IsCoherent, Steps.{Step, changed, merged, sent, delivered, step_refusal, send_refusal, after, IsAccepted, stepped, run, TookAt, TookSameAt, TookSameItemsAt}}, proofs.{Accepted.{site_decides, no_site}, Sendings.{part_free, all_free}, Whole.coherent_at_first, Runs.{run_stays, run_keeps, coherent_run}}}
 use Rattle.stn_records.specs.Content.{Content, CountsSame, Item, HasItem, part_of}
 use Rattle.stn_refusal.specs.declared.code.Code.TheVariants as code
-use Rattle.stn_refusal.specs.{declared.failure.Failure.Failure, Refusals.refused}
+use Rattle.stn_refusal.specs.{declared.failure.Failure.{Failure, TheVariants.Refused}, Refusals.refused}
 use Rattle.stn_questions.specs.{declared.asked.Question.Question, Answer.IsAnswer, Ready.{IsReadyText, IsReadyWith}}
-use Rattle.stn_command.{specs.{Words.{and_then, spelled}, Query.{Query, IsSaid, IsQueryRefusal}, Dispatch.{every_event, done_or_not_chosen}}, proofs.OneSaid.one_refusal}
-use Rattle.stn_command.specs.Query as asked
+use Rattle.stn_command.{specs.{Query.{Query, report, foresee, ask, IsSaid, IsQueryRefusal}, Dispatch.{every_event, done_or_not_chosen}}, proofs.OneSaid.one_refusal}
 use Rattle.stn_command.specs.declared.queries.Outlook.TheVariants as outlook
-use Rattle.stn_exec.{specs.{Command.{QueryWords, report, ready, ask, Action, change, merge, send_all, send, deliver, query, Command, sites_command, command_of}, Effect.{CommandEffect, CommandReply, told, refusing, sending, sent_step, change_read, query_read, changing, telling, action_effect, command_effect, action_step, command_step}, Script.{Outcome, Start, is_skipped, form_effect, line_outcome, lines_outcome, heading_of, last_line, script_outcome}, Output.{IsReplyText, IsOutput}, Reports.{line_steps, steps_of_lines, LineOf, first_world, steps_before, world_at, ReportsSite, AsksSite, AsksReady, PrintsAt}}, proofs.{Effects.there_effect, Scripts.{line_outcome-skipped, line_outcome-run, line_effect-is, script_outcome-is}}}
+use Rattle.stn_exec.{specs.{Command.{Action, change, merge, send_all, send, deliver, query, Command, sites_command, command_of}, Effect.{CommandEffect, CommandReply, told, refusing, sending, sent_step, changing, telling, action_effect, command_effect, action_step, command_step}, Script.{Outcome, Start, is_skipped, form_effect, line_outcome, lines_outcome, heading_of, last_line, script_outcome}, Output.{IsReplyText, IsOutput}, Reports.{line_steps, steps_of_lines, LineOf, first_world, steps_before, world_at, QueriesSite, ReportsSite, AsksSite, AsksReady, PrintsAt}}, proofs.{Effects.there_effect, Scripts.{line_outcome-skipped, line_outcome-run, line_effect-is, script_outcome-is}}}
 
 -- ---- what a command leaves is what its step leaves
 changing_run : (world : World) (site : ℕ) (read : Result Change Failure)
@@ -33,13 +31,13 @@ telling_stays world site (Ok asked) = refl
 telling_stays world site (Err cause) = refl
 
 there_run : (world : World) (site : ℕ) (action : Action) → HasSite world site → IsCoherent world → (action_effect world site action).world ≡ run world (option_to_list (action_step world site action))
-there_run world site (change words) there coherent = changing_run world site (change_read words)
+there_run world site (change asked) there coherent = changing_run world site asked
 there_run world site (merge other) there coherent = refl
 there_run world site send_all there coherent = sending_run world site (content_at world site) true (all_free world site there coherent)
 there_run world site (send records tombstones) there coherent =
     sending_run world site (part_of (content_at world site) records tombstones) (holds_all (content_at world site) records tombstones) (part_free world site records tombstones there coherent)
 there_run world site (deliver packet) there coherent = refl
-there_run world site (query words) there coherent = telling_stays world site (query_read words)
+there_run world site (query asked) there coherent = telling_stays world site asked
 
 -- at a site that is not there, each step is refused
 refused_run : (world : World) (step : Step) → step_refusal world step ≡ Some NoSite → run world (step ∷ []) ≡ world
@@ -54,13 +52,13 @@ unchanged_run world site (Ok asked) missing = refused_run world (changed site as
 unchanged_run world site (Err cause) missing = refl
 
 missing_run : (world : World) (site : ℕ) (action : Action) → ¬ HasSite world site → run world (option_to_list (action_step world site action)) ≡ world
-missing_run world site (change words) missing = unchanged_run world site (change_read words) missing
+missing_run world site (change asked) missing = unchanged_run world site asked missing
 missing_run world site (merge other) missing = refused_run world (merged site other) (no_site world site _ missing)
 missing_run world site send_all missing = unsent_run world site (content_at world site) true missing
 missing_run world site (send records tombstones) missing =
     unsent_run world site (part_of (content_at world site) records tombstones) (holds_all (content_at world site) records tombstones) missing
 missing_run world site (deliver packet) missing = refused_run world (delivered site packet) (no_site world site _ missing)
-missing_run world site (query words) missing = refl
+missing_run world site (query asked) missing = refl
 
 effect_run : (world : World) (site : ℕ) (action : Action) → IsCoherent world → (command_effect world (sites_command site action)).world ≡ run world (option_to_list (action_step world site action))
 effect_run world site action coherent = tested (has_site world site) refl
@@ -175,28 +173,24 @@ one_reply replies reply text is all =
     subst (IsReplyText reply) (sym (one.4 ∙ (ap (λ (l : List ℕ). one.0 ++ l) one.3 ∙ append-nil one.0))) one.2
 
 -- ---- what is said to a query at a line
--- the query is the one that words ask, and nothing refuses it: what is printed answers it
-answers_at : (script output text : List ℕ) (at : LineOf script) (site : ℕ) (words : QueryWords) (asked : Query) → is_skipped (words_of at.line) ≡ false
-    → command_of (events_of at.start.source) (words_of at.line) ≡ Some (sites_command site (query words)) → HasSite (first_world at) site
-    → query_read words ≡ Ok asked → IsQueryRefusal asked (holding_state at.start.source (content_at (world_at at) site)) None → PrintsAt at output text
+-- nothing refuses the query: what is printed answers it
+answers_at : (script output text : List ℕ) (at : LineOf script) (site : ℕ) (asked : Query) → QueriesSite at site asked
+    → IsQueryRefusal asked (holding_state at.start.source (content_at (world_at at) site)) None → PrintsAt at output text
     → IsSaid asked (holding_state at.start.source (content_at (world_at at) site)) text
-answers_at script output text at site words asked kept is there read accepted printed =
+answers_at script output text at site asked asks accepted printed =
     let state = content_at (world_at at) site in
     by (one_reply _ (told at.start.source state asked) text
-    (replies_at script at site (query words) kept is there
-    ∙ (ap (λ (r : Result Query Failure). (telling (world_at at) site r).reply ∷ []) read
-    ∙ ap (λ (s : PlanSource). told s state asked ∷ []) (source_at script at)))
+    (replies_at script at site (query (Ok asked)) asks.kept asks.command asks.there ∙ ap (λ (s : PlanSource). told s state asked ∷ []) (source_at script at))
     printed.here)
   where
     by : IsReplyText (told at.start.source (content_at (world_at at) site) asked) text → IsSaid asked (holding_state at.start.source (content_at (world_at at) site)) text
     by (inl answer) = answer.1
     by (inr declines) =
-        absurd (none-some declines.0 (one_refusal asked (holding_state at.start.source (content_at (world_at at) site)) None (Some declines.0) accepted declines.1))
+        absurd (none-some (Refused declines.0) (one_refusal asked (holding_state at.start.source (content_at (world_at at) site)) None (Some (Refused declines.0)) accepted declines.1))
 
 -- ---- the report at a line
 pub reports : (script output text : List ℕ) (at : LineOf script) (site : ℕ) → ReportsSite at site → PrintsAt at output text → IsReport at.start.source (content_at (world_at at) site) text
-reports script output text at site says printed =
-    answers_at script output text at site report asked.report says.kept says.command says.there refl refl printed
+reports script output text at site says printed = answers_at script output text at site report says refl printed
 
 -- what the site holds is the union of what it took
 pub unions : ((source : PlanSource) (sites : ℕ) (steps : List Step) (site : ℕ) → HasSite (opening_world source sites) site
@@ -228,7 +222,7 @@ same_bytes law script other output last text last_text at there site others one 
 pub answers : (script output text : List ℕ) (at : LineOf script) (site : ℕ) (question : Question) → AsksSite at site question → PrintsAt at output text
     → IsAnswer at.start.source (content_at (world_at at) site) question text
 answers script output text at site question asks printed =
-    answers_at script output text at site (ask question) (asked.ask question) asks.0.kept asks.0.command asks.0.there refl (inr (inr (asks.1, asks.2, refl))) printed
+    answers_at script output text at site (ask question) asks.0 (inr (inr (asks.1, asks.2, refl))) printed
 
 pub ready_said : ((source : PlanSource) (state : Content) → done_or_not_chosen every_event source state ≡ done_events source state)
     → (script output text : List ℕ) (at : LineOf script) (site : ℕ) (now : ℤ) → AsksReady at site now → PrintsAt at output text
@@ -236,8 +230,7 @@ pub ready_said : ((source : PlanSource) (state : Content) → done_or_not_chosen
 ready_said all script output text at site now asks printed =
     let state = content_at (world_at at) site in
     subst (λ (done : List Bool). IsReadyWith (all_bounds at.start.source state) done now text) (all at.start.source state)
-    (answers_at script output text at site (ready asks.0) (asked.foresee outlook.Ready now every_event) asks.1.kept asks.1.command asks.1.there
-    (ap (λ (read : Result ℤ TimeFault). and_then (spelled read) (λ time. Ok (asked.foresee outlook.Ready time every_event))) asks.2) (inr (refl, refl)) printed)
+    (answers_at script output text at site (foresee outlook.Ready now every_event) asks (inr (refl, refl)) printed)
 
 -- what two sites of one plan hold is alike, where it is after the runs of their steps
 alike_at : (Took : World → List Step → ℕ → World → List Step → ℕ → Type 0) (Alike : Content → Content → Type 0)

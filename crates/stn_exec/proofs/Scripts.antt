@@ -1,10 +1,10 @@
 -- The heading and the lines of a script, one after the other.
-use Rattle.std.proofs.{Common.{◌≡◌, ℕ, ⊎_elim, min, ◌+◌, ◌-◌, ◌^◌, ◌<◌, ◌≤◌, true, false, cond, List, [], ◌∷◌, ◌++◌, length, Option, Some, None, Result, Ok, Err, Bool, IfSome, inl, inr, refl, sym, ap, ◌∙◌, arith, codes, append_assoc, subst}, KnownBytes.{Appends-nil, Appends-trans}, lemmas.Bool.{cases_lt, false≢true, Decides.nat_tests}}
+use Rattle.std.proofs.{Common.{◌≡◌, ℕ, ⊎_elim, min, ◌+◌, ◌-◌, ◌^◌, ◌<◌, ◌≤◌, true, false, cond, List, [], ◌∷◌, ◌++◌, length, Option, Some, None, Result, Ok, Err, Bool, IfSome, inl, inr, refl, sym, ap, ◌∙◌, arith, codes, append_assoc, append-nil, subst}, KnownBytes.{Appends-nil, Appends-trans}, lemmas.Bool.{cases_lt, false≢true, Decides.nat_tests}}
 use Rattle.stn_device.specs.Bytes.{AppendsPart}
 use Rattle.stn_effects.specs.Printing.{Device}
 use Rattle.stn_text.specs.Lines.{lines_of, words_of}
 use Rattle.stn_refusal.specs.{declared.{code.Code.TheVariants.NoSite, refusal.Refusal.Refusal, failure.Failure.{Failure, TheVariants.Refused}}, Printed.refusal_text, Refusals.refused}
-use Rattle.stn_exec.{specs.{Heading.IsHeadingFailure, Effect.{CommandReply, CommandEffect}, Command.{Command, command_of}, Output.{IsReplyText, IsOutput, CountsRefusals, WritesOutput, WritesOutputPart}, Running.IsReplied, Runs.IsCutOff, Saying.IsDone, Script.{Outcome, nothing_run, followed_by, form_effect, is_skipped, line_effect, effect_outcome, line_outcome, lines_outcome, next_line, Part, heading_part, sites_of, Based, Start, based, with_sites, heading_of, started, last_line, script_outcome}}, proofs.Outputs.{not_both, counts_join, one_refusal}}
+use Rattle.stn_exec.{specs.{Heading.IsHeadingFailure, Effect.{CommandReply, CommandEffect}, Command.{Command, command_of}, Output.{IsReplyText, IsOutput, CountsRefusals, WritesOutput, WritesOutputPart}, Running.IsReplied, Runs.IsCutOff, Saying.IsDone, Script.{Outcome, nothing_run, followed_by, form_effect, is_skipped, line_effect, effect_outcome, line_outcome, lines_outcome, next_line, Found, or_line, heading_number, sites_of, Based, Start, based, with_sites, heading_of, started, last_line, script_outcome}}, proofs.Outputs.{not_both, counts_join, one_refusal}}
 use Rattle.stn_command.specs.Words.{and_then}
 use Rattle.stn_lift.specs.PlanSource.{events_of}
 use Rattle.stn_records.specs.Id.{IsSite}
@@ -46,41 +46,39 @@ sites_of-none sites none = ⊎_elim (λ few. some few) (λ many. past many) (cas
         omega_many : 1 ≤ sites → 64 < sites
         omega_many least = ⊎_elim (λ lt. lt) (λ le. absurd (none least le)) (cases_lt 64 sites)
 
--- the faults of the heading in their order, and the heading
-pub fails_first : {A B : Type 0} (first : Result A Failure) (rest : A → Result B Failure) (failure : Failure) → IsHeadingFailure first failure → IsHeadingFailure (and_then first rest) failure
-fails_first first rest failure (inl lack) = inl lack
-fails_first first rest failure (inr e) = inr (ap (λ r. and_then r rest) e)
-
+-- ---- the faults of the heading in their order, and the heading
 -- a heading that is refused, and not for lack of memory
 pub heading-refused : {T : Type 0} (wanted : Result T Failure) (refusal : Refusal) → IsHeadingFailure wanted (Refused refusal) → wanted ≡ Err (Refused refusal)
 heading-refused wanted refusal (inl lack) = absurd (cc)
 heading-refused wanted refusal (inr is) = is
 
-pub heading-fault : (last : ℕ) (lines : List (List ℕ)) (base : Based) (cause : Failure) → based last lines ≡ Ok base
-    → heading_part last (codes "sites") (next_line base.number base.lines) ≡ Err cause → heading_of last lines ≡ Err cause
+pub heading-ended : (last : ℕ) (lines : List (List ℕ)) (base : Based) (cause : Failure) → based last lines ≡ Ok base
+    → or_line last (next_line base.number base.lines) ≡ Err cause → heading_of last lines ≡ Err cause
 unfolding with_sites
-heading-fault last lines base cause e f = ap (λ r. and_then r (with_sites last)) e ∙ rw f refl
+heading-ended last lines base cause e f = ap (λ r. and_then r (with_sites last)) e ∙ rw f refl
 
-heading-none : (last : ℕ) (lines : List (List ℕ)) (base : Based) (sites : Part) → based last lines ≡ Ok base
-    → heading_part last (codes "sites") (next_line base.number base.lines) ≡ Ok sites → sites_of sites.value ≡ Err (refused NoSite) → heading_of last lines ≡ Err (refused NoSite)
-unfolding with_sites
-heading-none last lines base sites e f none = ap (λ r. and_then r (with_sites last)) e ∙ rw f (rw none refl)
+module _ (last : ℕ) (lines : List (List ℕ)) (base : Based) (found : Found) (e : based last lines ≡ Ok base) (f : or_line last (next_line base.number base.lines) ≡ Ok found) where
+  pub heading-fault : (cause : Failure) → or_line found.number (heading_number (codes "sites") found.words) ≡ Err cause → heading_of last lines ≡ Err cause
+  unfolding with_sites
+  heading-fault cause g = ap (λ r. and_then r (with_sites last)) e ∙ rw (f, g) refl
 
-pub heading-unopened : (last : ℕ) (lines : List (List ℕ)) (base : Based) (sites : Part) (count : ℕ) (fault : WorldFault) (failure : Failure) → based last lines ≡ Ok base
-    → heading_part last (codes "sites") (next_line base.number base.lines) ≡ Ok sites → (1 ≤ sites.value → sites.value ≤ 64 → IsSite count) → IsOpeningFault count fault
-    → failure ≡ world_failure fault → IsHeadingFailure (heading_of last lines) failure
-heading-unopened last lines base sites count world_fault.Memory failure e f site none gives = inl gives
-heading-unopened last lines base sites count world_fault.TooManyPackets failure e f site none gives = absurd none
-heading-unopened last lines base sites count world_fault.NoPacket failure e f site none gives = absurd none
-heading-unopened last lines base sites count (world_fault.Replica fault) failure e f site none gives = absurd none
-heading-unopened last lines base sites count world_fault.NoSite failure e f site none gives =
-    inr (heading-none last lines base sites e f (sites_of-none sites.value (λ least most. none (site least most))) ∙ ap Err (sym gives))
+  heading-none : (sites : ℕ) → or_line found.number (heading_number (codes "sites") found.words) ≡ Ok sites → sites_of sites ≡ Err (refused NoSite) → heading_of last lines ≡ Err (refused NoSite)
+  unfolding with_sites
+  heading-none sites g none = ap (λ r. and_then r (with_sites last)) e ∙ rw (f, g, none) refl
 
-pub heading-made : (last : ℕ) (lines : List (List ℕ)) (base : Based) (sites : Part) → based last lines ≡ Ok base
-    → heading_part last (codes "sites") (next_line base.number base.lines) ≡ Ok sites → sites_of sites.value ≡ Ok sites.value
-    → heading_of last lines ≡ Ok (record { source = base.source; sites = sites.value; number = sites.found.number + 1; lines = sites.found.behind })
-unfolding with_sites
-heading-made last lines base sites e f some = ap (λ r. and_then r (with_sites last)) e ∙ rw f (rw some refl)
+  pub heading-unopened : (sites count : ℕ) (fault : WorldFault) (failure : Failure) → or_line found.number (heading_number (codes "sites") found.words) ≡ Ok sites
+      → (1 ≤ sites → sites ≤ 64 → IsSite count) → IsOpeningFault count fault → failure ≡ world_failure fault → IsHeadingFailure (heading_of last lines) failure
+  heading-unopened sites count world_fault.Memory failure g site none gives = inl gives
+  heading-unopened sites count world_fault.TooManyPackets failure g site none gives = absurd none
+  heading-unopened sites count world_fault.NoPacket failure g site none gives = absurd none
+  heading-unopened sites count (world_fault.Replica fault) failure g site none gives = absurd none
+  heading-unopened sites count world_fault.NoSite failure g site none gives =
+      inr (heading-none sites g (sites_of-none sites (λ least most. none (site least most))) ∙ ap Err (sym gives))
+
+  pub heading-made : (sites : ℕ) → or_line found.number (heading_number (codes "sites") found.words) ≡ Ok sites → sites_of sites ≡ Ok sites
+      → heading_of last lines ≡ Ok (record { source = base.source; sites = sites; number = found.number + 1; lines = found.behind })
+  unfolding with_sites
+  heading-made sites g some = ap (λ r. and_then r (with_sites last)) e ∙ rw (f, g, some) refl
 
 -- a line that is skipped, and one that is run
 pub line_outcome-skipped : (number : ℕ) (world : World) (words : List (List ℕ)) → is_skipped words ≡ true → line_outcome number world words ≡ nothing_run world
@@ -127,11 +125,7 @@ outputs_join (reply ∷ first) later text more e p =
     (e.0, e.1 ++ more, e.2, outputs_join first later e.1 more e.3 p, ap (λ (l : List ℕ). l ++ more) e.4 ∙ append_assoc e.0 e.1 more)
 
 pub output_one : (reply : CommandReply) (text : List ℕ) → IsReplyText reply text → IsOutput (reply ∷ []) text
-output_one reply text is = (text, [], is, refl, sym (append_nil text))
-  where
-    append_nil : (l : List ℕ) → l ++ [] ≡ l
-    append_nil [] = refl
-    append_nil (x ∷ l) = ap (λ (k : List ℕ). x ∷ k) (append_nil l)
+output_one reply text is = (text, [], is, refl, sym (append-nil text))
 
 -- what was written so far, and then one line more
 pub texts-more : (a b c : Option (List ℕ)) (whole done first later now : List CommandReply) → WritesOutput a b done → WritesOutput b c first → whole ≡ done ++ now → now ≡ first ++ later
@@ -209,7 +203,7 @@ refused_replied world old kept new effect refusal (inl lack) appended = absurd (
 refused_replied world old kept new effect refusal (inr is) appended = record {
   text = refusal_text refusal;
   left = is.0;
-  printed = inr (Refused refusal, is.1, refl);
+  printed = inr (refusal, is.1, refl);
   appended = appended ∙ ap (λ (l : List ℕ). l ++ refusal_text refusal) is.2;
   answered = (λ _. (Refused refusal, is.1), λ _. refl);
 }

@@ -1,129 +1,102 @@
--- The text of a domain or of a plan is read, or has a fault that is printed as a refusal.
-use Rattle.std.{proofs.Common.{ℕ, ℤ, Bool, true, false, ◌||◌, ◌&&◌, cond, nat_lt, length, codes, List, [], ◌∷◌, Option, Some, None, Result, Ok, Err}, specs.{Int.is_negative, Option.option_map_or}}
-use Rattle.stn_refusal.specs.declared.code.Code.TheVariants as code
-use Rattle.stn_refusal.specs.{declared.failure.Failure.Failure, Refusals.{refusal, refusal_at}}
+-- Two texts or a number of steps have a base, or each fault of theirs is printed as a refusal.
+use Rattle.std.proofs.{Common.{ℕ, ◌+◌, List, [], ◌∷◌, Option, Result, Ok, Err, IfErr, arith}, lemmas.Grind.common_steps}
+use Rattle.std.specs.List.{AllByRecursion}
 use Rattle.stn_text.specs.Faults.{◌>>=◌}
-use Rattle.stn_time.specs.{declared.reading.TimeFault.TimeFault, TimeOf.time_of}
-use Rattle.stn_pddl.{specs.{declared.{tree.scan.TreeFault.TreeFault, fault.DomainFault.DomainFault}, Tree.{Names.is_same_word, Trees.{Trees, End, Word as word, Group}, Scan.tree_of}, Failures.domain_failure, Schemas.ActionSchema, Domains.{is_title, parts, root, domain_of_tree, domain_of_bytes, domain_of}}, proofs.FaultFacts.{IsFormFault, OfForms, parts-forms}}
-use Rattle.stn_pddl.specs.declared.tree.scan.TreeFault.TheVariants as tree
-use Rattle.stn_pddl.specs.declared.fault.DomainFault.TheVariants as domain
-use Rattle.stn_lift.specs.{declared.plan.bytes.Mark.TheVariants.{Colon, Open, Close, OpenSquare, CloseSquare}, Plan.{Failures.plan_failure, Tokens.{Lexeme, Word, Sign, tokens_of}, Lines.lines_of, Steps.{most_text, most_steps, PlannedStep, Form, args_of, duration_form, form_of, or_number, time_at, duration_of, step_at, timed_step, step_of, steps_of, limited, plan_of}}}
-use Rattle.stn_lift.specs.declared.plan.fault.PlanFault.TheVariants as plan
-use Rattle.stn_exec.proofs.Told.{IsTold, told}
+use Rattle.stn_pddl.{specs.{declared.{tree.scan.TreeFault.TreeFault, fault.DomainFault.DomainFault}, Tree.Trees.{Trees}, Failures.domain_failure, Schemas.ActionSchema, Sound.IsSound, Domains.{root, domain_of_tree, domain_of_bytes, domain_of, action_named}}, proofs.Forms.{OfForms, all_parts_given}}
+use Rattle.stn_lift.specs.{declared.{plan.{bytes.Mark.TheVariants.{Colon, Open, Close}, fault.PlanFault.PlanFault}, fault.{LiftFault.LiftFault, BaseFault.BaseFault}}, Plan.{Failures.plan_failure, Tokens.{Lexeme, Word, Sign, tokens_of}, Steps.{PlannedStep, Form, args_of, duration_form, form_of, time_at, duration_of, step_at, timed_step, step_of, steps_of, limited, plan_of}}, Failures.{base_failure, lift_failure}, Activities.{Activity, with_action, with_found, activity_of, activities}, PlanSource.{PlanSource, of_lift, steps_in, lifted, source_with, base_of}}
+use Rattle.stn_exec.proofs.Causes.{HasRefusal}
 
--- a value is read, or the failure of the fault is a refusal
-abbrev pub IsReadBy : {X F : Type 0} → (F → Failure) → Result X F → Type 0
-IsReadBy failure (Ok value) = Unit {0}
-IsReadBy failure (Err fault) = IsTold (failure fault)
-
-pub bind_told : {X Y F : Type 0} (failure : F → Failure) (first : Result X F) (rest : X → Result Y F) → IsReadBy failure first
-    → ((value : X) → IsReadBy failure (rest value)) → IsReadBy failure (first >>= rest)
-bind_told failure (Ok value) rest one others = others value
-bind_told failure (Err fault) rest one others = one
-
-either_told : {X F : Type 0} (failure : F → Failure) (test : Bool) (one other : Result X F) → IsReadBy failure one → IsReadBy failure other → IsReadBy failure (cond test one other)
-either_told failure true one other first second = first
-either_told failure false one other first second = second
+bind_fits : {X Y F : Type 0} (Fits : F → Type 0) (first : Result X F) (rest : X → Result Y F) → IfErr first Fits → ((value : X) → IfErr (rest value) Fits)
+    → IfErr (first >>= rest) Fits
+bind_fits Fits (Ok value) rest one others = others value
+bind_fits Fits (Err fault) rest one others = one
 
 -- ---- a domain
-form_told : (fault : DomainFault) → IsFormFault fault → IsTold (domain_failure fault)
-form_told domain.TooLong is = absurd is
-form_told (domain.Syntax line) is = told (refusal_at code.DomainSyntax line)
-form_told (domain.TooDeep line) is = absurd is
-form_told (domain.Unsupported line) is = told (refusal_at code.DomainUnsupported line)
-form_told (domain.Number line) is = told (refusal_at code.DomainNumber line)
-form_told (domain.Twice line) is = told (refusal_at code.DomainTwice line)
-form_told (domain.Variable line) is = told (refusal_at code.DomainVariable line)
-form_told domain.Memory is = absurd is
+abbrev OfDomain : DomainFault → Type 0
+OfDomain fault = HasRefusal (domain_failure fault)
 
-forms_told : (read : Result (List ActionSchema) DomainFault) → OfForms read → IsReadBy domain_failure read
-forms_told (Ok actions) is = tt
-forms_told (Err fault) is = form_told fault is
+forms_fit : (read : Result (List ActionSchema) DomainFault) → OfForms (AllByRecursion IsSound) read → IfErr read OfDomain
+forms_fit (Ok actions) is = tt
+forms_fit (Err fault) is = grind (arith, common_steps)
 
-root_told : (line : ℕ) (children : Trees) → IsReadBy domain_failure (root line children)
+root_fits : (line : ℕ) (children : Trees) → IfErr (root line children) OfDomain
 unfolding root
-root_told line (word a define (Group b title rest)) =
-    either_told domain_failure (is_same_word define (codes "define") && is_title title) (parts rest []) (Err (domain.Syntax line))
-    (forms_told (parts rest []) (parts-forms rest [])) (told (refusal_at code.DomainSyntax line))
-root_told line children = told (refusal_at code.DomainSyntax line)
+root_fits line children = grind (arith, common_steps, forms_fit, all_parts_given)
 
-tree_told : (trees : Trees) → IsReadBy domain_failure (domain_of_tree trees)
+bytes_fit : (read : Result Trees TreeFault) → IfErr (domain_of_bytes read) OfDomain
 unfolding domain_of_tree
-tree_told End = told (refusal_at code.DomainSyntax 1)
-tree_told (word line name next) = told (refusal_at code.DomainSyntax line)
-tree_told (Group line children next) = root_told line children
+bytes_fit read = grind (arith, common_steps, root_fits)
 
-bytes_told : (read : Result Trees TreeFault) → IsReadBy domain_failure (domain_of_bytes read)
-bytes_told (Ok trees) = tree_told trees
-bytes_told (Err tree.TooLong) = told (refusal code.DomainTooLong)
-bytes_told (Err (tree.Syntax line)) = told (refusal_at code.DomainSyntax line)
-bytes_told (Err (tree.TooDeep line)) = told (refusal_at code.DomainTooDeep line)
-
-pub domain_told : (text : List ℕ) → IsReadBy domain_failure (domain_of text)
+domain_fits : (text : List ℕ) → IfErr (domain_of text) OfDomain
 unfolding domain_of
-domain_told text = bytes_told (tree_of text)
+domain_fits text = grind (arith, common_steps, bytes_fit)
 
 -- ---- a plan
-args_told : (line : ℕ) (tokens : List Lexeme) → IsReadBy plan_failure (args_of line tokens)
+abbrev OfPlan : PlanFault → Type 0
+OfPlan fault = HasRefusal (plan_failure fault)
+
+args_fit : (line : ℕ) (tokens : List Lexeme) → IfErr (args_of line tokens) OfPlan
 unfolding args_of
-args_told line (Word one ∷ tokens) = bind_told plan_failure (args_of line tokens) _ (args_told line tokens) (λ found. tt)
-args_told line (Sign Close ∷ tokens) = tt
-args_told line _ = told (refusal_at code.PlanSyntax line)
+args_fit line (Word one ∷ tokens) = grind (arith, common_steps, args_fit line tokens)
+args_fit line (Sign Close ∷ tokens) = tt
+args_fit line _ = tt
 
-bracket_told : (line : ℕ) (tokens : List Lexeme) → IsReadBy plan_failure (duration_form line tokens)
+bracket_fits : (line : ℕ) (tokens : List Lexeme) → IfErr (duration_form line tokens) OfPlan
 unfolding duration_form
-bracket_told line [] = tt
-bracket_told line (Sign OpenSquare ∷ Word one ∷ Sign CloseSquare ∷ []) = tt
-bracket_told line _ = told (refusal_at code.PlanSyntax line)
+bracket_fits line tokens = grind (arith, common_steps)
 
-line_told : (line : ℕ) (tokens : List Lexeme) → IsReadBy plan_failure (form_of line tokens)
+form_fits : (line : ℕ) (tokens : List Lexeme) → IfErr (form_of line tokens) OfPlan
 unfolding form_of
-line_told line (Word time ∷ Sign Colon ∷ Sign Open ∷ Word action ∷ tokens) =
-    bind_told plan_failure (args_of line tokens) _ (args_told line tokens)
-    (λ args. bind_told plan_failure (duration_form line args.1) _ (bracket_told line args.1) (λ duration. tt))
-line_told line _ = told (refusal_at code.PlanSyntax line)
+form_fits line (Word time ∷ Sign Colon ∷ Sign Open ∷ Word action ∷ tokens) =
+    bind_fits OfPlan (args_of line tokens) _ (args_fit line tokens) (λ args. grind (arith, common_steps, bracket_fits line args.1))
+form_fits line _ = tt
 
-number_told : (line : ℕ) (time : Result ℤ TimeFault) → IsReadBy plan_failure (or_number line time)
-number_told line (Ok millis) = tt
-number_told line (Err fault) = told (refusal_at code.PlanNumber line)
+timed_fits : (line : ℕ) (form : Form) → IfErr (timed_step line form) OfPlan
+unfolding timed_step step_at duration_of time_at
+timed_fits line form = grind (arith, common_steps)
 
-time_told : (line : ℕ) (one : List ℕ) → IsReadBy plan_failure (time_at line one)
-unfolding time_at
-time_told line one = number_told line (time_of one)
-
-duration_told : (line : ℕ) (one : Option (List ℕ)) → IsReadBy plan_failure (duration_of line one)
-unfolding duration_of
-duration_told line None = tt
-duration_told line (Some one) = bind_told plan_failure (time_at line one) _ (time_told line one) (λ millis. tt)
-
-timed_told : (line : ℕ) (form : Form) → IsReadBy plan_failure (timed_step line form)
-unfolding timed_step step_at
-timed_told line form =
-    bind_told plan_failure (time_at line form.time) _ (time_told line form.time)
-    (λ time. bind_told plan_failure (duration_of line form.duration) _ (duration_told line form.duration)
-    (λ duration. either_told plan_failure (is_negative time || option_map_or is_negative duration false) (Err (plan.Negative line))
-    (Ok (record { line = line; time = time; action = form.action; args = form.args; duration = duration })) (told (refusal_at code.PlanNegative line)) tt))
-
-step_told : (line : ℕ) (tokens : List Lexeme) → IsReadBy plan_failure (step_of line tokens)
+step_fits : (line : ℕ) (tokens : List Lexeme) → IfErr (step_of line tokens) OfPlan
 unfolding step_of
-step_told line [] = tt
-step_told line (token ∷ tokens) =
-    bind_told plan_failure (form_of line (token ∷ tokens)) _ (line_told line (token ∷ tokens))
-    (λ form. bind_told plan_failure (timed_step line form) _ (timed_told line form) (λ step. tt))
+step_fits line [] = tt
+step_fits line (token ∷ tokens) =
+    bind_fits OfPlan (form_of line (token ∷ tokens)) _ (form_fits line (token ∷ tokens)) (λ form. grind (arith, common_steps, timed_fits line form))
 
-steps_told : (lines : List (ℕ × List ℕ)) → IsReadBy plan_failure (steps_of lines)
+steps_fit : (lines : List (ℕ × List ℕ)) → IfErr (steps_of lines) OfPlan
 unfolding steps_of
-steps_told [] = tt
-steps_told (line ∷ lines) =
-    bind_told plan_failure (step_of line.0 (tokens_of line.1)) _ (step_told line.0 (tokens_of line.1))
-    (λ step. bind_told plan_failure (steps_of lines) _ (steps_told lines) (λ steps. tt))
+steps_fit [] = tt
+steps_fit (line ∷ lines) =
+    bind_fits OfPlan (step_of line.0 (tokens_of line.1)) _ (step_fits line.0 (tokens_of line.1)) (λ step. grind (arith, common_steps, steps_fit lines))
 
-limit_told : (steps : List PlannedStep) → IsReadBy plan_failure (limited steps)
-unfolding limited
-limit_told steps = either_told plan_failure (nat_lt most_steps (length steps)) (Err plan.TooManySteps) (Ok steps) (told (refusal code.PlanTooManySteps)) tt
+plan_fits : (text : List ℕ) → IfErr (plan_of text) OfPlan
+unfolding plan_of limited
+plan_fits text = grind (arith, common_steps, steps_fit)
 
-pub plan_told : (text : List ℕ) → IsReadBy plan_failure (plan_of text)
-unfolding plan_of
-plan_told text =
-    either_told plan_failure (nat_lt most_text (length text)) (Err plan.TooLong) (steps_of (lines_of text) >>= limited) (told (refusal code.PlanTooLong))
-    (bind_told plan_failure (steps_of (lines_of text)) limited (steps_told (lines_of text)) limit_told)
+-- ---- the steps in a domain
+abbrev OfLift : LiftFault → Type 0
+OfLift fault = HasRefusal (lift_failure fault)
+
+found_fits : (number : ℕ) (step : PlannedStep) (found : Option ActionSchema) → IfErr (with_found number step found) OfLift
+unfolding with_action
+found_fits number step found = grind (arith, common_steps)
+
+all_fit : (actions : List ActionSchema) (before : ℕ) (steps : List PlannedStep) → IfErr (activities actions before steps) OfLift
+unfolding activities activity_of
+all_fit actions before [] = tt
+all_fit actions before (step ∷ steps) =
+    bind_fits OfLift (activity_of actions (before + 1) step) _ (found_fits (before + 1) step (action_named step.action actions))
+    (λ first. grind (arith, common_steps, all_fit actions (before + 1) steps))
+
+-- ---- sources
+abbrev pub OfBase : BaseFault → Type 0
+OfBase fault = HasRefusal (base_failure fault)
+
+lift_fits : (source : PlanSource) (found : Result (List Activity) LiftFault) → IfErr found OfLift → IfErr (source_with source (of_lift found)) OfBase
+lift_fits source found one = grind (arith, common_steps)
+
+texts_fit : (source : PlanSource) (actions : Result (List ActionSchema) DomainFault) (planned : Result (List PlannedStep) PlanFault)
+    → IfErr actions OfDomain → IfErr planned OfPlan → IfErr (source_with source (steps_in actions planned)) OfBase
+texts_fit source actions planned one other = grind (arith, common_steps, lift_fits, all_fit)
+
+pub base_fits : (source : PlanSource) → IfErr (base_of source) OfBase
+unfolding lifted
+base_fits source = grind (arith, common_steps, texts_fit, domain_fits, plan_fits)

@@ -1,16 +1,12 @@
 -- What commands do at the sites of a world.
-use Rattle.std.specs.{Prelude.{ℕ, ◌+◌, Bool, true, if◌then◌else◌, List, length, codes, ℤ, neg_ℤ, Option, Some, None, is_some, option_map, Result, Ok, Err}, Option.option_map_or, Result.result_ok, Str.bytes_eq}
+use Rattle.std.specs.{Prelude.{ℕ, ◌+◌, Bool, true, if◌then◌else◌, length, Option, Some, None, is_some, option_map, Result, Ok, Err}, Option.option_map_or, Result.result_ok}
 use Rattle.stn_refusal.specs.{declared.{code.Code.TheVariants.NoSite, failure.Failure.Failure}, Refusals.refused}
-use Rattle.stn_time.specs.Time.{horizon}
-use Rattle.stn_net.specs.Difference.{Difference}
 use Rattle.stn_lift.specs.PlanSource.{PlanSource}
 use Rattle.stn_records.specs.Content.{Content, part_of}
-use Rattle.stn_site.specs.{Held.difference, declared.change.Change.{Change, TheVariants.{Add, Amend, Withdraw, Done}}}
+use Rattle.stn_site.specs.declared.change.Change.{Change}
 use Rattle.stn_world.specs.{declared.faults.WorldFault.WorldFault, Failures.world_failure, Parts.holds_all, World.{World, has_site, content_at, next_id_at}, Steps.{Step, changed, merged, sent, delivered, step_refusal, send_refusal, after}}
-use Rattle.stn_command.specs.{Words.{and_then, time_read, times_read}, Change.made_by, Query.Query, Dispatch.every_event}
-use Rattle.stn_command.specs.Query as asked
-use Rattle.stn_command.specs.declared.queries.Outlook.TheVariants as outlook
-use Rattle.stn_exec.specs.{declared.answer.Answer.Answer, Command.{BoundWords, ChangeWords, add, amend, withdraw, done, QueryWords, report, check, next, rehearse, ready, ask, repairs, Action, change, merge, send_all, send, deliver, query, Command}}
+use Rattle.stn_command.specs.{Change.made_by, Query.Query}
+use Rattle.stn_exec.specs.{declared.answer.Answer.Answer, Command.{Action, change, merge, send_all, send, deliver, query, Command}}
 use Rattle.stn_exec.specs.declared.answer.Answer.TheVariants as answer
 
 -- what a line prints: an answer; why there is none; or what is said to a query about a plan and what a site holds
@@ -45,34 +41,6 @@ abbrev pub sending : World → ℕ → Content → Bool → CommandEffect
 sending world site part held =
     answered world (after world (sent site part)) (answer.Sent (length world.packets + 1)) (send_refusal world site held)
 
--- a side of a bound: the open one where the word is `*`, else the time that the word spells
-abbrev pub side_of : ℤ → List ℕ → Result ℤ Failure
-side_of open_side word = if bytes_eq word (codes "*") then Ok open_side else time_read word
-
--- the bound that is asked for, where both sides can be read, the lower one first
-abbrev pub bound_read : BoundWords → Result Difference Failure
-bound_read words =
-    and_then (side_of (neg_ℤ horizon) words.lo) (λ low.
-    and_then (side_of horizon words.hi) (λ high.
-    Ok (difference words.from words.to low high)))
-
--- the change that is asked for, where its words can be read
-abbrev pub change_read : ChangeWords → Result Change Failure
-change_read (add bound) = and_then (bound_read bound) (λ read. Ok (Add read))
-change_read (amend old bound) = and_then (bound_read bound) (λ read. Ok (Amend old read))
-change_read (withdraw id) = Ok (Withdraw id)
-change_read (done event time) = and_then (time_read time) (λ read. Ok (Done event read))
-
--- the query that is asked, where its words can be read
-abbrev pub query_read : QueryWords → Result Query Failure
-query_read report = Ok asked.report
-query_read repairs = Ok asked.repairs
-query_read (check times) = and_then (times_read times) (λ read. Ok (asked.check read))
-query_read (next now) = and_then (time_read now) (λ time. Ok (asked.foresee outlook.Next time every_event))
-query_read (rehearse now) = and_then (time_read now) (λ time. Ok (asked.foresee outlook.Rehearse time every_event))
-query_read (ready now) = and_then (time_read now) (λ time. Ok (asked.foresee outlook.Ready time every_event))
-query_read (ask question) = Ok (asked.ask question)
-
 -- a change that was read
 abbrev pub changing : World → ℕ → Result Change Failure → CommandEffect
 changing world site (Ok made) = called world (changed site made) (answer.Changed (made_by made (next_id_at world site)))
@@ -85,13 +53,13 @@ telling world site (Err cause) = refusing world cause
 
 -- a command of a site that is there
 abbrev pub action_effect : World → ℕ → Action → CommandEffect
-action_effect world site (change words) = changing world site (change_read words)
+action_effect world site (change asked) = changing world site asked
 action_effect world site (merge other) = called world (merged site other) answer.Merged
 action_effect world site send_all = sending world site (content_at world site) true
 action_effect world site (send records tombstones) =
     sending world site (part_of (content_at world site) records tombstones) (holds_all (content_at world site) records tombstones)
 action_effect world site (deliver packet) = called world (delivered site packet) answer.Delivered
-action_effect world site (query words) = telling world site (query_read words)
+action_effect world site (query asked) = telling world site asked
 
 -- a command
 abbrev pub command_effect : World → Command → CommandEffect
@@ -102,15 +70,15 @@ command_effect world command =
 abbrev pub sent_step : World → ℕ → Content → Bool → Option Step
 sent_step world site part held = if is_some (send_refusal world site held) then None else Some (sent site part)
 
--- the step that an action of a site is, if it is one: a change whose words can be read, a merge, the sending of a packet, or its delivery
+-- the step that an action of a site is, if it is one: a change whose words could be read, a merge, the sending of a packet, or its delivery
 abbrev pub action_step : World → ℕ → Action → Option Step
-action_step world site (change words) = option_map (changed site) (result_ok (change_read words))
+action_step world site (change asked) = option_map (changed site) (result_ok asked)
 action_step world site (merge other) = Some (merged site other)
 action_step world site send_all = sent_step world site (content_at world site) true
 action_step world site (send records tombstones) =
     sent_step world site (part_of (content_at world site) records tombstones) (holds_all (content_at world site) records tombstones)
 action_step world site (deliver packet) = Some (delivered site packet)
-action_step world site (query words) = None
+action_step world site (query asked) = None
 
 abbrev pub command_step : World → Command → Option Step
 command_step world command = action_step world command.site command.action

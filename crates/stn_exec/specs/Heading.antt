@@ -5,20 +5,11 @@ use Rattle.stn_refusal.specs.{declared.failure.Failure.Failure, Refusals.out_of_
 use Rattle.stn_lift.specs.PlanSource.{PlanSource}
 use Rattle.stn_text.specs.Lines.{lines_of, words_of}
 use Rattle.stn_world.specs.World.{World, opening_world}
-use Rattle.stn_exec.specs.{declared.heading.{FoundLine.FoundLine, HeadingPart.HeadingPart, Rest.Rest, HeadingBlock.HeadingBlock}, Blocks.Block, Script.{Found, Part, Based, Start}}
-
--- the value that was read, or the same fault
-abbrev pub result_seen : {A B E : Type 0} → (A → B) → Result A E → Result B E
-result_seen seen (Ok value) = Ok (seen value)
-result_seen seen (Err fault) = Err fault
+use Rattle.stn_exec.specs.{declared.heading.{FoundLine.FoundLine, Rest.Rest, HeadingBlock.HeadingBlock}, Blocks.Block, Script.{Found, Based, Start}}
 
 -- the line that was found
 abbrev pub seen_found : FoundLine → Found
 seen_found found = record { number = found.number; words = found.word.now ∷ words_of found.rest.now; behind = lines_of found.behind.now }
-
--- the part that was read
-abbrev pub seen_part : HeadingPart → Part
-seen_part part = record { value = part.value; found = seen_found part.found }
 
 -- the block that was read
 abbrev pub seen_block : HeadingBlock → Block

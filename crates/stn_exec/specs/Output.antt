@@ -1,30 +1,24 @@
 -- The output that replies are, and how many of them are refusals.
 use Rattle.std.specs.{Prelude.{◌≡◌, ◌⊎◌, ℕ, ◌+◌, Bool, if◌then◌else◌, List, [], ◌∷◌, ◌++◌, Option, Some, None}, Bool.Decides, Io.KnownBytes.Appends}
-use Rattle.stn_refusal.specs.{declared.failure.Failure.{Failure, TheVariants.{Refused, Failed}}, Printed.refusal_text}
-use Rattle.stn_site.specs.Held.{holding_state}
-use Rattle.stn_command.specs.Query.{IsSaid, IsQueryRefusal}
+use Rattle.stn_refusal.specs.{declared.{refusal.Refusal.Refusal, failure.Failure.{Failure, TheVariants.Refused}}, Printed.refusal_text}
+use Rattle.stn_command.specs.Query.{IsSaidIn, IsRefusedIn}
 use Rattle.stn_exec.specs.{Answer.answer_text, Effect.{CommandReply, said, declined, told}}
 
 -- the text is that of an answer, or is said to a query that nothing refuses
 abbrev pub IsAnswerText : CommandReply → List ℕ → Type 0
 IsAnswerText (said answer) text = text ≡ answer_text answer
 IsAnswerText (declined cause) text = ⊥
-IsAnswerText (told source state query) text = IsQueryRefusal query (holding_state source state) None × IsSaid query (holding_state source state) text
+IsAnswerText (told source state query) text = IsRefusedIn source state query None × IsSaidIn source state query text
 
 -- the reply is no answer, for this cause
 abbrev pub Declines : CommandReply → Failure → Type 0
 Declines (said answer) cause = ⊥
 Declines (declined given) cause = cause ≡ given
-Declines (told source state query) cause = IsQueryRefusal query (holding_state source state) (Some cause)
+Declines (told source state query) cause = IsRefusedIn source state query (Some cause)
 
--- the text is the refusal's; where memory runs out, none is printed
-abbrev pub IsFailureText : Failure → List ℕ → Type 0
-IsFailureText (Refused refusal) text = text ≡ refusal_text refusal
-IsFailureText (Failed fault) text = ⊥
-
--- the text is printed for the reply
+-- the text is printed for the reply: that of its answer, or that of the refusal for which it has none; a fault of a device or of memory has no text
 abbrev pub IsReplyText : CommandReply → List ℕ → Type 0
-IsReplyText reply text = IsAnswerText reply text ⊎ ((cause : Failure) × Declines reply cause × IsFailureText cause text)
+IsReplyText reply text = IsAnswerText reply text ⊎ ((refusal : Refusal) × Declines reply (Refused refusal) × (text ≡ refusal_text refusal))
 
 -- the reply is a refusal
 abbrev pub IsRefusal : CommandReply → Type 0

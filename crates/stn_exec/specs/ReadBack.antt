@@ -1,11 +1,11 @@
 -- What an addition reads of a printed bound.
-use Rattle.std.specs.Prelude.{◌≡◌, ℕ, ◌<◌, ◌^◌, List, [], ◌∷◌, Some, Ok, option_map}
+use Rattle.std.specs.Prelude.{◌≡◌, ℕ, ◌<◌, ◌^◌, List, [], ◌∷◌, Some, Ok}
 use Rattle.stn_text.specs.Lines.{words_of}
 use Rattle.stn_time.specs.Time.{IsWithinHorizon}
 use Rattle.stn_net.specs.{Difference.{Difference, NamesEvents}, Event.most_events}
 use Rattle.stn_records.specs.Id.{IsId}
 use Rattle.stn_site.specs.declared.names.BoundName.{BoundName, TheVariants.{Plan, Record}}
-use Rattle.stn_exec.specs.{Command.bound_words, Effect.bound_read}
+use Rattle.stn_exec.specs.Command.{bound_asked}
 
 -- the events and the times of the bound are some that can be printed and read
 pub record IsReadable (bound : Difference) : Type 0 where
@@ -27,4 +27,4 @@ pub record ReadsBack (text : List ℕ) (bound : Difference) : Type 0 where
   pub hi : List ℕ
   pub rest : List (List ℕ)
   pub words : words_of text ≡ name ∷ (from ∷ (to ∷ (lo ∷ (hi ∷ rest))))
-  pub read : option_map bound_read (bound_words (from ∷ (to ∷ (lo ∷ (hi ∷ []))))) ≡ Some (Ok (record { from = bound.from; to = bound.to; lo = bound.lo; hi = bound.hi }))
+  pub read : bound_asked (from ∷ (to ∷ (lo ∷ (hi ∷ [])))) ≡ Some (Ok (record { from = bound.from; to = bound.to; lo = bound.lo; hi = bound.hi }))

@@ -2,10 +2,10 @@
 use Rattle.std.specs.Prelude.{◌≡◌, ℕ, ℤ, ◌+◌, false, List, ◌∷◌, ◌++◌, length, option_to_list, option_and_then, if◌then◌else◌, [], Some, Ok}
 use Rattle.stn_lift.specs.PlanSource.{events_of}
 use Rattle.stn_text.specs.Lines.{lines_of, words_of}
-use Rattle.stn_time.specs.TimeOf.{time_of}
 use Rattle.stn_world.specs.{World.{World, HasSite, opening_world}, Steps.{Step, run}}
 use Rattle.stn_questions.specs.{declared.asked.Question.Question, Answer.{AsksOfNoEvent, AsksOfSameEvent}}
-use Rattle.stn_exec.specs.{Command.{QueryWords, query, report, ready, ask, sites_command, command_of}, Effect.command_step, Output.IsOutput, Script.{Start, is_skipped, heading_of, last_line, line_outcome, lines_outcome}}
+use Rattle.stn_command.specs.{Query.{Query, report, foresee, ask}, Dispatch.every_event, declared.queries.Outlook.TheVariants.Ready}
+use Rattle.stn_exec.specs.{Command.{query, sites_command, command_of}, Effect.command_step, Output.IsOutput, Script.{Start, is_skipped, heading_of, last_line, line_outcome, lines_outcome}}
 
 -- the step that a line's words are in a world, if they are one
 abbrev pub line_steps : World → List (List ℕ) → List Step
@@ -40,10 +40,10 @@ steps_before at = steps_of_lines (first_world at) at.before
 abbrev pub world_at : {script : List ℕ} → LineOf script → World
 world_at at = (lines_outcome at.start.number (first_world at) at.before).world
 
--- the line is a query of a site, and the site is there
-pub record QueriesSite {script : List ℕ} (at : LineOf script) (site : ℕ) (words : QueryWords) : Type 0 where
+-- the line asks this of a site, and the site is there
+pub record QueriesSite {script : List ℕ} (at : LineOf script) (site : ℕ) (asked : Query) : Type 0 where
   pub kept : is_skipped (words_of at.line) ≡ false
-  pub command : command_of (events_of at.start.source) (words_of at.line) ≡ Some (sites_command site (query words))
+  pub command : command_of (events_of at.start.source) (words_of at.line) ≡ Some (sites_command site (query (Ok asked)))
   pub there : HasSite (first_world at) site
 
 -- it is a site's command `report`
@@ -54,9 +54,9 @@ ReportsSite at site = QueriesSite at site report
 abbrev pub AsksSite : {script : List ℕ} → LineOf script → ℕ → Question → Type 0
 AsksSite at site question = QueriesSite at site (ask question) × ¬ AsksOfNoEvent at.start.source question × ¬ AsksOfSameEvent question
 
--- a site's command `ready` from a time on, which can be read
+-- a site's command `ready` from a time on
 abbrev pub AsksReady : {script : List ℕ} → LineOf script → ℕ → ℤ → Type 0
-AsksReady at site now = (word : List ℕ) × QueriesSite at site (ready word) × (time_of word ≡ Ok now)
+AsksReady at site now = QueriesSite at site (foresee Ready now every_event)
 
 -- the line prints the text: the output is what the lines before it print, the text, and what the lines after it print
 pub record PrintsAt {script : List ℕ} (at : LineOf script) (output text : List ℕ) : Type 0 where

@@ -2,8 +2,10 @@
 -- What a call answered or why it was declined, and how that was appended.
 use Rattle.std.specs.Prelude.{◌≡◌, ◌⊎◌, ℕ, List, ◌++◌, Result, Ok, Err}
 use Rattle.stn_refusal.specs.{declared.failure.Failure.Failure, Refusals.out_of_memory}
-use Rattle.stn_world.specs.{declared.faults.WorldFault.WorldFault, Failures.world_failure, World.World}
-use Rattle.stn_exec.specs.{declared.answer.Answer.{Answer, TheVariants.Sent}, Effect.{CommandEffect, said, declined}, Output.{IsAnswerText, Declines}}
+use Rattle.stn_world.specs.{declared.faults.WorldFault.WorldFault, Failures.world_failure, World.{World, content_at}}
+use Rattle.stn_site.specs.Held.{Held}
+use Rattle.stn_command.specs.Query.{Query}
+use Rattle.stn_exec.specs.{declared.answer.Answer.{Answer, TheVariants.Sent}, Effect.{CommandEffect, said, declined, telling}, Output.{IsAnswerText, Declines}}
 
 -- a call left the world, and its answer, or why there is none, is the effect's reply; or memory ran out
 abbrev pub IsEffect : Result Answer Failure → World → CommandEffect → Type 0
@@ -28,3 +30,8 @@ IsDone world old new effect (Err failure) = (failure ≡ out_of_memory) ⊎ ((wo
 -- whatever effect a call has, that effect is done
 abbrev pub DoesCall : Result Answer Failure → List ℕ → List ℕ → Result (Unit {0}) Failure → Type 0
 DoesCall outcome old new result = (world : World) (effect : CommandEffect) → IsEffect outcome world effect → IsDone world old new effect result
+
+-- whatever site of a world holds this, what was read is told of that site
+abbrev pub Tells : Held → Result Query Failure → List ℕ → List ℕ → Result (Unit {0}) Failure → Type 0
+Tells held asked old new result =
+    (world : World) (site : ℕ) → held.source ≡ world.source → held.state ≡ content_at world site → IsDone world old new (telling world site asked) result

@@ -1,5 +1,5 @@
 -- A script: its heading, and the fold of its commands.
-use Rattle.std.specs.{Prelude.{ℕ, ◌+◌, Bool, true, ◌==◌, ◌&&◌, nat_le, if◌then◌else◌, List, [], ◌∷◌, ◌++◌, codes, slice_index, count_by, Option, Some, None, Result, Ok, Err}, Str.bytes_eq}
+use Rattle.std.specs.{Prelude.{ℕ, ◌+◌, Bool, true, ◌==◌, ◌&&◌, nat_le, if◌then◌else◌, List, [], ◌∷◌, ◌++◌, codes, slice_index, count_by, Option, Some, None, Result, Ok, Err, ok_or}, Str.bytes_eq}
 use Rattle.stn_refusal.specs.{declared.{code.Code.TheVariants.{Line, NoSite}, failure.Failure.Failure}, Refusals.{refused, refused_at}}
 use Rattle.stn_lift.specs.{declared.fault.BaseFault.BaseFault, Failures.base_failure, PlanSource.{PlanSource, bare, files, events_of, base_of}}
 use Rattle.stn_records.specs.Id.{most_sites}
@@ -80,20 +80,9 @@ heading_number name (word ∷ []) = None
 heading_number name (word ∷ (digits ∷ [])) = if bytes_eq word name then number_of digits else None
 heading_number name (word ∷ (digits ∷ (other ∷ words))) = None
 
--- the number that a line of the heading gives, and the line
-pub record Part : Type 0 where
-  pub value : ℕ
-  pub found : Found
-
--- the line, where it has its form
-abbrev pub part_with : Found → Option ℕ → Result Part Failure
-part_with found None = Err (refused_at Line found.number)
-part_with found (Some value) = Ok (record { value = value; found = found })
-
--- a part of the heading; where the script ends before it, the refusal names the last line
-abbrev pub heading_part : ℕ → List ℕ → Option Found → Result Part Failure
-heading_part last name None = Err (refused_at Line last)
-heading_part last name (Some found) = part_with found (heading_number name found.words)
+-- where nothing of the form stands, the refusal names a line
+abbrev pub or_line : {X : Type 0} → ℕ → Option X → Result X Failure
+or_line number found = ok_or found (refused_at Line number)
 
 -- there is a site, and no more than the most
 abbrev pub sites_of : ℕ → Result ℕ Failure
@@ -124,46 +113,41 @@ with_base source number lines =
 -- the steps of a bare plan, by the line that says how many
 abbrev pub bare_part : Found → Result Based Failure
 bare_part found =
-    and_then (part_with found (heading_number (codes "steps") found.words)) (λ steps.
-    with_base (bare steps.value) (found.number + 1) found.behind)
+    and_then (or_line found.number (heading_number (codes "steps") found.words)) (λ steps.
+    with_base (bare steps) (found.number + 1) found.behind)
 
--- the block, where it ends; else the refusal names the last line of the script
-abbrev pub ended_block : ℕ → Option Block → Result Block Failure
-ended_block last None = Err (refused_at Line last)
-ended_block last (Some block) = Ok block
-
--- the block that begins with the line of a number
+-- the block that begins with the line of a number, where it ends; else the refusal names the last line of the script
 abbrev pub block_at : ℕ → ℕ → List (List ℕ) → Result Block Failure
-block_at last number lines = ended_block last (block_from number lines)
+block_at last number lines = or_line last (block_from number lines)
 
 -- the block of a name: a line that is its name alone, and the lines after that
-abbrev pub named_block : ℕ → List ℕ → Option Found → Result Block Failure
-named_block last name None = Err (refused_at Line last)
-named_block last name (Some found) =
+abbrev pub named_block : ℕ → List ℕ → Found → Result Block Failure
+named_block last name found =
     if is_alone name found.words then block_at last (found.number + 1) found.behind else Err (refused_at Line found.number)
 
 -- the texts of a domain and of a plan, after the line `domain`
 abbrev pub files_part : ℕ → Found → Result Based Failure
 files_part last found =
     and_then (block_at last (found.number + 1) found.behind) (λ domain.
-    and_then (named_block last (codes "plan") (next_line domain.number domain.behind)) (λ plan.
-    with_base (files domain.text plan.text) plan.number plan.behind))
+    and_then (or_line last (next_line domain.number domain.behind)) (λ next.
+    and_then (named_block last (codes "plan") next) (λ plan.
+    with_base (files domain.text plan.text) plan.number plan.behind)))
 
 -- the first part of the heading, by its first line
-abbrev pub first_part : ℕ → Option Found → Result Based Failure
-first_part last None = Err (refused_at Line last)
-first_part last (Some found) = if is_alone (codes "domain") found.words then files_part last found else bare_part found
+abbrev pub first_part : ℕ → Found → Result Based Failure
+first_part last found = if is_alone (codes "domain") found.words then files_part last found else bare_part found
 
 -- the first part of the heading: what the plan is made from, whose base is made when the part is complete
 unfoldable pub based : ℕ → List (List ℕ) → Result Based Failure
-based last lines = first_part last (next_line 1 lines)
+based last lines = and_then (or_line last (next_line 1 lines)) (first_part last)
 
 -- the second part: the number of sites
 unfoldable pub with_sites : ℕ → Based → Result Start Failure
 with_sites last base =
-    and_then (heading_part last (codes "sites") (next_line base.number base.lines)) (λ sites.
-    and_then (sites_of sites.value) (λ count.
-    Ok (record { source = base.source; sites = count; number = sites.found.number + 1; lines = sites.found.behind })))
+    and_then (or_line last (next_line base.number base.lines)) (λ found.
+    and_then (or_line found.number (heading_number (codes "sites") found.words)) (λ sites.
+    and_then (sites_of sites) (λ count.
+    Ok (record { source = base.source; sites = count; number = found.number + 1; lines = found.behind }))))
 
 -- the heading: where the commands begin, or the first fault
 abbrev pub heading_of : ℕ → List (List ℕ) → Result Start Failure

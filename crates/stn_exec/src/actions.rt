@@ -1,27 +1,27 @@
-ghost use Rattle.std.specs.Prelude.{◌≡◌, Ok};
+ghost use Rattle.std.specs.Prelude.{◌≡◌};
+ghost use Rattle.stn_effects.specs.Effects.{seen};
 ghost use Rattle.stn_text.specs.Lines.{words_of};
-ghost use Rattle.stn_world.specs.World.{HasSite, content_at};
-ghost use Rattle.stn_command.specs.{Dispatch.every_event, Query.{foresee, seen_query as asked_of}, Words.{and_then, time_read}};
-ghost use Rattle.stn_exec.specs.{Command.{change, send_items, query}, Effect.{telling, action_effect}, Running.{seen_change, seen_query_words}, Saying.{IsEffect, IsDone, call_answer, sent_answer}};
+ghost use Rattle.stn_command.specs.Query.{seen_query};
+ghost use Rattle.stn_exec.specs.{Command.{send_items, check_read}, Effect.{changing, action_effect}, Saying.{IsEffect, Tells, call_answer, sent_answer}};
 
 use crate::answer::Answer;
-use crate::command::{ChangeWords, QueryWords, read_records, read_tombstones};
-use crate::reading::{read_change, read_times};
+use crate::command::{read_records, read_tombstones};
+use crate::reading::read_times;
 use std::alloc::Allocator;
-use stn_command::{Choice, Made, Outlook, Query, append_said, read_time};
+use stn_command::{Made, Query, append_said};
 use stn_refusal::Failure;
-use stn_site::SitePlan;
+use stn_site::{Change, SitePlan};
 use stn_world::{World, WorldFault};
 
-/// Changes what a site holds, as words of a line ask for.
+/// Changes what a site holds, if the words of the change could be read.
 pub fn change<A: Allocator + Copy>(
     world: &mut World<A, SitePlan<A>>,
     site: u32,
-    words: &ChangeWords<'_>,
+    asked: Result<Change, Failure>,
 ) -> Result<Answer, Failure>
-    ensures { IsEffect result world.new (action_effect world.old site (change (seen_change words.now))) }
+    ensures { IsEffect result world.new (changing world.old site asked) }
 {
-    let asked = read_change(words)?;
+    let asked = asked?;
     let id = world.change(site, &asked)?;
     Ok(Answer::Changed(Made::of(&asked, id)))
 }
@@ -61,69 +61,29 @@ pub fn answered(call: Result<(), WorldFault>, answer: Answer) -> Result<Answer, 
     }
 }
 
-/// Appends what a site that is there says to a query, whose times are words of a line.
+/// Appends what a site's copy of the plan says to a query, if the words of the query could be read.
 pub fn tell<A: Allocator + Copy>(
-    alloc: A,
-    world: &World<A, SitePlan<A>>,
-    site: u32,
-    words: &QueryWords<'_>,
+    plan: &SitePlan<A>,
+    asked: &Result<Query<'_>, Failure>,
     out: &mut Vec<u8, A>,
 ) -> Result<(), Failure>
-    requires { HasSite world.now site }
-    ensures { IsDone world.now out.old.items out.new.items (action_effect world.now site (query (seen_query_words words.now))) result }
+    ensures { Tells plan.now (seen seen_query asked.now) out.old.items out.new.items result }
 {
-    match *words {
-        QueryWords::Report => tell_asked(world, site, &Query::Report, out),
-        QueryWords::Repairs => tell_asked(world, site, &Query::Repairs, out),
-        QueryWords::Check(line) => {
-            let times = read_times(alloc, line)?;
-            tell_asked(world, site, &Query::Check(&times), out)
-        }
-        QueryWords::Next(now) => tell_foreseen(world, site, Outlook::Next, now, out),
-        QueryWords::Rehearse(now) => tell_foreseen(world, site, Outlook::Rehearse, now, out),
-        QueryWords::Ready(now) => tell_foreseen(world, site, Outlook::Ready, now, out),
-        QueryWords::Ask(question) => tell_asked(world, site, &Query::Ask(question), out),
+    match asked {
+        Ok(asked) => append_said(plan, asked, out),
+        Err(failure) => Err(*failure),
     }
 }
 
-// Appends what a site that is there says of all events that are left, from a time on, which is a word.
-fn tell_foreseen<A: Allocator + Copy>(
-    world: &World<A, SitePlan<A>>,
-    site: u32,
-    outlook: Outlook,
-    now: &[u8],
+/// Appends whether the times that the words of a line spell are a schedule.
+pub fn tell_check<A: Allocator + Copy>(
+    alloc: A,
+    plan: &SitePlan<A>,
+    line: &[u8],
     out: &mut Vec<u8, A>,
 ) -> Result<(), Failure>
-    requires { HasSite world.now site }
-    ensures { IsDone world.now out.old.items out.new.items
-        (telling world.now site (and_then (time_read now.now) (λ time. Ok (foresee outlook time every_event)))) result }
+    ensures { Tells plan.now (check_read (words_of line.now)) out.old.items out.new.items result }
 {
-    let time = read_time(now)?;
-    let every = Choice {
-        steps: None,
-        starts: false,
-    };
-    tell_asked(world, site, &Query::Foresee(outlook, time, every), out)
-}
-
-// Appends what a site that is there says to a query.
-fn tell_asked<A: Allocator + Copy>(
-    world: &World<A, SitePlan<A>>,
-    site: u32,
-    asked: &Query<'_>,
-    out: &mut Vec<u8, A>,
-) -> Result<(), Failure>
-    requires { HasSite world.now site }
-    ensures { IsDone world.now out.old.items out.new.items (telling world.now site (Ok (asked_of asked.now))) result }
-{
-    append_said(plan_at(world, site), asked, out)
-}
-
-// The copy of the plan of a site that is there.
-fn plan_at<A: Allocator + Copy>(world: &World<A, SitePlan<A>>, site: u32) -> &SitePlan<A>
-    requires { HasSite world.now site }
-    ensures source { result.now.source ≡ world.now.source }
-    ensures state { result.now.state ≡ content_at world.now site }
-{
-    world.replica(site).unwrap()
+    let times = read_times(alloc, line)?;
+    append_said(plan, &Query::Check(&times), out)
 }

@@ -1,17 +1,18 @@
 ghost use Rattle.std.specs.{Prelude.{◌≡◌, ◌∷◌, length, IfOk}, List.{list_all, filter_map}, Option.option_map, Str.bytes_eq};
 ghost use Rattle.stn_text.specs.Lines.{words_of};
-ghost use Rattle.stn_command.specs.Words.{id_of};
-ghost use Rattle.stn_exec.specs.{Command.{lone_word, bound_words, command_of, action_of, add_of, done_of, amend_of, withdraw_of, merge_of, send_of, deliver_of, report_of, check_of, next_of, rehearse_of, alone_of, ready_of, why_of, repairs_of, query_of, tombstone_of, is_item}, Running.{seen_bound, seen_command, seen_action}};
+ghost use Rattle.stn_command.specs.{Words.id_of, Query.seen_query};
+ghost use Rattle.stn_exec.specs.{Command.{lone_word, lone_number, side_word, bound_asked, command_of, action_of, add_of, done_of, amend_of, withdraw_of, send_of, check_of, why_of, outlook_of, lone_query, outlook_from, alone_of, tombstone_of, is_item}, Running.{seen_command, seen_action}};
 
 use std::alloc::Allocator;
-use stn_command::{read_event, read_id};
-use stn_net::Event;
+use stn_command::{Choice, Outlook, Query, read_between, read_event, read_id, read_time};
 use stn_questions::Question;
 use stn_records::Id;
+use stn_refusal::Failure;
+use stn_site::{AskedBound, Change};
 use stn_text::{first_word, read_number};
 use stn_time::Memory;
 
-/// A command of one site; the words that it reads later stand in its line.
+/// A command of one site. What it sends and the times that it checks stand in its line.
 #[derive(Clone, Copy)]
 pub struct Command<'a> {
     pub site: u32,
@@ -21,8 +22,8 @@ pub struct Command<'a> {
 /// What a command does.
 #[derive(Clone, Copy)]
 pub enum Action<'a> {
-    /// Changes what the site holds.
-    Change(ChangeWords<'a>),
+    /// Changes what the site holds, if its times can be read.
+    Change(Result<Change, Failure>),
     /// Takes in all that the site of this number holds.
     Merge(u32),
     /// Sends all that the site holds.
@@ -32,49 +33,10 @@ pub enum Action<'a> {
     Send(&'a [u8]),
     /// Takes in all that the packet of this number holds.
     Deliver(u32),
-    /// Asks the site.
-    Query(QueryWords<'a>),
-}
-
-/// The bound of two events and two sides, which are words of a line.
-#[derive(Clone, Copy)]
-pub struct BoundWords<'a> {
-    pub from: Event,
-    pub to: Event,
-    pub lo: &'a [u8],
-    pub hi: &'a [u8],
-}
-
-/// A change, whose sides and time are words of a line.
-#[derive(Clone, Copy)]
-pub enum ChangeWords<'a> {
-    /// Adds a bound.
-    Add(BoundWords<'a>),
-    /// Adds a bound in place of the record of this id.
-    Amend(Id, BoundWords<'a>),
-    /// Withdraws the record of this id.
-    Withdraw(Id),
-    /// Records the time at which an event was executed.
-    Done(Event, &'a [u8]),
-}
-
-/// A query, whose times are words of a line.
-#[derive(Clone, Copy)]
-pub enum QueryWords<'a> {
-    /// The report.
-    Report,
-    /// What mends a conflict.
-    Repairs,
-    /// Whether the times of all events, which are the words of this part of the line, are a schedule.
+    /// Asks whether the times of all events, which are the words of this part of the line, are a schedule.
     Check(&'a [u8]),
-    /// What comes next from this time on.
-    Next(&'a [u8]),
-    /// The whole rest of the plan from this time on.
-    Rehearse(&'a [u8]),
-    /// Which events may run from this time on.
-    Ready(&'a [u8]),
-    /// The answer to a question of the plan.
-    Ask(Question),
+    /// Asks the site, if its time can be read.
+    Query(Result<Query<'a>, Failure>),
 }
 
 /// The command that a line is, in a plan of so many events beside the origin, by its first word and
@@ -102,35 +64,20 @@ fn read_action<'a>(events: u16, name: &[u8], rest: &'a [u8]) -> Option<Action<'a
     } else if is_named(name, b"done") {
         read_done(rest)
     } else if is_named(name, b"merge") {
-        read_merge(rest)
+        Some(Action::Merge(lone_number(rest)?))
     } else if is_named(name, b"send") {
         read_send(rest)
     } else if is_named(name, b"deliver") {
-        read_deliver(rest)
-    } else {
-        read_query(events, name, rest)
-    }
-}
-
-fn read_query<'a>(events: u16, name: &[u8], rest: &'a [u8]) -> Option<Action<'a>>
-    ensures { option_map seen_action result ≡ query_of events name.now (words_of rest.now) }
-{
-    if is_named(name, b"report") {
-        read_report(rest)
+        Some(Action::Deliver(lone_number(rest)?))
     } else if is_named(name, b"check") {
         read_check(events, rest)
-    } else if is_named(name, b"next") {
-        read_next(rest)
-    } else if is_named(name, b"rehearse") {
-        read_rehearse(rest)
-    } else if is_named(name, b"ready") {
-        read_ready(rest)
     } else if is_named(name, b"why") {
         read_why(rest)
-    } else if is_named(name, b"repairs") {
-        read_repairs(rest)
     } else {
-        read_alone(name, rest)
+        match read_outlook(name) {
+            Some(outlook) => read_foresee(outlook, rest),
+            None => read_alone(name, rest),
+        }
     }
 }
 
@@ -151,8 +98,28 @@ fn lone_word(rest: &[u8]) -> Option<&[u8]>
     }
 }
 
-fn read_bound(rest: &[u8]) -> Option<BoundWords<'_>>
-    ensures { option_map seen_bound result ≡ bound_words (words_of rest.now) }
+// The number that stands alone.
+fn lone_number(rest: &[u8]) -> Option<u32>
+    ensures { result ≡ lone_number (words_of rest.now) }
+{
+    let word = lone_word(rest)?;
+    read_number(word)
+}
+
+// The word of a side of a bound; `*` stands for none.
+fn side_word(word: &[u8]) -> Option<&[u8]>
+    ensures { option_map (λ one. one.now) result ≡ side_word word.now }
+{
+    if is_named(word, b"*") {
+        None
+    } else {
+        Some(word)
+    }
+}
+
+// The bound that the words of its events and sides ask for.
+fn read_bound(rest: &[u8]) -> Option<Result<AskedBound, Failure>>
+    ensures { result ≡ bound_asked (words_of rest.now) }
 {
     let (first, behind_first) = first_word(rest)?;
     let (second, behind_second) = first_word(behind_first)?;
@@ -163,14 +130,15 @@ fn read_bound(rest: &[u8]) -> Option<BoundWords<'_>>
     }
     let from = read_event(first)?;
     let to = read_event(second)?;
-    Some(BoundWords { from, to, lo, hi })
+    Some(read_between(from, to, side_word(lo), side_word(hi)))
 }
 
 fn read_add(rest: &[u8]) -> Option<Action<'_>>
     ensures { option_map seen_action result ≡ add_of (words_of rest.now) }
 {
     match read_bound(rest) {
-        Some(bound) => Some(Action::Change(ChangeWords::Add(bound))),
+        Some(Ok(bound)) => Some(Action::Change(Ok(Change::Add(bound)))),
+        Some(Err(failure)) => Some(Action::Change(Err(failure))),
         None => None,
     }
 }
@@ -181,7 +149,8 @@ fn read_amend(rest: &[u8]) -> Option<Action<'_>>
     let (word, behind) = first_word(rest)?;
     let old = read_id(word)?;
     match read_bound(behind) {
-        Some(bound) => Some(Action::Change(ChangeWords::Amend(old, bound))),
+        Some(Ok(bound)) => Some(Action::Change(Ok(Change::Amend(old, bound)))),
+        Some(Err(failure)) => Some(Action::Change(Err(failure))),
         None => None,
     }
 }
@@ -190,10 +159,8 @@ fn read_withdraw(rest: &[u8]) -> Option<Action<'_>>
     ensures { option_map seen_action result ≡ withdraw_of (words_of rest.now) }
 {
     let word = lone_word(rest)?;
-    match read_id(word) {
-        Some(id) => Some(Action::Change(ChangeWords::Withdraw(id))),
-        None => None,
-    }
+    let id = read_id(word)?;
+    Some(Action::Change(Ok(Change::Withdraw(id))))
 }
 
 fn read_done(rest: &[u8]) -> Option<Action<'_>>
@@ -201,19 +168,10 @@ fn read_done(rest: &[u8]) -> Option<Action<'_>>
 {
     let (word, behind) = first_word(rest)?;
     let time = lone_word(behind)?;
-    match read_event(word) {
-        Some(event) => Some(Action::Change(ChangeWords::Done(event, time))),
-        None => None,
-    }
-}
-
-fn read_merge(rest: &[u8]) -> Option<Action<'_>>
-    ensures { option_map seen_action result ≡ merge_of (words_of rest.now) }
-{
-    let word = lone_word(rest)?;
-    match read_number(word) {
-        Some(other) => Some(Action::Merge(other)),
-        None => None,
+    let event = read_event(word)?;
+    match read_time(time) {
+        Ok(time) => Some(Action::Change(Ok(Change::Done(event, time)))),
+        Err(failure) => Some(Action::Change(Err(failure))),
     }
 }
 
@@ -282,68 +240,13 @@ pub fn read_tombstones<A: Allocator>(alloc: A, line: &[u8]) -> Result<Vec<Id, A>
     Ok(ids)
 }
 
-fn read_deliver(rest: &[u8]) -> Option<Action<'_>>
-    ensures { option_map seen_action result ≡ deliver_of (words_of rest.now) }
-{
-    let word = lone_word(rest)?;
-    match read_number(word) {
-        Some(packet) => Some(Action::Deliver(packet)),
-        None => None,
-    }
-}
-
-fn read_report(rest: &[u8]) -> Option<Action<'_>>
-    ensures { option_map seen_action result ≡ report_of (words_of rest.now) }
-{
-    match first_word(rest) {
-        Some(_) => None,
-        None => Some(Action::Query(QueryWords::Report)),
-    }
-}
-
-fn read_repairs(rest: &[u8]) -> Option<Action<'_>>
-    ensures { option_map seen_action result ≡ repairs_of (words_of rest.now) }
-{
-    match first_word(rest) {
-        Some(_) => None,
-        None => Some(Action::Query(QueryWords::Repairs)),
-    }
-}
-
 fn read_check(events: u16, rest: &[u8]) -> Option<Action<'_>>
     ensures { option_map seen_action result ≡ check_of events (words_of rest.now) }
 {
     if count_words(rest) == usize::from(events) {
-        Some(Action::Query(QueryWords::Check(rest)))
+        Some(Action::Check(rest))
     } else {
         None
-    }
-}
-
-fn read_next(rest: &[u8]) -> Option<Action<'_>>
-    ensures { option_map seen_action result ≡ next_of (words_of rest.now) }
-{
-    match lone_word(rest) {
-        Some(now) => Some(Action::Query(QueryWords::Next(now))),
-        None => None,
-    }
-}
-
-fn read_rehearse(rest: &[u8]) -> Option<Action<'_>>
-    ensures { option_map seen_action result ≡ rehearse_of (words_of rest.now) }
-{
-    match lone_word(rest) {
-        Some(now) => Some(Action::Query(QueryWords::Rehearse(now))),
-        None => None,
-    }
-}
-
-fn read_ready(rest: &[u8]) -> Option<Action<'_>>
-    ensures { option_map seen_action result ≡ ready_of (words_of rest.now) }
-{
-    match lone_word(rest) {
-        Some(now) => Some(Action::Query(QueryWords::Ready(now))),
-        None => None,
     }
 }
 
@@ -354,7 +257,7 @@ fn read_why(rest: &[u8]) -> Option<Action<'_>>
     match first_word(behind) {
         None => {
             let event = read_event(word)?;
-            Some(Action::Query(QueryWords::Ask(Question::Why(event))))
+            Some(Action::Query(Ok(Query::Ask(Question::Why(event)))))
         }
         Some((other, after)) => {
             if first_word(after).is_some() {
@@ -362,24 +265,68 @@ fn read_why(rest: &[u8]) -> Option<Action<'_>>
             }
             let from = read_event(word)?;
             let to = read_event(other)?;
-            Some(Action::Query(QueryWords::Ask(Question::WhyApart(from, to))))
+            Some(Action::Query(Ok(Query::Ask(Question::WhyApart(from, to)))))
         }
     }
 }
 
-// A question of one word.
+// What a name asks of all events that are left.
+fn read_outlook(name: &[u8]) -> Option<Outlook>
+    ensures { result ≡ outlook_of name.now }
+{
+    if is_named(name, b"next") {
+        Some(Outlook::Next)
+    } else if is_named(name, b"ready") {
+        Some(Outlook::Ready)
+    } else if is_named(name, b"rehearse") {
+        Some(Outlook::Rehearse)
+    } else {
+        None
+    }
+}
+
+// What is asked of all events that are left from a time on.
+fn read_foresee(outlook: Outlook, rest: &[u8]) -> Option<Action<'_>>
+    ensures { option_map seen_action result ≡ outlook_from outlook (words_of rest.now) }
+{
+    let every = Choice {
+        steps: None,
+        starts: false,
+    };
+    let word = lone_word(rest)?;
+    match read_time(word) {
+        Ok(now) => Some(Action::Query(Ok(Query::Foresee(outlook, now, every)))),
+        Err(failure) => Some(Action::Query(Err(failure))),
+    }
+}
+
+// A query of one word.
 fn read_alone<'a>(name: &[u8], rest: &'a [u8]) -> Option<Action<'a>>
     ensures { option_map seen_action result ≡ alone_of name.now (words_of rest.now) }
 {
     if first_word(rest).is_some() {
         return None;
     }
-    if is_named(name, b"records") {
-        Some(Action::Query(QueryWords::Ask(Question::Records)))
+    match lone_query(name) {
+        Some(asked) => Some(Action::Query(Ok(asked))),
+        None => None,
+    }
+}
+
+// The query that a name asks alone.
+fn lone_query<'a>(name: &[u8]) -> Option<Query<'a>>
+    ensures { option_map seen_query result ≡ lone_query name.now }
+{
+    if is_named(name, b"report") {
+        Some(Query::Report)
+    } else if is_named(name, b"repairs") {
+        Some(Query::Repairs)
+    } else if is_named(name, b"records") {
+        Some(Query::Ask(Question::Records))
     } else if is_named(name, b"steps") {
-        Some(Action::Query(QueryWords::Ask(Question::Steps)))
+        Some(Query::Ask(Question::Steps))
     } else if is_named(name, b"bounds") {
-        Some(Action::Query(QueryWords::Ask(Question::Bounds)))
+        Some(Query::Ask(Question::Bounds))
     } else {
         None
     }

@@ -1,7 +1,8 @@
 ghost use Rattle.std.specs.{Prelude.{◌≡◌, ◌+◌, ◌^◌, ◌<◌, ◌≤◌, ◌∷◌, true, false, length, min, Ok, IfSome, IfNone, IfOk, IfErr, codes}, Option.option_map};
 ghost use Rattle.stn_text.specs.Lines.{lines_of, words_of};
+ghost use Rattle.stn_effects.specs.Effects.{seen};
 ghost use Rattle.stn_lift.specs.PlanSource.{bare, files, plan_source, base_of};
-ghost use Rattle.stn_exec.specs.{Blocks.{is_alone, block_from}, Heading.{seen_found, seen_part, seen_block, result_seen, IsOpened, IsHeadingFailure, IsMade, IsRead}, Script.{is_skipped, next_line, heading_number, heading_part, refusing_fault, block_at, named_block, bare_part, files_part, based, heading_of}};
+ghost use Rattle.stn_exec.specs.{Blocks.{is_alone, block_from}, Heading.{seen_found, seen_block, IsOpened, IsHeadingFailure, IsMade, IsRead}, Script.{is_skipped, next_line, or_line, heading_number, refusing_fault, block_at, named_block, bare_part, files_part, based, heading_of}};
 
 use std::alloc::Allocator;
 use std::rc::Rc;
@@ -19,13 +20,6 @@ pub struct FoundLine<'a> {
     pub word: &'a [u8],
     pub rest: &'a [u8],
     pub behind: &'a [u8],
-}
-
-/// The number that a line of the heading gives, and the line.
-#[derive(Clone, Copy)]
-pub struct HeadingPart<'a> {
-    pub value: u32,
-    pub found: FoundLine<'a>,
 }
 
 /// The rest of a script: the number of its first line, and its text.
@@ -55,12 +49,13 @@ pub fn open<A: Allocator + Copy>(
     ensures refused { IfErr result (IsHeadingFailure (heading_of last (lines_of script.now))) }
 {
     let (base, behind) = read_base(alloc, last, script)?;
-    let sites = read_part(last, b"sites", behind.number, behind.text)?;
+    let found = wanted_line(last, behind.number, behind.text)?;
+    let sites = read_value(b"sites", found)?;
     let rest = Rest {
-        number: sites.found.number + 1,
-        text: sites.found.behind,
+        number: found.number + 1,
+        text: found.behind,
     };
-    match World::of_plans(alloc, Rc::new(alloc, base)?, saturated(sites.value)) {
+    match World::of_plans(alloc, Rc::new(alloc, base)?, saturated(sites)) {
         Ok(world) => Ok((world, rest)),
         Err(fault) => Err(Failure::from(fault)),
     }
@@ -83,15 +78,11 @@ fn read_base<A: Allocator + Copy>(
     ensures read { IsRead (based last (lines_of script.now)) result }
     ensures within { IfOk result (λ read. read.1.number + length read.1.text.now ≤ length script.now + 1) }
 {
-    match find_line(1, script) {
-        Some(found) => {
-            if stands_alone(b"domain", found.word, found.rest) {
-                read_files(alloc, last, found)
-            } else {
-                read_bare(alloc, found)
-            }
-        }
-        None => Err(Failure::refused_at(Code::Line, last)),
+    let found = wanted_line(last, 1, script)?;
+    if stands_alone(b"domain", found.word, found.rest) {
+        read_files(alloc, last, found)
+    } else {
+        read_bare(alloc, found)
     }
 }
 
@@ -104,17 +95,13 @@ fn read_bare<A: Allocator + Copy>(
     ensures read { IsRead (bare_part (seen_found found.entry)) result }
     ensures within { IfOk result (λ read. read.1.number + length read.1.text.now ≤ found.entry.number + 1 + length found.entry.behind.now) }
 {
-    match read_value(b"steps", found.word, found.rest) {
-        Some(steps) => {
-            let base = bare_base(alloc, u16::try_from(steps).unwrap_or(u16::MAX))?;
-            let rest = Rest {
-                number: found.number + 1,
-                text: found.behind,
-            };
-            Ok((base, rest))
-        }
-        None => Err(Failure::refused_at(Code::Line, found.number)),
-    }
+    let steps = read_value(b"steps", found)?;
+    let base = bare_base(alloc, u16::try_from(steps).unwrap_or(u16::MAX))?;
+    let rest = Rest {
+        number: found.number + 1,
+        text: found.behind,
+    };
+    Ok((base, rest))
 }
 
 // The base of a bare plan of so many steps.
@@ -135,7 +122,8 @@ fn read_files<A: Allocator + Copy>(
     ensures within { IfOk result (λ read. read.1.number + length read.1.text.now ≤ found.entry.number + 1 + length found.entry.behind.now) }
 {
     let domain = read_block(last, found.number + 1, found.behind)?;
-    let plan = read_named_block(last, b"plan", domain.behind.number, domain.behind.text)?;
+    let next = wanted_line(last, domain.behind.number, domain.behind.text)?;
+    let plan = read_named_block(last, b"plan", next)?;
     let base = base_of_files(alloc, domain.text, plan.text)?;
     Ok((base, plan.behind))
 }
@@ -164,29 +152,23 @@ fn make_base<A: Allocator + Copy>(alloc: A, source: &Source<A>) -> Result<Base<A
 fn read_named_block<'a>(
     last: u32,
     name: &[u8],
-    number: u32,
-    text: &'a [u8],
+    found: FoundLine<'a>,
 ) -> Result<HeadingBlock<'a>, Failure>
-    requires { number + length text.now < 2 ^ 32 }
-    ensures block { result_seen seen_block result ≡ named_block last name.now (next_line number (lines_of text.now)) }
-    ensures within { IfOk result (λ block. block.behind.number + length block.behind.text.now ≤ number + length text.now) }
+    requires { found.number + 1 + length found.behind.now < 2 ^ 32 }
+    ensures block { seen seen_block result ≡ named_block last name.now (seen_found found.entry) }
+    ensures within { IfOk result (λ block. block.behind.number + length block.behind.text.now ≤ found.entry.number + 1 + length found.entry.behind.now) }
 {
-    match find_line(number, text) {
-        Some(found) => {
-            if stands_alone(name, found.word, found.rest) {
-                read_block(last, found.number + 1, found.behind)
-            } else {
-                Err(Failure::refused_at(Code::Line, found.number))
-            }
-        }
-        None => Err(Failure::refused_at(Code::Line, last)),
+    if stands_alone(name, found.word, found.rest) {
+        read_block(last, found.number + 1, found.behind)
+    } else {
+        Err(Failure::refused_at(Code::Line, found.number))
     }
 }
 
 // The block whose first line has this number.
 fn read_block<'a>(last: u32, number: u32, text: &'a [u8]) -> Result<HeadingBlock<'a>, Failure>
     requires { number + length text.now < 2 ^ 32 }
-    ensures block { result_seen seen_block result ≡ block_at last number (lines_of text.now) }
+    ensures block { seen seen_block result ≡ block_at last number (lines_of text.now) }
     ensures within { IfOk result (λ block. block.behind.number + length block.behind.text.now ≤ number + length text.now) }
 {
     match find_end(number, text) {
@@ -237,28 +219,15 @@ fn stands_alone(name: &[u8], word: &[u8], rest: &[u8]) -> bool
     first_word(rest).is_none() && word == name
 }
 
-// The part of a heading that has this name.
-fn read_part<'a>(
-    last: u32,
-    name: &[u8],
-    number: u32,
-    text: &'a [u8],
-) -> Result<HeadingPart<'a>, Failure>
-    requires { number + length text.now < 2 ^ 32 }
-    ensures part { result_seen seen_part result ≡ heading_part last name.now (next_line number (lines_of text.now)) }
-    ensures within { IfOk result (λ part. part.found.number + 1 + length part.found.behind.now ≤ number + length text.now) }
+// The number of a line that is a name and a number.
+fn read_value(name: &[u8], found: FoundLine<'_>) -> Result<u32, Failure>
+    ensures { result ≡ or_line found.entry.number (heading_number name.now (seen_found found.entry).words) }
 {
-    match find_line(number, text) {
-        Some(found) => match read_value(name, found.word, found.rest) {
-            Some(value) => Ok(HeadingPart { value, found }),
-            None => Err(Failure::refused_at(Code::Line, found.number)),
-        },
-        None => Err(Failure::refused_at(Code::Line, last)),
-    }
+    value_after(name, found.word, found.rest).ok_or(Failure::refused_at(Code::Line, found.number))
 }
 
-// The number of a line that is a name and a number, by its first word and what stands after it.
-fn read_value(name: &[u8], word: &[u8], rest: &[u8]) -> Option<u32>
+// The number of such a line, by its first word and what stands after it.
+fn value_after(name: &[u8], word: &[u8], rest: &[u8]) -> Option<u32>
     ensures { result ≡ heading_number name.now (word.now ∷ words_of rest.now) }
 {
     let (digits, behind) = first_word(rest)?;
@@ -269,6 +238,18 @@ fn read_value(name: &[u8], word: &[u8], rest: &[u8]) -> Option<u32>
 }
 
 // The first line that is not skipped, of a text whose first line has this number.
+fn wanted_line(last: u32, number: u32, text: &[u8]) -> Result<FoundLine<'_>, Failure>
+    requires { number + length text.now < 2 ^ 32 }
+    ensures found { seen seen_found result ≡ or_line last (next_line number (lines_of text.now)) }
+    ensures within { IfOk result (λ found. found.number + 1 + length found.behind.now ≤ number + length text.now) }
+{
+    match find_line(number, text) {
+        Some(found) => Ok(found),
+        None => Err(Failure::refused_at(Code::Line, last)),
+    }
+}
+
+// The same line, if there is one.
 fn find_line(number: u32, text: &[u8]) -> Option<FoundLine<'_>>
     requires { number + length text.now < 2 ^ 32 }
     ensures found { option_map seen_found result ≡ next_line number (lines_of text.now) }

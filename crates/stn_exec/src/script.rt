@@ -3,10 +3,9 @@ ghost use Rattle.stn_device.specs.Bytes.{most_bytes};
 ghost use Rattle.stn_effects.specs.{Effects.failing, Printing.device_of};
 ghost use Rattle.stn_text.specs.Lines.{lines_of, words_of};
 ghost use Rattle.stn_refusal.specs.declared.failure.Failure.TheVariants.{Refused};
-ghost use Rattle.stn_world.specs.World.{HasSite};
-ghost use Rattle.stn_exec.specs.{Effect.{action_effect, command_effect}, Failures.run_failure, Running.{seen_action, seen_command, IsReplied}, Runs.{streams, PrintsReplies, RunsScript}, Saying.{IsDone, DoesCall}, Script.{line_effect, line_outcome, lines_outcome, started, script_outcome, last_line}, declared.script.RunFault.TheVariants.{Write, Memory}};
+ghost use Rattle.stn_exec.specs.{Effect.command_effect, Failures.run_failure, Running.{seen_command, IsReplied}, Runs.{streams, PrintsReplies, RunsScript}, Saying.{IsDone, DoesCall}, Script.{line_effect, line_outcome, lines_outcome, started, script_outcome, last_line}, declared.script.RunFault.TheVariants.{Write, Memory}};
 
-use crate::actions::{answered, change, send, sent, tell};
+use crate::actions::{answered, change, send, sent, tell, tell_check};
 use crate::answer::Answer;
 use crate::command::{Action, Command, read_command};
 use crate::heading::{open, opening_word};
@@ -171,6 +170,7 @@ fn do_line<A: Allocator + Copy>(
     }
 }
 
+// Does a command, where its site is there.
 fn do_command<A: Allocator + Copy>(
     alloc: A,
     world: &mut World<A, SitePlan<A>>,
@@ -179,37 +179,23 @@ fn do_command<A: Allocator + Copy>(
 ) -> Result<(), Failure>
     ensures { IsDone world.new out.old.items out.new.items (command_effect world.old (seen_command command.now)) result }
 {
-    if world.replica(command.site).is_none() {
-        return Err(Failure::refused(Code::NoSite));
-    }
-    do_action(alloc, world, command.site, &command.action, out)
-}
-
-// Does an action of a site that is there.
-fn do_action<A: Allocator + Copy>(
-    alloc: A,
-    world: &mut World<A, SitePlan<A>>,
-    site: u32,
-    action: &Action<'_>,
-    out: &mut Vec<u8, A>,
-) -> Result<(), Failure>
-    requires { HasSite world.old site }
-    ensures { IsDone world.new out.old.items out.new.items (action_effect world.old site (seen_action action.now)) result }
-{
-    match action {
-        Action::Change(words) => print_answer(change(world, site, words), out),
-        Action::Merge(other) => {
-            print_answer(answered(world.merge(site, *other), Answer::Merged), out)
-        }
-        Action::SendAll => print_answer(sent(world.send_all(site)), out),
-        Action::Send(items) => print_answer(send(alloc, world, site, items), out),
-        Action::Deliver(packet) => {
-            print_answer(
-                answered(world.deliver(site, *packet), Answer::Delivered),
-                out,
-            )
-        }
-        Action::Query(words) => tell(alloc, world, site, words, out),
+    let site = command.site;
+    match world.replica(site) {
+        Some(plan) => match &command.action {
+            Action::Change(asked) => print_answer(change(world, site, *asked), out),
+            Action::Merge(other) => {
+                print_answer(answered(world.merge(site, *other), Answer::Merged), out)
+            }
+            Action::SendAll => print_answer(sent(world.send_all(site)), out),
+            Action::Send(items) => print_answer(send(alloc, world, site, items), out),
+            Action::Deliver(packet) => {
+                let call = world.deliver(site, *packet);
+                print_answer(answered(call, Answer::Delivered), out)
+            }
+            Action::Check(times) => tell_check(alloc, plan, times, out),
+            Action::Query(asked) => tell(plan, asked, out),
+        },
+        None => Err(Failure::refused(Code::NoSite)),
     }
 }
 

@@ -1,6 +1,6 @@
 use Rattle.std.{proofs.{Common.{◌++◌, ◌∙◌, ap, sym, arith}, lemmas.List.{append-nil, take_all}}, specs.List.flat_map}
 use Rattle.stn_site.proofs.Behind.{behind}
-use Rattle.stn_questions.proofs.Listing.{lines_grown}
+use Rattle.stn_text.proofs.Growing.{lines_grown}
 use Rattle.stn_command.specs.Guarding.{added_line}
 use Rattle.stn_command.proofs.guarding.append_added.Goals as goal
 

@@ -1,5 +1,5 @@
 use Rattle.std.{proofs.{Common.{◌≡◌, ◌∙◌, ◌+◌, ◌++◌, add-one, ap, arith, get_or, map, take}, lemmas.Grind.get_or_default_zero}, specs.Prelude.slice_index_or}
-use Rattle.stn_questions.proofs.Listing.{range_grown}
+use Rattle.stn_text.proofs.Growing.{range_grown}
 use Rattle.stn_command.specs.NamedLines.{name_after}
 use Rattle.stn_command.proofs.named_lines.append_names.Goals as goal
 

@@ -1,4 +1,4 @@
-use Rattle.std.{proofs.{Common.{◌≡◌, ◌∙◌, ◌<◌, ℕ, List, [], ◌∷◌, ◌++◌, length, map, refl, sym, ap, arith}, lemmas.{Grind.common_steps, List.append-nil}}, specs.List.flat_map}
+use Rattle.std.{proofs.{Common.{◌≡◌, ◌∙◌, ℕ, List, [], ◌∷◌, ◌++◌, length, map, refl, sym, ap, arith}, lemmas.{Grind.common_steps, List.append-nil}}, specs.List.flat_map}
 use Rattle.stn_text.specs.Lines.{lines_of}
 use Rattle.stn_command.specs.NamedLines.{line_with_names}
 use Rattle.stn_command.proofs.named_lines.with_names.Goals as goal

@@ -1,7 +1,6 @@
 use Rattle.std.proofs.{Common.{◌≡◌, ◌||◌, not, ap, ◌∙◌, arith}, lemmas.Result.IfOk-weaker}
 use Rattle.stn_lift.specs.PlanSource.{events_of}
-use Rattle.stn_site.specs.Report.{is_done}
-use Rattle.stn_replica.{specs.Own.{is_own, done_or_others}, proofs.Rest.flags_are}
+use Rattle.stn_site.{specs.{Report.is_done, Own.{is_own, done_or_others}}, proofs.Rest.flags_are}
 use Rattle.stn_command.proofs.queries.done_flags.Goals as goal
 
 pub returns-clause-value : goal.returns-clause-value

@@ -1,23 +1,26 @@
-use Rattle.std.{proofs.Common.{◌≡◌, ℤ, Vec, Result, Ok, Err, true, inl, inr, refl, sym, ap, ◌∙◌, ℕ}, specs.Prelude.Some}
+use Rattle.std.{proofs.Common.{◌≡◌, ℤ, Vec, Result, Ok, Err, true, inl, inr, refl, sym, ap, ◌∙◌, ℕ, subst}, specs.Prelude.Some}
 use Rattle.stn_refusal.specs.declared.failure.Failure.{Failure}
 use Rattle.stn_lift.specs.PlanSource.{steps_of}
 use Rattle.stn_site.specs.Held.{Held}
 use Rattle.stn_command.specs.declared.queries.Outlook.TheVariants as outlook
-use Rattle.stn_command.specs.{declared.queries.Outlook.Outlook, Dispatch.{Choice, done_or_not_chosen}, Query.{Foresees, Says, has_steps, seen_choice, foresee}}
+use Rattle.stn_command.{specs.{declared.queries.Outlook.Outlook, Dispatch.{Choice, done_or_not_chosen}, Query.{Foresees, Says, has_steps, seen_choice, foresee}}, proofs.Chosen.chosen_own}
 use Rattle.stn_command.proofs.queries.foresee.Goals as goal
 
 foreseen : {A : Type 0} (held : Held) (outlook : Outlook) (now : ℤ) (choice : Choice) (result : Result (Vec ℕ A) Failure) → has_steps choice (steps_of held.source) ≡ true
     → Foresees outlook now (done_or_not_chosen choice held.source held.state) held result → Says (foresee outlook now choice) held result
 foreseen held outlook now choice (Ok text) has (said, free) = (said, inr (has, free))
 foreseen held outlook now choice (Err failure) has (inl refused) = inl (inr (has, refused))
-foreseen held outlook.Next now choice (Err failure) has (inr lack) = inr (lack, inr (has, refl))
-foreseen held outlook.Ready now choice (Err failure) has (inr lack) = inr (lack, inr (has, refl))
-foreseen held outlook.Rehearse now choice (Err failure) has (inr lack) = inr (lack, has)
+foreseen held outlook.Next now choice (Err failure) has (inr lack) = inr (lack, inl (inr (has, refl)))
+foreseen held outlook.Ready now choice (Err failure) has (inr lack) = inr (lack, inl (inr (has, refl)))
+foreseen held outlook.Rehearse now choice (Err failure) has (inr lack) = inr (lack, inr has)
 
 pub returns-then-has_steps : goal.returns-then-has_steps
 returns-then-has_steps g c =
-    foreseen c.args.plan.now c.args.outlook c.args.now (seen_choice c.args.choice.now) c.of_chosen.result
-    (ap (has_steps (seen_choice c.args.choice.now)) (sym (c.steps.ensures.value ∙ ap steps_of c.base.ensures)) ∙ sym c.has_steps.ensures ∙ c.if-has_steps.true) c.of_chosen.ensures
+    let plan = c.args.plan.now in
+    foreseen plan c.args.outlook c.args.now (seen_choice c.args.choice.now) c.of_own.result
+    (ap (has_steps (seen_choice c.args.choice.now)) (sym (c.steps.ensures.value ∙ ap steps_of c.base.ensures)) ∙ sym c.has_steps.ensures ∙ c.if-has_steps.true)
+    (subst (λ done. Foresees c.args.outlook c.args.now done plan c.of_own.result)
+    (chosen_own c.args.choice.now c.unwrap_or-steps.result _ c.all_steps.result plan.source plan.state c.unwrap_or-steps.ensures refl c.all_steps.ensures.first c.all_steps.ensures.last) c.of_own.ensures)
 
 pub returns-else-has_steps : goal.returns-else-has_steps
 returns-else-has_steps g c =

@@ -1,18 +1,20 @@
-use Rattle.std.proofs.Common.{Err, Result, inr, subst, sym, ap, ◌∙◌}
+use Rattle.std.proofs.{Common.{Result, inr, subst, sym, ◌∙◌}, lemmas.Result.err_from_is_err_and}
 use Rattle.stn_text.specs.Lines.{lines_of}
 use Rattle.stn_refusal.specs.declared.failure.Failure.{Failure}
 use Rattle.stn_exec.{specs.{Heading.{seen_found, IsRead}, Script.Based}, proofs.Blocks.{based-none, based-files, based-bare}}
 use Rattle.stn_exec.proofs.heading.read_base.Goals as goal
 
+pub returns-in_err-found-clause-read : goal.returns-in_err-found-clause-read
+returns-in_err-found-clause-read g c =
+    let p = err_from_is_err_and c.from_residual.result c.from_residual.ensures.1 in
+    rw (p.1, p.2) (inr (based-none c.args.last (lines_of c.args.script.now) c.in_err-found.field-0.0 (sym c.in_err-found.ensures.found)))
+
 pub returns-then-stands_alone-clause-read : goal.returns-then-stands_alone-clause-read
 returns-then-stands_alone-clause-read g c =
-    let whole = based-files c.args.last (lines_of c.args.script.now) (seen_found c.in-Some.found) c.in-Some.ensures.found (sym c.stands_alone.ensures ∙ c.if-stands_alone.true) in
+    let whole = based-files c.args.last (lines_of c.args.script.now) (seen_found c.in_ok-found.found) c.in_ok-found.ensures.found (sym c.stands_alone.ensures ∙ c.if-stands_alone.true) in
     subst (λ (r : Result Based Failure). IsRead r c.read_files.result) whole c.read_files.ensures.read
 
 pub returns-else-stands_alone-clause-read : goal.returns-else-stands_alone-clause-read
 returns-else-stands_alone-clause-read g c =
-    let whole = based-bare c.args.last (lines_of c.args.script.now) (seen_found c.in-Some.found) c.in-Some.ensures.found (sym c.stands_alone.ensures ∙ c.if-stands_alone.false) in
+    let whole = based-bare c.args.last (lines_of c.args.script.now) (seen_found c.in_ok-found.found) c.in_ok-found.ensures.found (sym c.stands_alone.ensures ∙ c.if-stands_alone.false) in
     subst (λ (r : Result Based Failure). IsRead r c.read_bare.result) whole c.read_bare.ensures.read
-
-pub returns-in-None-clause-read : goal.returns-in-None-clause-read
-returns-in-None-clause-read g c = inr (based-none c.args.last (lines_of c.args.script.now) c.in-None.ensures.found ∙ ap Err (sym c.refused_at.ensures))

@@ -12,7 +12,7 @@ pub returns-clause-bytes : goal.returns-clause-bytes
 returns-clause-bytes c = λ now script other output last text last_text at there site others one two plan same p q.
     let alike = same_counts (λ source sites others ours theirs site other here there took.
     (c.sites_took_same_same_bytes.ensures.bytes source sites others ours theirs site other here there took).0)
-    script other at there site others one.1.there two.1.there plan same in
+    script other at there site others one.there two.there plan same in
     c.one_ready_text.ensures there.start.source _ now text last_text
     (same_ready there.start.source _ _ (c.counts_same.ensures.live _ _ alike) now text
     (subst (λ (source : PlanSource). IsReadyText source (content_at (world_at at) site) now text) plan (ready_said c.chosen_all.ensures script output text at site now one p)))

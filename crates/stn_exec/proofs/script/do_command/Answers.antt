@@ -1,14 +1,13 @@
-use Rattle.std.proofs.Common.{ap, ◌∙◌}
-use Rattle.stn_refusal.specs.declared.failure.Failure.{Failure}
-use Rattle.stn_world.specs.World.{HasSite}
-use Rattle.stn_exec.{specs.{Effect.declined, Running.seen_action}, proofs.Effects.{missing_effect, not_there, refused_done}}
+use Rattle.std.proofs.Common.{refl, subst}
+use Rattle.stn_world.specs.Steps.{merged}
+use Rattle.stn_exec.{specs.{declared.answer.Answer.TheVariants.Merged, Command.merge, Effect.CommandEffect, Saying.IsDone}, proofs.Effects.{call_effect, there_effect}}
 use Rattle.stn_exec.proofs.script.do_command.Goals as goal
 
-pub returns-then-is_none : goal.returns-then-is_none
-returns-then-is_none g c =
+pub returns-in-Merge : goal.returns-in-Merge
+returns-in-Merge g c =
     let world = c.args.world.now in
-    let command = c.args.command.now in
-    let there = HasSite world command.site in
-    let missing = not_there c.replica.result c.is_none.result (¬ there) (λ _. there) c.is_none.ensures c.if-is_none.true c.replica.ensures.there in
-    refused_done world c.args.out.now.items _ c.refused.result (ap (λ (cause : Failure). record { world = world; reply = declined cause }) c.refused.ensures
-    ∙ missing_effect world command.site (seen_action command.action) missing)
+    let site = c.args.command.now.site in
+    let other = c.in-Merge.other in
+    rw c.in-Merge.is (subst (λ (effect : CommandEffect). IsDone c.merge.new.self c.args.out.now.items c.print_answer-in-Merge.new.out.items effect c.print_answer-in-Merge.result)
+    (there_effect world site (merge other) c.in-Some.ensures.there)
+    (c.print_answer-in-Merge.ensures c.merge.new.self _ (call_effect world c.merge.new.self (merged site other) Merged c.merge.result c.answered.result _ c.merge.ensures.step c.answered.ensures refl)))

@@ -1,13 +1,8 @@
 use Rattle.std.proofs.{Common.{◌≡◌, inl, inr, refl, subst, arith}, lemmas.{Grind.common_steps, Result.err_from_is_err_and}}
 use Rattle.stn_device.specs.{Bytes.AppendsPart, Counted.counted_device}
 use Rattle.stn_refusal.specs.{declared.failure.Failure.TheVariants.Refused, Printed.refusal_text}
-use Rattle.stn_exec.{specs.Effect.declined, proofs.Scripts.{part-nil, part-one}}
+use Rattle.stn_exec.{specs.Effect.declined, proofs.Scripts.{part-one}}
 use Rattle.stn_exec.proofs.script.refuse.Goals as goal
-
-pub returns-in_err-print : goal.returns-in_err-print
-returns-in_err-print g c =
-    let p = err_from_is_err_and c.from_residual.result c.from_residual.ensures.1 in
-    rw (p.1, p.2) (record { run = (part-nil _ _, inr (refl, refl)) })
 
 pub returns-in_err-write_whole : goal.returns-in_err-write_whole
 returns-in_err-write_whole g c =
@@ -17,7 +12,7 @@ returns-in_err-write_whole g c =
     let printed : c.deref.result.now ≡ refusal_text c.args.refusal = grind (arith, common_steps) in
     rw (p.1, p.2) (record {
       run = (
-        part-one before after (declined (Refused c.args.refusal)) (refusal_text c.args.refusal) (inr (Refused c.args.refusal, refl, refl)) (subst (AppendsPart before after) printed c.in_err-write_whole.ensures.part),
+        part-one before after (declined (Refused c.args.refusal)) (refusal_text c.args.refusal) (inr (c.args.refusal, refl, refl)) (subst (AppendsPart before after) printed c.in_err-write_whole.ensures.part),
         inl (refl, c.in_err-write_whole.ensures.failed),
       );
     })

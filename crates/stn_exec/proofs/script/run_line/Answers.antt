@@ -1,13 +1,8 @@
-use Rattle.std.{proofs.{Common.{◌≡◌, ◌∷◌, ℕ, List, [], cond, inl, inr, refl, sym, ap, ◌∙◌, subst, arith}, KnownBytes.Appends-nil, lemmas.{Grind.common_steps, Result.err_from_is_err_and}}, specs.Io.KnownBytes.Appends}
+use Rattle.std.{proofs.{Common.{◌≡◌, ◌∷◌, ℕ, List, [], cond, inl, refl, sym, ap, ◌∙◌, subst, arith}, KnownBytes.Appends-nil, lemmas.{Grind.common_steps, Result.err_from_is_err_and}}, specs.Io.KnownBytes.Appends}
 use Rattle.stn_device.specs.{Bytes.AppendsPart, Counted.counted_device}
 use Rattle.stn_text.specs.Lines.{words_of}
-use Rattle.stn_exec.{specs.{Output.{CountsRefusals, WritesOutput, WritesOutputPart}, Script.{Outcome, effect_outcome, line_effect, line_outcome}}, proofs.{Outputs.{count_none, count_one}, Scripts.{line_outcome-skipped, line_outcome-run, output_one, part-nil, part-one}}}
+use Rattle.stn_exec.{specs.{Output.{CountsRefusals, WritesOutput, WritesOutputPart}, Script.{Outcome, effect_outcome, line_effect, line_outcome}}, proofs.{Outputs.{count_none, count_one}, Scripts.{line_outcome-skipped, line_outcome-run, output_one, part-one}}}
 use Rattle.stn_exec.proofs.script.run_line.Goals as goal
-
-pub returns-in_err-refused-in-Some-clause-run : goal.returns-in_err-refused-in-Some-clause-run
-returns-in_err-refused-in-Some-clause-run g c =
-    let p = err_from_is_err_and c.from_residual.result c.from_residual.ensures.1 in
-    rw (p.1, p.2) (part-nil _ _, inr (refl, refl))
 
 pub returns-in_err-write_whole-in-Some-clause-run : goal.returns-in_err-write_whole-in-Some-clause-run
 returns-in_err-write_whole-in-Some-clause-run g c =

@@ -1,8 +1,8 @@
-use Rattle.std.proofs.Common.{Err, inr, refl, sym, ap, ◌∙◌, subst}
+use Rattle.std.proofs.Common.{Err, sym, ap, ◌∙◌, subst}
 use Rattle.stn_effects.specs.{Effects.failing, Printing.device_of}
 use Rattle.stn_text.specs.Lines.{lines_of}
 use Rattle.stn_refusal.specs.declared.failure.Failure.TheVariants.{Refused}
-use Rattle.stn_exec.{specs.{Failures.run_failure, Heading.IsHeadingFailure, Runs.PrintsReplies, Script.{Outcome, heading_of}}, proofs.Scripts.{heading-refused, opened_outcome, script_outcome-is, part-nil}}
+use Rattle.stn_exec.{specs.{Failures.run_failure, Heading.IsHeadingFailure, Runs.PrintsReplies, Script.{Outcome, heading_of}}, proofs.Scripts.{heading-refused, opened_outcome, script_outcome-is}}
 use Rattle.stn_exec.proofs.script.run_script.Goals as goal
 
 pub returns-in-Ok : goal.returns-in-Ok
@@ -26,6 +26,3 @@ returns-in-Err-Refused g c =
       run = subst (λ (o : Outcome). PrintsReplies o (device_of g.W.Write.contents c.args.writer.now) (device_of g.W.Write.contents c.refuse.new.writer)
           (failing run_failure c.refuse.result)) whole c.refuse.ensures.run;
     }
-
-pub returns-in-Err-Failed : goal.returns-in-Err-Failed
-returns-in-Err-Failed g c = record { run = (part-nil _ _, inr (refl, refl)) }
