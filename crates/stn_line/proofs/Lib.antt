@@ -1,5 +1,4 @@
 mod Fits
 mod OfStn
 pub mod Shapes
-mod Topics
 mod Values

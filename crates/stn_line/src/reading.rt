@@ -224,7 +224,7 @@ fn seconds(words: &ArgMatches<'_>) -> u16
     ensures value { IsSeconds result (rows_of (found_of words.now)) }
     ensures within { (1 ≤ result) × (result ≤ most_seconds) }
 {
-    match words.get_str("seconds") {
+    match option(words, "seconds") {
         Some(digits) => digits.parse().unwrap(),
         None => USUAL_SECONDS,
     }
@@ -235,7 +235,7 @@ fn word<'a>(words: &ArgMatches<'a>, name: &str) -> &'a str
     requires { HasValue name.now (rows_of (found_of words.now)) }
     ensures { IsWordValue name.now result (rows_of (found_of words.now)) }
 {
-    words.get_str(name).unwrap()
+    option(words, name).unwrap()
 }
 
 // All values of a word that may be given any number of times, in their order.
@@ -283,7 +283,7 @@ fn names<'a>(words: &ArgMatches<'a>) -> NameWords<'a>
 fn flag(words: &ArgMatches<'_>, name: &str) -> bool
     ensures { IsFlag name.now result (rows_of (found_of words.now)) }
 {
-    match words.get_str(name) {
+    match option(words, name) {
         Some(value) => value == "true",
         None => false,
     }
@@ -316,5 +316,5 @@ fn number(words: &ArgMatches<'_>, name: &str) -> u16
     ensures within { (least most : ℕ) → IsNumberThere name.now least most (rows_of (found_of words.now))
         → (least ≤ result) × (result ≤ most) }
 {
-    words.get_str(name).unwrap().parse().unwrap()
+    option(words, name).unwrap().parse().unwrap()
 }

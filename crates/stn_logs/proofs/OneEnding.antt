@@ -1,19 +1,18 @@
 -- A command has one ending, but for lacks.
-use Rattle.std.{proofs.{Common.{◌≡◌, inl, inr, ℕ, ◌+◌, Bool, true, false, List, length, take, Option, Some, None, is_some, option_map, Result, Ok, Err, refl, sym, ap, subst, ◌∙◌, arith, length-append}, lemmas.{Bool.false≢true, Option.same_Some}}, specs.{Borrow.Bor, Prelude.{⊤, codes, [], ◌∷◌, ◌++◌}}}
+use Rattle.std.{proofs.{Common.{◌≡◌, inl, inr, ℕ, ◌+◌, Bool, true, false, List, length, take, Option, Some, None, is_some, option_map, Result, Ok, Err, refl, sym, ap, subst, ◌∙◌, arith, length-append}, lemmas.{Bool.false≢true, Option.same_Some}}, specs.{Borrow.Bor, Prelude.{⊤}}}
 use Rattle.stn_device.proofs.Known.{not_err}
 use Rattle.stn_net.specs.{Difference.Difference, Schedule.HasSchedule}
 use Rattle.stn_lift.specs.{Plan.Steps.plan_of, PlanSource.{PlanSource, bare, files, events_of, base_of, steps_of}, Failures.base_failure, declared.fault.BaseFault.BaseFault}
-use Rattle.stn_site.specs.{Held.Held, Change.change_refusal, Failures.replica_failure, Bounds.all_bounds, declared.{faults.ReplicaFault.ReplicaFault, change.Change.{Change as ChangeAsked, TheVariants.{Add, Amend, Withdraw, Done}}}}
+use Rattle.stn_site.specs.{Held.Held, Change.change_refusal, Failures.replica_failure, Bounds.all_bounds, declared.{faults.ReplicaFault.ReplicaFault, change.Change.{Change as ChangeAsked, TheVariants.{Add}}}}
 use Rattle.stn_store.specs.{Log.{Log, log_held, IsLog, Failures.load_failure}, declared.log.fault.LoadFault.LoadFault, Store.{Entry, Holds, IsThere, IsTaken, IsMissing, Spells, Means, Opens, IsUnopened}, Steps.{Entries, FindsFree, FindsText, LoadsLog, SavesNew}, Merging.IsMergeRefusal}
-use Rattle.stn_command.specs.{Named.{IsSaidBy, IsRefusedBy, IsBehind, count_refusal}, Words.no_such_word, Query.{Query, report, check, foresee, ask, repairs, draw, IsQueryRefusal}}
-use Rattle.stn_command.specs.declared.queries.Outlook.TheVariants as outlook
+use Rattle.stn_command.specs.{Named.{IsSaidBy, IsRefusedBy, IsAfter, count_refusal}, Words.no_such_word, Query.{Query, IsQueryRefusal}}
 use Rattle.stn_guard.specs.{Adding.{IsGuardRefusal, no_step, conflict, guarded, records_refusal, owner_by}, Making.IsGuardOf, declared.owners.OwnedSteps.OwnedSteps}
 use Rattle.stn_loosen.specs.{Slack.Slack, Loosened.{AreFewLoosened, AreTooMany}, Robust.{AreRobust, AreFewRobust, AreTooManyRobust}}
 use Rattle.stn_refusal.specs.declared.failure.{Failure.Failure, Fault.Fault}
-use Rattle.stn_effects.{specs.Effects.{Effect, Then, Makes, Settles, Gives, EndAlike, failing}, proofs.Endings.{EndSo, makes_same, reads_same, then_alike, then_done_alike, gives_alike, gives_lacks, lacks_alike, finds_alike, makes_alike, reads_alike, as_alike}}
+use Rattle.stn_effects.{specs.Effects.{Effect, Then, Settles, EndAlike, failing}, proofs.Endings.{ChangesNothing, EndSo, makes_same, reads_same, then_alike, then_done_alike, gives_alike, gives_lacks, lacks_alike, finds_alike, makes_alike, reads_alike, as_alike}}
 use Rattle.stn_records.specs.Content.{Content, no_content}
-use Rattle.stn_line.specs.{Explanations.Explained.IsExplained, declared.words.{SiteLog.SiteLog, NameWords.NameWords, NewLog.TheVariants.{Bare, Init, Loosen}, Line.{Line, TheVariants.{Run, Make, Change, Ask, Explain, Shell, Serve, Send}}}}
-use Rattle.stn_logs.{specs.{Words.{Update, change, merge, guard, slack_read, update_read, question_read}, Loosening.{HoldsLoosened, IsLoosenedRefusal, IsRobustRefusal, WithBase, IsLooseningRefusal}, Commands.{SavesUpdated, IsGuarded, SavesMade, MakesLog, FindsSource, IsChanged, IsMerged, IsUnguarded, Updates, UpdatesLog, nameless, own_plan_text, FindsNames, SaysAsked, AnswersAsked, IsExplainRefusal, DoesLine}}, proofs.Unsaved.{free_same, text_same, load_same, source_same, names_same, update_same, saved_lacks, Looser, LoosensTexts}}
+use Rattle.stn_line.specs.{Explanations.Explained.IsExplained, declared.words.{SiteLog.SiteLog, NameWords.NameWords, NewLog.TheVariants.{Bare, Init, Loosen}, Line.{Line, TheVariants.{Make, Change, Ask, Explain}}}}
+use Rattle.stn_logs.{specs.{Words.{Update, change, merge, guard, slack_read, update_read, question_read}, Loosening.{IsLoosenedRefusal, IsRobustRefusal, WithBase, IsLooseningRefusal}, Commands.{SavesUpdated, SavesMade, MakesLog, FindsSource, IsUnguarded, Updates, UpdatesLog, nameless, own_plan_text, FindsNames, SaysAsked, AnswersAsked, IsExplainRefusal, DoesLine}}, proofs.Unsaved.{free_same, text_same, load_same, source_same, names_same, update_same, saved_lacks, LoosensTexts}}
 
 -- at most one cause is named
 abbrev IsOne : (Option Failure → Type 0) → Type 0
@@ -84,27 +83,15 @@ one_explained word cause other (inr p) (inr q) = p.1 ∙ sym q.1
 
 change_at_rest : (held : Held) (asked : ChangeAsked) → change_refusal held asked ≡ change_refusal (idle held) asked
 change_at_rest held (Add bound) = refl
-change_at_rest held (Amend old bound) = refl
-change_at_rest held (Withdraw id) = refl
-change_at_rest held (Done event time) = refl
+change_at_rest held asked = refl
 
-query_at_rest : (asked : Query) (held : Held) (cause : Option Failure) → IsQueryRefusal asked held cause → IsQueryRefusal asked (idle held) cause
-query_at_rest report held cause p = p
-query_at_rest (check times) held cause p = p
-query_at_rest (foresee outlook.Next now choice) held cause p = p
-query_at_rest (foresee outlook.Ready now choice) held cause p = p
-query_at_rest (foresee outlook.Rehearse now choice) held cause p = p
-query_at_rest (ask question) held cause p = p
-query_at_rest repairs held cause p = p
-query_at_rest (draw look) held cause p = p
-
-behind_at_rest : (asked : Query) (held : Held) (first cause : Option Failure) → IsBehind first (IsQueryRefusal asked held) cause → IsBehind first (IsQueryRefusal asked (idle held)) cause
-behind_at_rest asked held None cause p = query_at_rest asked held cause p
-behind_at_rest asked held (Some failure) cause p = p
+after_at_rest : (asked : Query) (held : Held) (first cause : Option Failure) → IsAfter first (IsQueryRefusal asked held) cause → IsAfter first (IsQueryRefusal asked (idle held)) cause
+after_at_rest asked held None cause p = p
+after_at_rest asked held (Some failure) cause p = p
 
 refused_at_rest : (plan : Option (List ℕ)) (asked : Query) (held : Held) (cause : Option Failure) → IsRefusedBy plan asked held cause → IsRefusedBy plan asked (idle held) cause
-refused_at_rest None asked held cause p = query_at_rest asked held cause p
-refused_at_rest (Some plan) asked held cause p = behind_at_rest asked held (count_refusal (steps_of held.source) (plan_of plan)) cause p
+refused_at_rest None asked held cause p = p
+refused_at_rest (Some plan) asked held cause p = after_at_rest asked held (count_refusal (steps_of held.source) (plan_of plan)) cause p
 
 -- at most one refusal of a guard
 module _ (guards : (owner : ℕ → ℕ) (events : ℕ) (bounds one other : List Difference) → HasSchedule bounds → IsGuardOf owner events bounds one → IsGuardOf owner events bounds other → one ≡ other)
@@ -139,13 +126,13 @@ module _ (logs : (bytes : List ℕ) (one other : Result Log LoadFault) → IsLog
     (robusts : (source : PlanSource) (slack : Slack) (one other : List Difference) → AreRobust source slack one → AreRobust source slack other → one ≡ other)
     (many : (source : PlanSource) (slack : Slack) → AreTooMany source slack → (records : List Difference) → ¬ AreFewLoosened source slack records) where
   -- ---- a query by names of steps
-  one_behind : (asked : Query) (held : Held) (first : Option Failure) → IsOne (IsBehind first (IsQueryRefusal asked held))
-  one_behind asked held None cause other p q = queries asked held cause other p q
-  one_behind asked held (Some failure) cause other p q = p ∙ sym q
+  one_after : (asked : Query) (held : Held) (first : Option Failure) → IsOne (IsAfter first (IsQueryRefusal asked held))
+  one_after asked held None cause other p q = queries asked held cause other p q
+  one_after asked held (Some failure) cause other p q = p ∙ sym q
 
   one_refused : (plan : Option (List ℕ)) (asked : Query) (held : Held) → IsOne (IsRefusedBy plan asked held)
   one_refused None asked held cause other p q = queries asked held cause other p q
-  one_refused (Some plan) asked held cause other p q = one_behind asked held (count_refusal (steps_of held.source) (plan_of plan)) cause other p q
+  one_refused (Some plan) asked held cause other p q = one_after asked held (count_refusal (steps_of held.source) (plan_of plan)) cause other p q
 
   -- ---- a loosened plan, and a robust one
   one_loosened : (source : PlanSource) (slack : Slack) → IsOne (IsLoosenedRefusal source slack)
@@ -190,21 +177,28 @@ module _ (logs : (bytes : List ℕ) (one other : Result Log LoadFault) → IsLog
     abbrev known : Entries
     known = Some entries
 
-    free_alike : (name : List ℕ) → EndSo Fails (λ _ _. ⊤) known (FindsFree Fails name) (FindsFree Fails name)
+    -- one effect, and then another by what the first gave
+    both_alike : {X Y : Type 0} (Ends : Y → Y → Type 0) (First : Effect Entries X) (Next : X → Effect Entries Y) → ChangesNothing First
+        → EndSo Fails (λ one other. one ≡ other) known First First → ((value : X) → EndSo Fails Ends known (Next value) (Next value))
+        → EndSo Fails Ends known (Then First Next) (Then First Next)
+    both_alike {X} Ends First Next same first next = then_alike Fails First Next First Next (λ one other. one ≡ other) Ends known same same first
+        (λ value other alike. subst (λ (one : X). EndSo Fails Ends known (Next value) (Next one)) alike (next value))
+
+    free_alike : (name : List ℕ) → EndSo Fails (λ one other. one ≡ other) known (FindsFree Fails name) (FindsFree Fails name)
     free_alike name = finds_alike Fails {World = Entries} {X = Unit {0}} {Y = Unit {0}} (λ all _. IsThere all name false) (λ all _. IsThere all name false) (λ all failure. IsTaken all name failure) (λ all failure. IsTaken all name failure)
-        (λ _ _. ⊤) known (λ _ _ _ _. tt) (λ _ _ free taken. false≢true (there_once entries name false true free taken.0))
-        (λ _ _ free taken. false≢true (there_once entries name false true free taken.0)) (λ _ _ p q. p.1 ∙ sym q.1)
+        (λ one other. one ≡ other) known (λ _ _ _ _. refl)
+        (λ _ _ free taken. false≢true (there_once entries name false true free taken.0)) (λ _ _ free taken. false≢true (there_once entries name false true free taken.0)) (λ _ _ p q. p.1 ∙ sym q.1)
 
     text_alike : (name : List ℕ) → EndSo Fails (λ one other. one ≡ other) known (FindsText Fails name) (FindsText Fails name)
     text_alike name = finds_alike Fails {World = Entries} {X = List ℕ} {Y = List ℕ} (λ all text. Spells all name text) (λ all text. Spells all name text) (λ all failure. IsMissing all name failure) (λ all failure. IsMissing all name failure)
-        (λ one other. one ≡ other) known (one_spelled entries name) (λ text _ there missing. none_there entries name there.0 missing.0 there.1)
-        (λ text _ there missing. none_there entries name there.0 missing.0 there.1) (λ _ _ p q. p.1 ∙ sym q.1)
+        (λ one other. one ≡ other) known (one_spelled entries name)
+        (λ text _ there missing. none_there entries name there.0 missing.0 there.1) (λ text _ there missing. none_there entries name there.0 missing.0 there.1) (λ _ _ p q. p.1 ∙ sym q.1)
 
     load_alike : (name : List ℕ) (site at : ℕ) → site ≡ at → EndSo Fails (λ held other. idle held ≡ idle other) known (LoadsLog Fails name site) (LoadsLog Fails name at)
     load_alike name site at same = subst (λ (one : ℕ). EndSo Fails (λ held other. idle held ≡ idle other) known (LoadsLog Fails name site) (LoadsLog Fails name one)) same
         (finds_alike Fails {World = Entries} {X = Held} {Y = Held} (λ all held. Opens all name site held) (λ all held. Opens all name site held) (λ all failure. IsUnopened all name failure) (λ all failure. IsUnopened all name failure)
-        (λ held other. idle held ≡ idle other) known (one_opened entries name logs site) (λ held failure opened not. not_both entries name logs site failure held not opened)
-        (λ held failure opened not. not_both entries name logs site failure held not opened) (one_unopened entries name logs))
+        (λ held other. idle held ≡ idle other) known (one_opened entries name logs site)
+        (λ held failure opened not. not_both entries name logs site failure held not opened) (λ held failure opened not. not_both entries name logs site failure held not opened) (one_unopened entries name logs))
 
     new_alike : (name : List ℕ) (log other : Log) → EndSo Fails (λ _ _. ⊤) known (SavesNew Fails name log) (SavesNew Fails name other)
     new_alike name log other new last (Ok done) (Ok saved) a b = tt
@@ -217,37 +211,23 @@ module _ (logs : (bytes : List ℕ) (one other : Result Log LoadFault) → IsLog
     new_alike name log other new last (Err failure) (Err why) (same, inl taken) (stays, inl there) = inr (inr (taken.1 ∙ sym there.1))
 
     made_alike : (name : List ℕ) (source from : PlanSource) (state content : Content) → EndSo Fails (λ _ _. ⊤) known (SavesMade Fails name source state) (SavesMade Fails name from content)
-    made_alike name source from state content = then_done_alike Fails (SavesNew Fails name (record { source = source; state = state })) (λ _. Gives (codes "made" ++ 10 ∷ []))
-        (SavesNew Fails name (record { source = from; state = content })) (λ _. Gives (codes "made" ++ 10 ∷ [])) (λ _ _. ⊤) known
-        (new_alike name (record { source = source; state = state }) (record { source = from; state = content }))
-        (λ _. gives_lacks Fails (codes "made" ++ 10 ∷ [])) (λ _. gives_lacks Fails (codes "made" ++ 10 ∷ []))
+    made_alike name source from state content = then_done_alike Fails _ _ _ _ (λ _ _. ⊤) known (new_alike name _ _) (λ _. gives_lacks Fails _) (λ _. gives_lacks Fails _)
 
     log_alike : (name : List ℕ) (source : PlanSource) → EndSo Fails (λ _ _. ⊤) known (MakesLog Fails name source) (MakesLog Fails name source)
-    log_alike name source = then_alike Fails (Settles Fails (failing base_failure (base_of source))) (λ made. SavesMade Fails name made no_content)
-        (Settles Fails (failing base_failure (base_of source))) (λ made. SavesMade Fails name made no_content) (λ one other. one ≡ other) (λ _ _. ⊤) known
-        (reads_same Fails (failing base_failure (base_of source))) (reads_same Fails (failing base_failure (base_of source))) (reads_alike Fails (failing base_failure (base_of source)) known)
-        (λ made other _. made_alike name made other no_content no_content)
+    log_alike name source = both_alike (λ _ _. ⊤) _ _ (reads_same Fails (failing base_failure (base_of source))) (reads_alike Fails (failing base_failure (base_of source)) known)
+        (λ made. made_alike name made made no_content no_content)
 
     source_alike : (domain plan : List ℕ) → EndSo Fails (λ one other. one ≡ other) known (FindsSource Fails domain plan) (FindsSource Fails domain plan)
-    source_alike domain plan = then_alike Fails (FindsText Fails domain) (λ actions. Then (FindsText Fails plan) (λ steps. Gives (files actions steps)))
-        (FindsText Fails domain) (λ actions. Then (FindsText Fails plan) (λ steps. Gives (files actions steps))) (λ one other. one ≡ other) (λ one other. one ≡ other) known
-        (text_same Fails domain) (text_same Fails domain) (text_alike domain)
-        (λ actions acts same. then_alike Fails (FindsText Fails plan) (λ steps. Gives (files actions steps)) (FindsText Fails plan) (λ steps. Gives (files acts steps))
-        (λ one other. one ≡ other) (λ one other. one ≡ other) known (text_same Fails plan) (text_same Fails plan) (text_alike plan)
-        (λ steps others alike. gives_alike Fails (files actions steps) (files acts others) known
-        (ap (λ (one : List ℕ). files one steps) same ∙ ap (λ (one : List ℕ). files acts one) alike)))
+    source_alike domain plan = both_alike (λ one other. one ≡ other) _ _ (text_same Fails domain) (text_alike domain)
+        (λ actions. both_alike (λ one other. one ≡ other) _ _ (text_same Fails plan) (text_alike plan) (λ steps. gives_alike Fails (files actions steps) (files actions steps) known refl))
 
     -- the names of steps are found once
     names_alike : (plan : Option (List ℕ)) (own : Bool) (source : PlanSource)
         → EndSo Fails (λ one other. one ≡ other) known (FindsNames Fails plan own source) (FindsNames Fails plan own source)
     names_alike None false source = reads_alike Fails (Ok None) known
     names_alike None true source = reads_alike Fails (own_plan_text source) known
-    names_alike (Some plan) false source = then_alike Fails (Settles Fails (nameless source)) (λ _. Then (FindsText Fails plan) (λ text. Gives (Some text)))
-        (Settles Fails (nameless source)) (λ _. Then (FindsText Fails plan) (λ text. Gives (Some text)))
-        (λ one other. one ≡ other) (λ one other. one ≡ other) known (reads_same Fails (nameless source)) (reads_same Fails (nameless source)) (reads_alike Fails (nameless source) known)
-        (λ _ _ _. then_alike Fails (FindsText Fails plan) (λ text. Gives (Some text)) (FindsText Fails plan) (λ text. Gives (Some text))
-        (λ one other. one ≡ other) (λ one other. one ≡ other) known (text_same Fails plan) (text_same Fails plan) (text_alike plan)
-        (λ text other same. gives_alike Fails (Some text) (Some other) known (ap (λ (one : List ℕ). Some one) same)))
+    names_alike (Some plan) false source = both_alike (λ one other. one ≡ other) _ _ (reads_same Fails (nameless source)) (reads_alike Fails (nameless source) known)
+        (λ _. both_alike (λ one other. one ≡ other) _ _ (text_same Fails plan) (text_alike plan) (λ text. gives_alike Fails (Some text) (Some text) known refl))
     names_alike (Some plan) true source = reads_alike Fails (Err no_such_word) known
 
     -- ---- what is asked of a log, by two copies that say the same
@@ -258,100 +238,61 @@ module _ (logs : (bytes : List ℕ) (one other : Result Log LoadFault) → IsLog
           one (idle other) cause reason (subst (λ (copy : Held). IsCause copy cause) same (rests held cause p)) (rests other reason q)
 
       update_alike : (asked : Update) → EndSo Fails (λ _ _. ⊤) known (Updates Fails asked held) (Updates Fails asked other)
-      update_alike (change asked) = makes_alike Fails (IsChanged asked held) (IsChanged asked other)
-          (λ cause. cause ≡ option_map replica_failure (change_refusal held asked)) (λ cause. cause ≡ option_map replica_failure (change_refusal other asked)) known
+      update_alike (change asked) = makes_alike Fails _ _ (λ cause. cause ≡ option_map replica_failure (change_refusal held asked)) (λ cause. cause ≡ option_map replica_failure (change_refusal other asked)) known
           (at_rest_alike (λ one cause. cause ≡ option_map replica_failure (change_refusal one asked))
           (λ one cause p. p ∙ ap (option_map replica_failure) (change_at_rest one asked)) (λ one cause reason p q. p ∙ sym q))
-      update_alike (merge name) = then_alike Fails (LoadsLog Fails name held.site) (λ theirs. Makes Fails (IsMerged held theirs) (IsMergeRefusal held theirs))
-          (LoadsLog Fails name other.site) (λ theirs. Makes Fails (IsMerged other theirs) (IsMergeRefusal other theirs)) (λ one last. idle one ≡ idle last) (λ _ _. ⊤) known
+      update_alike (merge name) = then_alike Fails _ _ _ _ (λ one last. idle one ≡ idle last) (λ _ _. ⊤) known
           (load_same Fails name held.site) (load_same Fails name other.site) (load_alike name held.site other.site (ap (λ (one : Held). one.site) same))
-          (λ theirs copy alike. makes_alike Fails (IsMerged held theirs) (IsMerged other copy) (IsMergeRefusal held theirs) (IsMergeRefusal other copy) known
-          (λ cause reason p q. one_merge (idle other) (idle copy) cause reason
+          (λ theirs copy alike. makes_alike Fails _ _ (IsMergeRefusal held theirs) (IsMergeRefusal other copy) known (λ cause reason p q. one_merge (idle other) (idle copy) cause reason
           (subst (λ (one : Held). IsMergeRefusal one (idle copy) cause) same (subst (λ (one : Held). IsMergeRefusal (idle held) one cause) alike p)) q))
-      update_alike (guard owned) = makes_alike Fails (IsGuarded owned held) (IsGuarded owned other)
-          (IsUnguarded owned held) (IsUnguarded owned other) known (at_rest_alike (IsUnguarded owned) (guard_at_rest owned) (one_unguarded guards owned))
+      update_alike (guard owned) = makes_alike Fails _ _ (IsUnguarded owned held) (IsUnguarded owned other) known (at_rest_alike (IsUnguarded owned) (guard_at_rest owned) (one_unguarded guards owned))
 
       says_alike : (asked : Query) (names : NameWords) → EndSo Fails (λ _ _. ⊤) known (SaysAsked Fails asked names held) (SaysAsked Fails asked names other)
       says_alike asked names =
           let file : Option (List ℕ) = option_map (λ (w : Bor (List ℕ)). w.now) names.plan in
-          then_alike Fails (FindsNames Fails file names.own held.source) (λ plan. Makes Fails (IsSaidBy plan asked held) (IsRefusedBy plan asked held))
-          (FindsNames Fails file names.own other.source) (λ plan. Makes Fails (IsSaidBy plan asked other) (IsRefusedBy plan asked other))
-          (λ one last. one ≡ last) (λ _ _. ⊤) known (names_same Fails file names.own held.source) (names_same Fails file names.own other.source)
+          then_alike Fails _ _ _ _ (λ one last. one ≡ last) (λ _ _. ⊤) known (names_same Fails file names.own held.source) (names_same Fails file names.own other.source)
           (subst (λ (one : Held). EndSo Fails (λ one last. one ≡ last) known (FindsNames Fails file names.own held.source) (FindsNames Fails file names.own one.source)) same
           (names_alike file names.own held.source))
-          (λ plan last alike. makes_alike Fails (IsSaidBy plan asked held) (IsSaidBy last asked other) (IsRefusedBy plan asked held) (IsRefusedBy last asked other) known
-          (λ cause reason p q. at_rest_alike (IsRefusedBy plan asked) (refused_at_rest plan asked) (one_refused plan asked) cause reason p
+          (λ plan last alike. makes_alike Fails _ _ (IsRefusedBy plan asked held) (IsRefusedBy last asked other) known (λ cause reason p q. at_rest_alike (IsRefusedBy plan asked) (refused_at_rest plan asked) (one_refused plan asked) cause reason p
           (subst (λ (one : Option (List ℕ)). IsRefusedBy one asked other reason) (sym alike) q)))
 
     -- ---- a command
     loosening_alike : (log : SiteLog) (domain plan : List ℕ) (robust : Bool) (slack : Slack)
         → EndSo Fails (λ _ _. ⊤) known (LoosensTexts Fails log domain plan robust slack) (LoosensTexts Fails log domain plan robust slack)
-    loosening_alike log domain plan robust slack = then_alike Fails (FindsFree Fails log.name.now) (λ _. Then (FindsSource Fails domain plan) (Looser Fails log robust slack))
-        (FindsFree Fails log.name.now) (λ _. Then (FindsSource Fails domain plan) (Looser Fails log robust slack)) (λ _ _. ⊤) (λ _ _. ⊤) known
-        (free_same Fails log.name.now) (free_same Fails log.name.now) (free_alike log.name.now)
-        (λ _ _ _. then_alike Fails (FindsSource Fails domain plan) (Looser Fails log robust slack) (FindsSource Fails domain plan) (Looser Fails log robust slack)
-        (λ one other. one ≡ other) (λ _ _. ⊤) known (source_same Fails domain plan) (source_same Fails domain plan) (source_alike domain plan)
-        (λ source other same. subst (λ (one : PlanSource). EndSo Fails (λ _ _. ⊤) known (Looser Fails log robust slack source) (Looser Fails log robust slack one)) same
-        (then_alike Fails (Makes Fails (HoldsLoosened robust source slack log.site) (IsLooseningRefusal robust source slack)) (λ state. SavesMade Fails log.name.now (bare (steps_of source)) state)
-        (Makes Fails (HoldsLoosened robust source slack log.site) (IsLooseningRefusal robust source slack)) (λ state. SavesMade Fails log.name.now (bare (steps_of source)) state)
-        (λ _ _. ⊤) (λ _ _. ⊤) known (makes_same Fails (HoldsLoosened robust source slack log.site) (IsLooseningRefusal robust source slack))
-        (makes_same Fails (HoldsLoosened robust source slack log.site) (IsLooseningRefusal robust source slack))
-        (makes_alike Fails (HoldsLoosened robust source slack log.site) (HoldsLoosened robust source slack log.site)
-        (IsLooseningRefusal robust source slack) (IsLooseningRefusal robust source slack) known (one_loosening robust source slack))
-        (λ state content _. made_alike log.name.now (bare (steps_of source)) (bare (steps_of source)) state content))))
+    loosening_alike log domain plan robust slack = both_alike (λ _ _. ⊤) _ _ (free_same Fails log.name.now) (free_alike log.name.now)
+        (λ _. both_alike (λ _ _. ⊤) _ _ (source_same Fails domain plan) (source_alike domain plan)
+        (λ source. then_alike Fails _ _ _ _ (λ _ _. ⊤) (λ _ _. ⊤) known (makes_same Fails _ (IsLooseningRefusal robust source slack)) (makes_same Fails _ (IsLooseningRefusal robust source slack))
+        (makes_alike Fails _ _ (IsLooseningRefusal robust source slack) (IsLooseningRefusal robust source slack) known (one_loosening robust source slack))
+        (λ state content _. made_alike log.name.now (bare (steps_of source)) (bare (steps_of source)) state content)))
 
     updating_alike : (log : SiteLog) (asked : Update) → EndSo Fails (λ _ _. ⊤) known (UpdatesLog Fails log asked) (UpdatesLog Fails log asked)
-    updating_alike log asked = then_alike Fails (LoadsLog Fails log.name.now log.site) (λ held. Then (Updates Fails asked held) (λ made. SavesUpdated Fails log.name.now made))
-        (LoadsLog Fails log.name.now log.site) (λ held. Then (Updates Fails asked held) (λ made. SavesUpdated Fails log.name.now made))
-        (λ held other. idle held ≡ idle other) (λ _ _. ⊤) known (load_same Fails log.name.now log.site) (load_same Fails log.name.now log.site)
+    updating_alike log asked = then_alike Fails _ _ _ _ (λ held other. idle held ≡ idle other) (λ _ _. ⊤) known (load_same Fails log.name.now log.site) (load_same Fails log.name.now log.site)
         (load_alike log.name.now log.site log.site refl)
-        (λ held other same. then_alike Fails (Updates Fails asked held) (λ made. SavesUpdated Fails log.name.now made) (Updates Fails asked other) (λ made. SavesUpdated Fails log.name.now made)
-        (λ _ _. ⊤) (λ _ _. ⊤) known (update_same Fails asked held) (update_same Fails asked other) (update_alike held other same asked)
+        (λ held other same. then_alike Fails _ _ _ _ (λ _ _. ⊤) (λ _ _. ⊤) known (update_same Fails asked held) (update_same Fails asked other) (update_alike held other same asked)
         (λ made last _. lacks_alike Fails known (SavesUpdated Fails log.name.now made) (SavesUpdated Fails log.name.now last)
         (saved_lacks Fails log.name.now made) (saved_lacks Fails log.name.now last)))
 
     answers_alike : (log : SiteLog) (asked : Query) (names : NameWords) → EndSo Fails (λ _ _. ⊤) known (AnswersAsked Fails log asked names) (AnswersAsked Fails log asked names)
-    answers_alike log asked names = then_alike Fails (LoadsLog Fails log.name.now log.site) (λ held. SaysAsked Fails asked names held)
-        (LoadsLog Fails log.name.now log.site) (λ held. SaysAsked Fails asked names held)
-        (λ held other. idle held ≡ idle other) (λ _ _. ⊤) known (load_same Fails log.name.now log.site) (load_same Fails log.name.now log.site)
+    answers_alike log asked names = then_alike Fails _ _ _ _ (λ held other. idle held ≡ idle other) (λ _ _. ⊤) known (load_same Fails log.name.now log.site) (load_same Fails log.name.now log.site)
         (load_alike log.name.now log.site log.site refl) (λ held other same. says_alike held other same asked names)
-
-    -- words are read alike, and then what they ask for is done alike
-    read_alike : {X : Type 0} (said : Result X Failure) (Next : X → Effect Entries (List ℕ)) → ((value : X) → EndSo Fails (λ _ _. ⊤) known (Next value) (Next value))
-        → EndSo Fails (λ _ _. ⊤) known (Then (Settles Fails said) Next) (Then (Settles Fails said) Next)
-    read_alike {X} said Next alike = then_alike Fails (Settles Fails said) Next (Settles Fails said) Next (λ value other. value ≡ other) (λ _ _. ⊤) known
-        (reads_same Fails said) (reads_same Fails said) (reads_alike Fails said known)
-        (λ value other same. subst (λ (one : X). EndSo Fails (λ _ _. ⊤) known (Next value) (Next one)) same (alike value))
 
     none_alike : EndSo Fails (λ _ _. ⊤) known (Settles {World = Entries} {X = List ℕ} Fails (Err no_such_word)) (Settles {World = Entries} {X = List ℕ} Fails (Err no_such_word))
     none_alike new last (Ok value) (Ok other) a b = tt
-    none_alike new last (Ok value) (Err failure) a b = absurd (not_err value no_such_word (sym a.1))
-    none_alike new last (Err failure) (Ok value) a b = absurd (not_err value no_such_word (sym b.1))
-    none_alike new last (Err failure) (Err other) (same, inr lack) b = inl lack
-    none_alike new last (Err failure) (Err other) (same, inl is) (stays, inr lack) = inr (inl lack)
-    none_alike new last (Err failure) (Err other) (same, inl is) (stays, inl was) = inr (inr (sym (one_error no_such_word failure is) ∙ one_error no_such_word other was))
+    none_alike new last ended other a b = reads_alike Fails (Err no_such_word) known new last ended other a b
 
     line_alike : (line : Line) → EndSo Fails (λ _ _. ⊤) known (DoesLine Fails line) (DoesLine Fails line)
-    line_alike (Make log (Bare steps)) = then_alike Fails (FindsFree Fails log.name.now) (λ _. MakesLog Fails log.name.now (bare steps))
-        (FindsFree Fails log.name.now) (λ _. MakesLog Fails log.name.now (bare steps)) (λ _ _. ⊤) (λ _ _. ⊤) known
-        (free_same Fails log.name.now) (free_same Fails log.name.now) (free_alike log.name.now) (λ _ _ _. log_alike log.name.now (bare steps))
-    line_alike (Make log (Init domain plan)) = then_alike Fails (FindsFree Fails log.name.now) (λ _. Then (FindsSource Fails domain.now plan.now) (λ source. MakesLog Fails log.name.now source))
-        (FindsFree Fails log.name.now) (λ _. Then (FindsSource Fails domain.now plan.now) (λ source. MakesLog Fails log.name.now source)) (λ _ _. ⊤) (λ _ _. ⊤) known
-        (free_same Fails log.name.now) (free_same Fails log.name.now) (free_alike log.name.now)
-        (λ _ _ _. then_alike Fails (FindsSource Fails domain.now plan.now) (λ source. MakesLog Fails log.name.now source) (FindsSource Fails domain.now plan.now) (λ source. MakesLog Fails log.name.now source)
-        (λ one other. one ≡ other) (λ _ _. ⊤) known (source_same Fails domain.now plan.now) (source_same Fails domain.now plan.now) (source_alike domain.now plan.now)
-        (λ source other same. subst (λ (one : PlanSource). EndSo Fails (λ _ _. ⊤) known (MakesLog Fails log.name.now source) (MakesLog Fails log.name.now one)) same (log_alike log.name.now source)))
-    line_alike (Make log (Loosen domain plan early late robust)) =
-        read_alike (slack_read early late) (λ slack. LoosensTexts Fails log domain.now plan.now robust slack) (λ slack. loosening_alike log domain.now plan.now robust slack)
-    line_alike (Change log words) = read_alike (update_read words) (λ asked. UpdatesLog Fails log asked) (λ asked. updating_alike log asked)
-    line_alike (Ask log words names) = read_alike (question_read log words) (λ asked. AnswersAsked Fails log asked names) (λ asked. answers_alike log asked names)
+    line_alike (Make log (Bare steps)) = both_alike (λ _ _. ⊤) _ _ (free_same Fails log.name.now) (free_alike log.name.now) (λ _. log_alike log.name.now (bare steps))
+    line_alike (Make log (Init domain plan)) = both_alike (λ _ _. ⊤) _ _ (free_same Fails log.name.now) (free_alike log.name.now)
+        (λ _. both_alike (λ _ _. ⊤) _ _ (source_same Fails domain.now plan.now) (source_alike domain.now plan.now) (λ source. log_alike log.name.now source))
+    line_alike (Make log (Loosen domain plan early late robust)) = both_alike (λ _ _. ⊤) _ _ (reads_same Fails (slack_read early late)) (reads_alike Fails (slack_read early late) known)
+        (λ slack. loosening_alike log domain.now plan.now robust slack)
+    line_alike (Change log words) = both_alike (λ _ _. ⊤) _ _ (reads_same Fails (update_read words)) (reads_alike Fails (update_read words) known) (λ asked. updating_alike log asked)
+    line_alike (Ask log words names) = both_alike (λ _ _. ⊤) _ _ (reads_same Fails (question_read log words)) (reads_alike Fails (question_read log words) known)
+        (λ asked. answers_alike log asked names)
     line_alike (Explain word) =
         let one = option_map (λ (w : Bor (List ℕ)). w.now) word in
         makes_alike Fails (IsExplained one) (IsExplained one) (IsExplainRefusal one) (IsExplainRefusal one) known (one_explained one)
-    line_alike Run = none_alike
-    line_alike (Shell log) = none_alike
-    line_alike (Serve log address count seconds) = none_alike
-    line_alike (Send log address seconds) = none_alike
+    line_alike line = none_alike
 
   pub one_line : (Fails : Fault → Type 0) (entries : List Entry) (line : Line) (one other : Entries) (ended last : Result (List ℕ) Failure)
       → DoesLine Fails line (Some entries) one ended → DoesLine Fails line (Some entries) other last → EndAlike Fails ended last

@@ -2,7 +2,7 @@
 use Rattle.std.{proofs.Common.{◌≡◌, ℕ, ℤ, Bor, Bool, List, Option, Result, Ok, Err, refl}}
 use Rattle.stn_command.specs.{Words.{and_then, time_read}, Steps.{steps_read, all_owned}, Query.foresee, declared.queries.Outlook.Outlook}
 use Rattle.stn_guard.specs.declared.owners.OwnedSteps.{OwnedSteps}
-use Rattle.stn_replica.specs.declared.own.StepRange.{StepRange}
+use Rattle.stn_site.specs.declared.own.StepRange.{StepRange}
 use Rattle.stn_line.specs.declared.words.{EventChoice.EventChoice, SiteLog.SiteLog}
 use Rattle.stn_logs.specs.Words.{among_read, arrows_read, given_read, look_read}
 use Rattle.stn_refusal.specs.declared.failure.Failure.{Failure}

@@ -1,11 +1,10 @@
 -- What the words of a command say, or why they can't be read: the first word that can't decides, in the order of the words.
-use Rattle.std.specs.{Prelude.{ℕ, ℤ, Bool, true, false, bytes_eq, codes, pos, neg_ℤ, int_lt, ◌||◌, if◌then◌else◌, List, map, Option, Some, None, Result, Ok, Err}, Borrow.Bor}
-use Rattle.stn_time.specs.Time.{horizon}
+use Rattle.std.specs.{Prelude.{ℕ, ℤ, Bool, true, false, bytes_eq, codes, pos, int_lt, ◌||◌, if◌then◌else◌, List, map, option_map, Option, Some, None, Result, Ok, Err}, Borrow.Bor}
 use Rattle.stn_net.specs.Difference.{Difference}
 use Rattle.stn_loosen.specs.Slack.{Slack}
 use Rattle.stn_picture.specs.Chart.{Look}
 use Rattle.stn_questions.specs.declared.asked.Question.{Question, TheVariants.{Records as records, Steps as steps, Bounds as bounds, Why as why, WhyApart as why_apart}}
-use Rattle.stn_command.specs.{Words.{and_then, event_of, id_of, named, time_read, times_read, no_such_word}, Query.{Query, report, check, foresee, ask, repairs, draw}, Steps.{steps_read, all_owned}, declared.queries.Outlook.Outlook}
+use Rattle.stn_command.specs.{Words.{and_then, event_of, id_of, named, time_read, times_read, side_read, bound_between, no_such_word}, Query.{Query, report, check, foresee, ask, repairs, draw}, Steps.{steps_read, all_owned}, declared.queries.Outlook.Outlook}
 use Rattle.stn_command.specs.declared.queries.Outlook.TheVariants as outlook
 use Rattle.stn_logs.specs.declared.words.Update.{Update as UpdateOfCode}
 use Rattle.stn_guard.specs.declared.owners.OwnedSteps.{OwnedSteps}
@@ -29,24 +28,21 @@ seen_update (updating.Merge other) = merge other.now
 seen_update (updating.Guard owned) = guard owned.items
 
 -- ---- single words
--- what a word says, where it is given
+-- a word, where it is given
+abbrev pub given_word : Option (Bor (List ℕ)) → Option (List ℕ)
+given_word word = option_map (λ one. one.now) word
+
+-- what it says
 abbrev pub given_read : {X : Type 0} → (List ℕ → Result X Failure) → Option (Bor (List ℕ)) → Result (Option X) Failure
 given_read read None = Ok None
 given_read read (Some word) = and_then (read word.now) (λ value. Ok (Some value))
-
--- the side of a bound; the open one, where there is no word
-abbrev pub side_read : ℤ → Option (Bor (List ℕ)) → Result ℤ Failure
-side_read open_side None = Ok open_side
-side_read open_side (Some word) = time_read word.now
 
 -- the bound of two events and two sides, which are open where they are not given
 unfoldable pub bound_read : List ℕ → List ℕ → Option (Bor (List ℕ)) → Option (Bor (List ℕ)) → Result Difference Failure
 bound_read from to lo hi =
     and_then (named (event_of from)) (λ first.
     and_then (named (event_of to)) (λ second.
-    and_then (side_read (neg_ℤ horizon) lo) (λ least.
-    and_then (side_read horizon hi) (λ greatest.
-    Ok (record { from = first; to = second; lo = least; hi = greatest })))))
+    bound_between first second (given_word lo) (given_word hi)))
 
 -- by how much durations may differ; neither time may be negative
 abbrev pub slack_of : ℤ → ℤ → Result Slack Failure
@@ -55,8 +51,8 @@ slack_of early late = if int_lt early (pos 0) || int_lt late (pos 0) then Err no
 -- the same by two words, each 0 where it is not given
 unfoldable pub slack_read : Option (Bor (List ℕ)) → Option (Bor (List ℕ)) → Result Slack Failure
 slack_read early late =
-    and_then (side_read (pos 0) early) (λ less.
-    and_then (side_read (pos 0) late) (λ more.
+    and_then (side_read (pos 0) (given_word early)) (λ less.
+    and_then (side_read (pos 0) (given_word late)) (λ more.
     slack_of less more))
 
 -- the question why, about an event, or about two

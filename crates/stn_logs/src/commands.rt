@@ -27,8 +27,7 @@ use stn_line::{
 use stn_picture::Look;
 use stn_questions::Question;
 use stn_refusal::{Code, Failure, Fault};
-use stn_replica::StepRange;
-use stn_site::SitePlan;
+use stn_site::{SitePlan, StepRange};
 use stn_store::Store;
 
 // A log that is held, and what it says.

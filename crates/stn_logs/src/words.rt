@@ -1,13 +1,12 @@
 //! What the words of a command say.
 
-ghost use Rattle.std.specs.Prelude.{◌≡◌, ◌⊎◌, map, option_map, pos, neg_ℤ, Ok, Err, IfOk, IfErr, MatchResult};
-ghost use Rattle.stn_time.specs.Time.{horizon};
+ghost use Rattle.std.specs.Prelude.{◌≡◌, ◌⊎◌, map, option_map, pos, Ok, Err, IfOk, IfErr, MatchResult};
 ghost use Rattle.stn_refusal.specs.Refusals.{out_of_memory};
 ghost use Rattle.stn_command.specs.{Words.{event_of, id_of, named, time_read, times_read}, Steps.steps_read};
-ghost use Rattle.stn_logs.specs.Words.{arrows_read, bound_read, given_read, seen_update, side_read, slack_of, slack_read, update_read, why_read};
+ghost use Rattle.stn_logs.specs.Words.{arrows_read, bound_read, given_read, given_word, seen_update, slack_of, slack_read, update_read, why_read};
 
 use std::alloc::Allocator;
-use stn_command::{no_such_word, read_owned, read_steps, read_time};
+use stn_command::{no_such_word, read_between, read_owned, read_side, read_steps, read_time};
 use stn_guard::OwnedSteps;
 use stn_line::LogChange;
 use stn_loosen::Tolerance;
@@ -15,9 +14,8 @@ use stn_net::Event;
 use stn_questions::Question;
 use stn_records::Id;
 use stn_refusal::Failure;
-use stn_replica::StepRange;
-use stn_site::{AskedBound, Change};
-use stn_time::{HORIZON, Ms};
+use stn_site::{AskedBound, Change, StepRange};
+use stn_time::Ms;
 
 /// What updates a log.
 #[derive(Drop)]
@@ -113,10 +111,7 @@ pub fn read_chosen<A: Allocator + Copy>(
 fn read_event(word: &str) -> Result<Event, Failure>
     ensures { result ≡ named (event_of word.now) }
 {
-    match stn_command::read_event(word.as_bytes()) {
-        Some(event) => Ok(event),
-        None => Err(no_such_word()),
-    }
+    stn_command::read_event(word.as_bytes()).ok_or(no_such_word())
 }
 
 /// The question why, about the event of a word, or about the events of two.
@@ -141,19 +136,16 @@ pub fn read_why(event: &str, to: Option<&str>) -> Result<Question, Failure>
 fn read_id(word: &str) -> Result<Id, Failure>
     ensures { result ≡ named (id_of word.now) }
 {
-    match stn_command::read_id(word.as_bytes()) {
-        Some(id) => Ok(id),
-        None => Err(no_such_word()),
-    }
+    stn_command::read_id(word.as_bytes()).ok_or(no_such_word())
 }
 
-// The side of a bound that a word spells; the open one, where there is no word.
-fn read_side(word: Option<&str>, open_side: Ms) -> Result<Ms, Failure>
-    ensures { result ≡ side_read open_side word.entry }
+// The bytes of a word, where there is one.
+fn bytes_of(word: Option<&str>) -> Option<&[u8]>
+    ensures { given_word result ≡ given_word word.entry }
 {
     match word {
-        Some(word) => read_time(word.as_bytes()),
-        None => Ok(open_side),
+        Some(word) => Some(word.as_bytes()),
+        None => None,
     }
 }
 
@@ -166,12 +158,9 @@ fn read_bound(
 ) -> Result<AskedBound, Failure>
     ensures { result ≡ bound_read from.now to.now lo.entry hi.entry }
 {
-    let (least, greatest) = open_sides();
     let from = read_event(from)?;
     let to = read_event(to)?;
-    let lo = read_side(lo, least)?;
-    let hi = read_side(hi, greatest)?;
-    Ok(AskedBound::new(from, to, lo, hi))
+    read_between(from, to, bytes_of(lo), bytes_of(hi))
 }
 
 /// The tolerance that the words of two times spell; a time without a word is 0.
@@ -180,7 +169,9 @@ pub fn read_tolerance(early: Option<&str>, late: Option<&str>) -> Result<Toleran
     ensures said { IfOk result (λ tolerance. slack_read early.entry late.entry ≡ Ok tolerance) }
     ensures refused { IfErr result (λ failure. slack_read early.entry late.entry ≡ Err failure) }
 {
-    match (read_side(early, no_time()), read_side(late, no_time())) {
+    let early = read_side(bytes_of(early), no_time());
+    let late = read_side(bytes_of(late), no_time());
+    match (early, late) {
         (Ok(early), Ok(late)) => tolerance(early, late),
         (Err(failure), _) => Err(failure),
         (_, Err(failure)) => Err(failure),
@@ -203,13 +194,6 @@ fn no_time() -> Ms
     ensures { result ≡ pos 0 }
 {
     Ms::new(0).unwrap()
-}
-
-// The least and the greatest difference.
-fn open_sides() -> (Ms, Ms)
-    ensures { (result.0 ≡ neg_ℤ horizon) × (result.1 ≡ horizon) }
-{
-    (Ms::new(-HORIZON).unwrap(), Ms::new(HORIZON).unwrap())
 }
 
 /// The times that words spell.

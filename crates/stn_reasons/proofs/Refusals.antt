@@ -9,12 +9,12 @@ use Rattle.stn_line.specs.declared.words.NewLog.TheVariants as new
 use Rattle.stn_line.specs.declared.words.LogChange.TheVariants as change
 use Rattle.stn_line.specs.declared.words.LogQuestion.TheVariants as question
 use Rattle.stn_line.specs.declared.words.Line.TheVariants as line
-use Rattle.stn_command.specs.{Words.{and_then, event_of, id_of, named, no_such_word, time_read, times_read}, Steps.{steps_read, all_owned, owned_after, owned_too}, Query.draw, declared.queries.Outlook.Outlook}
+use Rattle.stn_command.specs.{Words.{and_then, event_of, id_of, named, no_such_word, time_read, times_read, side_read}, Steps.{steps_read, all_owned, owned_after, owned_too}, Query.draw, declared.queries.Outlook.Outlook}
 use Rattle.stn_command.specs.declared.queries.Outlook.TheVariants as outlook
 use Rattle.stn_questions.specs.declared.asked.Question.TheVariants.{Why as why, WhyApart as why_apart}
 use Rattle.stn_loosen.specs.Slack.{Slack}
 use Rattle.stn_picture.specs.Chart.{Look}
-use Rattle.stn_logs.specs.Words.{among_read, bound_read, side_read, slack_of, slack_read, given_read, why_read, arrows_read, look_read, question_read, update_read}
+use Rattle.stn_logs.specs.Words.{among_read, bound_read, given_word, slack_of, slack_read, given_read, why_read, arrows_read, look_read, question_read, update_read}
 use Rattle.stn_reasons.specs.{Refused.{RefusedWord, no_bound, no_choice, no_event, no_id, no_owned, no_steps, no_time, no_times, no_tolerance, no_tolerances, no_yes_or_no, unread_word, where_given, word_of_change, word_of_question, word_refused}, Refusing.{refusal_by, words_refusal}, declared.refused.Form.Form}
 use Rattle.stn_reasons.specs.declared.refused.Form.TheVariants as form
 
@@ -50,7 +50,7 @@ made : {X Y : Type 0} (read : Result X Failure) (make : X → Y) → refusal_by 
 made (Ok value) make = refl
 made (Err failure) make = refl
 
-side : (open_side : ℤ) (word : Option (Bor (List ℕ))) → failure_of (where_given no_time word) ≡ refusal_by (side_read open_side word)
+side : (open_side : ℤ) (word : Option (Bor (List ℕ))) → failure_of (where_given no_time word) ≡ refusal_by (side_read open_side (given_word word))
 side open_side None = refl
 side open_side (Some word) = by_reader word.now form.Time (time_read word.now)
 
@@ -68,8 +68,8 @@ unfolding bound_read
 bound from to lo hi =
     word_then (no_event from) (named (event_of from)) _ _ (event from) (λ a.
     word_then (no_event to) (named (event_of to)) _ _ (event to) (λ b.
-    word_then (where_given no_time lo) (side_read (neg_ℤ horizon) lo) _ _ (side (neg_ℤ horizon) lo) (λ c.
-    side horizon hi ∙ sym (made {Y = Difference} (side_read horizon hi) (λ d. record { from = a; to = b; lo = c; hi = d })))))
+    word_then (where_given no_time lo) (side_read (neg_ℤ horizon) (given_word lo)) _ _ (side (neg_ℤ horizon) lo) (λ c.
+    side horizon hi ∙ sym (made {Y = Difference} (side_read horizon (given_word hi)) (λ d. record { from = a; to = b; lo = c; hi = d })))))
 
 chosen : (steps : Option (Bor (List ℕ))) → failure_of (where_given no_steps steps) ≡ refusal_by (given_read steps_read steps)
 chosen None = refl
@@ -117,7 +117,7 @@ owned before (word ∷ rest) given is =
     go (Err failure) front later = ap (λ read. failure_of (option_or (unread_word word form.Owned read) (no_owned (before ++ word ∷ []) rest))) front
 
 -- a tolerance that was read refuses where it is below 0
-below : (word : Option (Bor (List ℕ))) (value : ℤ) → side_read (pos 0) word ≡ Ok value
+below : (word : Option (Bor (List ℕ))) (value : ℤ) → side_read (pos 0) (given_word word) ≡ Ok value
     → failure_of (where_given no_tolerance word) ≡ cond (int_lt value (pos 0)) (Some no_such_word) None
 below None value is = ap (λ read. refusal_by (and_then read (λ (time : ℤ). cond (int_lt time (pos 0)) (Err no_such_word) (Ok time)))) is ∙ pick value (int_lt value (pos 0))
   where
@@ -135,7 +135,7 @@ below (Some word) value is =
 tolerances : (early late : Option (Bor (List ℕ))) → failure_of (no_tolerances early late) ≡ refusal_by (slack_read early late)
 unfolding slack_read
 tolerances early late =
-    first (where_given no_time early) _ ∙ ap (λ o. option_or o (failure_of after_early)) (side (pos 0) early) ∙ go (side_read (pos 0) early) refl
+    first (where_given no_time early) _ ∙ ap (λ o. option_or o (failure_of after_early)) (side (pos 0) early) ∙ go (side_read (pos 0) (given_word early)) refl
   where
     negative : Option RefusedWord
     negative = option_or (where_given no_tolerance early) (where_given no_tolerance late)
@@ -149,23 +149,23 @@ tolerances early late =
     both false true slack = refl
     both false false slack = refl
 
-    last : (less more : ℤ) → side_read (pos 0) early ≡ Ok less → side_read (pos 0) late ≡ Ok more → failure_of negative ≡ refusal_by (slack_of less more)
+    last : (less more : ℤ) → side_read (pos 0) (given_word early) ≡ Ok less → side_read (pos 0) (given_word late) ≡ Ok more → failure_of negative ≡ refusal_by (slack_of less more)
     last less more first_is second_is =
         first (where_given no_tolerance early) (where_given no_tolerance late)
         ∙ ap (λ o. option_or o (failure_of (where_given no_tolerance late))) (below early less first_is)
         ∙ ap (option_or (cond (int_lt less (pos 0)) (Some no_such_word) None)) (below late more second_is)
         ∙ both (int_lt less (pos 0)) (int_lt more (pos 0)) (record { early = less; late = more })
 
-    second : (less : ℤ) → side_read (pos 0) early ≡ Ok less → (read : Result ℤ Failure) → side_read (pos 0) late ≡ read
+    second : (less : ℤ) → side_read (pos 0) (given_word early) ≡ Ok less → (read : Result ℤ Failure) → side_read (pos 0) (given_word late) ≡ read
         → option_or (refusal_by read) (failure_of negative) ≡ refusal_by (and_then read (λ more. slack_of less more))
     second less is (Ok more) second_is = last less more is second_is
     second less is (Err failure) second_is = refl
 
-    go : (read : Result ℤ Failure) → side_read (pos 0) early ≡ read
-        → option_or (refusal_by read) (failure_of after_early) ≡ refusal_by (and_then read (λ less. and_then (side_read (pos 0) late) (λ more. slack_of less more)))
+    go : (read : Result ℤ Failure) → side_read (pos 0) (given_word early) ≡ read
+        → option_or (refusal_by read) (failure_of after_early) ≡ refusal_by (and_then read (λ less. and_then (side_read (pos 0) (given_word late)) (λ more. slack_of less more)))
     go (Ok less) is =
         first (where_given no_time late) negative ∙ ap (λ o. option_or o (failure_of negative)) (side (pos 0) late)
-        ∙ second less is (side_read (pos 0) late) refl
+        ∙ second less is (side_read (pos 0) (given_word late)) refl
     go (Err failure) is = refl
 
 arrows : (word : Option (Bor (List ℕ))) → failure_of (where_given no_yes_or_no word) ≡ refusal_by (arrows_read word)

@@ -1,9 +1,9 @@
 -- What is read of a line, byte after byte.
-use Rattle.std.{proofs.{Common.{zero, suc, ◌≡◌, ◌≢◌, ◌∙◌, ap, sym, subst, inr, refl, ℕ, ◌+◌, ◌<◌, List, [], ◌∷◌, ◌++◌, length, take, Option, None, Some, Ok, Vec, arith, length-append}, KnownBytes.Consumes-trans}, specs.{Prelude.{IsNone, IfSome, option_map}, Io.KnownBytes.{Consumes, IsAtEnd}}}
+use Rattle.std.{proofs.{Common.{zero, suc, ◌≡◌, ◌≢◌, ◌∙◌, ap, sym, subst, inr, ⊎_elim, refl, ℕ, ◌+◌, ◌<◌, List, [], ◌∷◌, ◌++◌, length, take, Option, None, Some, Ok, Vec, arith, length-append}, KnownBytes.Consumes-trans}, specs.{Prelude.{IsNone, IfSome, option_map}, Io.KnownBytes.{Consumes, IsAtEnd}}}
 use Rattle.stn_text.specs.Bytes.{line_feed}
 use Rattle.stn_device.proofs.Known.{Consumes-then_none}
 use Rattle.stn_effects.specs.Printing.{Device}
-use Rattle.stn_shell.specs.Lines.{AreWithinLine, Takes, TakesLine}
+use Rattle.stn_shell.specs.Lines.{AreWithinLine, AreOfLine, Takes, TakesLine}
 
 -- one byte more
 pub within_more : (line : List ℕ) (byte : ℕ) → AreWithinLine line → byte ≢ line_feed → AreWithinLine (line ++ byte ∷ [])
@@ -40,3 +40,11 @@ at_end a b c room left count given line None none some within taken nothing more
 at_end a b c room left count given line (Some one) none some within taken nothing more end passed =
     let all : Takes room left a c line.items = (Consumes-then_none a.bytes b.bytes c.bytes line.items given count nothing taken.0 more, taken.1, passed ∙ taken.2) in
     (line.items, (subst AreWithinLine (sym some.0) within, inr (sym some.0, (λ empty. some.1 (sym some.0 ∙ empty)), end)), all)
+
+-- a line has a byte, so less may be read after it
+some_byte : (line bytes : List ℕ) (after : Option (List ℕ)) → AreOfLine line after bytes → 0 < length bytes
+some_byte line [] after of = absurd (⊎_elim (λ cut. omega (arith, ap length cut, length-append line (line_feed ∷ []))) (λ end. end.1 (sym end.0)) of.1)
+some_byte line (first ∷ bytes) after of = omega arith
+
+pub less_room : (room left : ℕ) (a b : Device) (line : List ℕ) → TakesLine room left a b (Ok (Some line)) → left < room
+less_room room left a b line (bytes, of, taken) = omega (arith, taken.1, some_byte line bytes b.bytes of)

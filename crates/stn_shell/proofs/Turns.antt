@@ -1,8 +1,8 @@
 -- The lines of a shell: their words, how they are read, and how they come one after the other.
-use Rattle.std.{proofs.Common.{Bor, map, Bool, true, false, ◌≡◌, ◌∙◌, ap, sym, subst, refl, ℕ, ◌+◌, List, [], ◌∷◌, ◌++◌, append_assoc}, specs.{Prelude.{IsUtf8, if◌then◌else◌, Ok, Err, Result}, Int.from_bool, List.AllByRecursion}}
-use Rattle.stn_effects.specs.Effects.{Effect, Then, stopped, went, Gives, seen}
+use Rattle.std.{proofs.Common.{Bor, map, Bool, true, false, ◌≡◌, ◌∙◌, ap, sym, refl, ℕ, List, [], ◌∷◌, ◌++◌, append_assoc}, specs.{Prelude.{IsUtf8, if◌then◌else◌, Ok, Err, Result}, Int.from_bool, List.AllByRecursion}}
+use Rattle.stn_effects.specs.Effects.{Effect, stopped, went, seen}
 use Rattle.stn_refusal.specs.declared.failure.Failure.{Failure}
-use Rattle.stn_shell.specs.{Carried.{Succeeds, Answers, Does}, Outside.Outside}
+use Rattle.stn_shell.specs.{Carried.{Succeeds, Does}, Outside.Outside}
 
 -- one text more
 pub texts_more : (words : List (List ℕ)) (word : List ℕ) → AllByRecursion IsUtf8 words → IsUtf8 word → AllByRecursion IsUtf8 (words ++ word ∷ [])

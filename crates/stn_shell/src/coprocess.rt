@@ -1,13 +1,12 @@
 //! A shell on a log.
 
-ghost use Rattle.std.specs.{Prelude.{◌≡◌, ◌≢◌, ◌+◌, ◌<◌, ◌≤◌, ◌++◌, [], ◌∷◌, ℕ, List, true, false, None, Some, Ok, map, IsUtf8, IfOk, IfErr, OnOk, OnErr, IfSome, IsNone}, List.AllByRecursion};
-ghost use Rattle.stn_device.specs.Bytes.{most_bytes};
+ghost use Rattle.std.specs.{Prelude.{◌≡◌, ◌≢◌, ◌≤◌, ◌++◌, [], ◌∷◌, ℕ, List, true, false, None, Some, Ok, map, IsUtf8, IfOk, IfErr, OnOk, OnErr, IfSome, IsNone}, List.AllByRecursion};
 ghost use Rattle.stn_effects.specs.{Effects.{seen, Then}, Printing.{Device, device_of, Prints, IsUnprinted, TellsText}};
 ghost use Rattle.stn_text.specs.{Bytes.line_feed, Lines.words_of};
 ghost use Rattle.stn_exec.specs.Script.{is_skipped as skips};
 ghost use Rattle.stn_logs.specs.Commands.{DoesLine};
 ghost use Rattle.stn_refusal.specs.Printed.{refusal_text};
-ghost use Rattle.stn_shell.specs.{Coprocess.{standing, line_words, of_shell, DoesText, DoesWords, ReadsTexts, DoesLines, RunsShell, SaysWhy, Turns}, Outside.{outside, InStore, Mentions, OnError}};
+ghost use Rattle.stn_shell.specs.{Coprocess.{line_words, of_shell, DoesText, DoesWords, ReadsTexts, RunsShell, SaysWhy}, Outside.{outside, InStore, Mentions, OnError}};
 ghost use Rattle.stn_reasons.specs.Waiting.{TellsWaiting};
 
 use crate::lines::read_line;
@@ -27,14 +26,6 @@ use stn_time::Memory;
 // What is said of a command line that a shell doesn't do.
 const NOT_OF_SHELL: &[u8] = b"error: not a command of a shell\n";
 
-/// How far a shell came: how many lines it read, how many bytes it may still read, and whether a line was refused.
-#[derive(Clone, Copy)]
-pub struct Progress {
-    lines: u32,
-    room: usize,
-    refused: bool,
-}
-
 /// Does each line of an input as the command on the log, and answers it, before it reads more. Its status is 0 where no line was refused,
 /// else 1; or a device failed, and the shell did not read on.
 pub fn run_shell<S: Store<Global>, R: Read, W: Write, E: Write>(
@@ -50,80 +41,16 @@ pub fn run_shell<S: Store<Global>, R: Read, W: Write, E: Write>(
         (outside (S.entries store.old) (device_of R.remaining reader.old) (device_of W.contents out.old) (device_of E.contents err.old))
         (outside (S.entries store.new) (device_of R.remaining reader.new) (device_of W.contents out.new) (device_of E.contents err.new)) result }
 {
-    let mut progress = Progress {
-        lines: 0,
-        room: MOST_BYTES,
-        refused: false,
-    };
     let mut kept = Kept::nothing();
-    let done = do_lines(
-        alloc,
-        store,
-        &mut kept,
-        log,
-        &mut progress,
-        reader,
-        out,
-        err,
-    );
-    drop(kept);
-    done?;
-    Ok(u8::from(progress.refused))
-}
-
-// Does the lines of an input.
-fn do_lines<S: Store<Global>, R: Read, W: Write, E: Write>(
-    alloc: Global,
-    store: &mut S,
-    kept: &mut Kept<Global>,
-    log: &SiteLog<'_>,
-    progress: &mut Progress,
-    reader: &mut Counted<R>,
-    out: &mut Counted<W>,
-    err: &mut Counted<E>,
-) -> Result<(), Failure>
-    requires { progress.old.lines + progress.old.room ≤ most_bytes }
-    ensures { DoesLines S.fails log.now
-        (standing progress.old (outside (S.entries store.old) (device_of R.remaining reader.old) (device_of W.contents out.old) (device_of E.contents err.old)))
-        (standing progress.new (outside (S.entries store.new) (device_of R.remaining reader.new) (device_of W.contents out.new) (device_of E.contents err.new))) result }
-{
-    find_log(store, kept, log)?;
-    'turns: loop {
-        let more = turn(alloc, store, kept, log, progress, reader, out, err)?;
-        if !more {
-            return Ok(());
-        }
+    find_log(store, &mut kept, log)?;
+    let mut lines = 0;
+    let mut room = MOST_BYTES;
+    let mut refused = false;
+    'turns: while let Some(text) = read_line(alloc, reader, &mut room)? {
+        lines += 1;
+        refused |= do_line(alloc, store, &mut kept, log, lines, &text, out, err)?;
     }
-}
-
-// Reads a line, does it, and answers it. Whether there was one.
-fn turn<S: Store<Global>, R: Read, W: Write, E: Write>(
-    alloc: Global,
-    store: &mut S,
-    kept: &mut Kept<Global>,
-    log: &SiteLog<'_>,
-    progress: &mut Progress,
-    reader: &mut Counted<R>,
-    out: &mut Counted<W>,
-    err: &mut Counted<E>,
-) -> Result<bool, Failure>
-    requires { progress.old.lines + progress.old.room ≤ most_bytes }
-    ensures room { IfOk result (λ more. (more ≡ true → progress.new.room < progress.old.room)
-        × (progress.new.lines + progress.new.room ≤ most_bytes)) }
-    ensures turned { Turns S.fails log.now
-        (standing progress.old (outside (S.entries store.old) (device_of R.remaining reader.old) (device_of W.contents out.old) (device_of E.contents err.old)))
-        (standing progress.new (outside (S.entries store.new) (device_of R.remaining reader.new) (device_of W.contents out.new) (device_of E.contents err.new))) result }
-{
-    match read_line(alloc, reader, &mut progress.room)? {
-        Some(text) => {
-            progress.lines += 1;
-            let refused = do_line(alloc, store, kept, log, progress.lines, &text, out, err);
-            drop(text);
-            progress.refused |= refused?;
-            Ok(true)
-        }
-        None => Ok(false),
-    }
+    Ok(u8::from(refused))
 }
 
 // Does a line of this number, and answers it; but not a comment, nor a line without words. Whether it is refused.

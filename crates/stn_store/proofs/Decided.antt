@@ -24,11 +24,7 @@ pub load_failed : (known rest : Option (List ℕ)) (fault : LoadFault) → IfSom
     ⊎ ((cause : LoadFault) × IsLogIn known (Err cause) × (load_failure fault ≡ load_failure cause)))
 load_failed known rest load.Memory decided = inl refl
 load_failed known rest load.Read decided = inr (inl refl)
-load_failed known rest load.Bound decided = inr (inr (_, decided_log known rest _ decided, refl))
-load_failed known rest load.LogForm decided = inr (inr (_, decided_log known rest _ decided, refl))
-load_failed known rest (load.Frame fault) decided = inr (inr (_, decided_log known rest _ decided, refl))
-load_failed known rest (load.Base fault) decided = inr (inr (_, decided_log known rest _ decided, refl))
-load_failed known rest (load.Take fault) decided = inr (inr (_, decided_log known rest _ decided, refl))
+load_failed known rest fault decided = inr (inr (fault, decided_log known rest (Err fault) decided, refl))
 
 pub decided_log_of : (known first rest : Option (List ℕ)) (meaning : Result Log LoadFault) → first ≡ known → IsDecided first rest meaning
     → IsLogIn known meaning

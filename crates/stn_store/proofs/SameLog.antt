@@ -1,7 +1,7 @@
 -- Sites that hold the same of the same plan have the same log.
-use Rattle.std.proofs.Common.{◌≡◌, ℕ, List, Option, Result, Ok, OnOk, sym, subst, ◌∙◌}
+use Rattle.std.proofs.Common.{◌≡◌, ℕ, List, Option, Ok, sym, subst, ◌∙◌}
 use Rattle.stn_site.specs.Held.{Held}
-use Rattle.stn_store.{specs.{Log.{Log, log_held}, Store.{Entry, Means, Opens, saved_too}}, proofs.log.Saved.same_log}
+use Rattle.stn_store.{specs.{Log.{Log}, Store.{Entry, Means, Opens}}, proofs.log.Saved.same_log}
 
 -- it is opened for either
 pub opens_same : (entries : Option (List Entry)) (name : List ℕ) (site : ℕ) (one other : Held) → other.site ≡ one.site → other.source ≡ one.source

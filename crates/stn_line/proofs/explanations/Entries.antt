@@ -1,72 +1,32 @@
 -- The entries of all subjects.
-use Rattle.std.{proofs.{Common.{arith, refl, ◌+◌, true≢false, ◌≡◌, ◌≢◌, ◌∙◌, ◌<◌, ◌≤◌, ◌&&◌, ◌++◌, Bool, true, false, ℕ, List, [], ◌∷◌, length, map, take, get_or, sym, ap, Option, Some, subst, All}, lemmas.{List.{append_assoc, append-nil, map_more, take_all, Elements.{All-nil, All-cons, All-map}}, Bool.Decides.Decides-eqb, Slice.Eq.bytes_eq-Decides}}, specs.List.list_all}
+use Rattle.std.{proofs.{Common.{refl, ◌+◌, true≢false, ◌≡◌, ◌≢◌, ◌∙◌, ◌<◌, ◌≤◌, ◌&&◌, ◌==◌, ◌++◌, Bool, true, false, ℕ, List, [], ◌∷◌, length, map, take, get_or, sym, ap, Option, Some, subst, All}, lemmas.{List.{append_assoc, append-nil, map_more, take_all, Elements.{All-nil, All-cons, All-map, recursion_from_All}}, Bool.{and_parts, Decides.Decides-eqb}, Slice.Eq.bytes_eq-Decides}}, specs.{Prelude.find, List.list_all, Str.bytes_eq}}
 use Rattle.stn_text.specs.{Bytes.line_feed, Lines.{is_word, lines_of}}
+use Rattle.stn_refusal.specs.Codes.{number_of}
 use Rattle.stn_refusal.specs.declared.code.Code.TheVariants as code
 use Rattle.stn_refusal.specs.declared.failure.Fault.TheVariants as fault
-use Rattle.stn_line.specs.{Explanations.{Explained.{IsMeaning, AreMeanings, IsExplained, NamesNothing}, Subjects.{subjects, subject_word}, Table.{IsInLines, IsTable, is_only_line, is_ended, says}}, declared.explanations.{subject.Subject.Subject, table.Entry.Entry}}
+use Rattle.stn_line.proofs.Values.{find_each}
+use Rattle.stn_line.specs.{Explanations.{Explained.{IsMeaning, AreMeanings, IsExplained, NamesNothing}, Subjects.{subjects, subject_word, word_of_fault}, Table.{IsInLines, IsTable, is_only_line, is_ended, says}}, declared.explanations.{subject.Subject.Subject, table.Entry.Entry}}
 use Rattle.stn_line.specs.declared.explanations.subject.Subject.TheVariants as subject
 
--- what holds of all subjects of the list holds of each
+-- two subjects are one
+abbrev is_same : Subject → Subject → Bool
+is_same (subject.Refusal cause) (subject.Refusal other) = number_of cause == number_of other
+is_same (subject.Fault cause) (subject.Fault other) = bytes_eq (word_of_fault cause) (word_of_fault other)
+is_same one other = false
+
+-- each is found among all
+found : (s : Subject) → find (is_same s) subjects ≡ Some s
+found (subject.Refusal code.Malformed) = refl
+found (subject.Refusal cause) = refl
+found (subject.Fault fault.File) = refl
+found (subject.Fault cause) = refl
+
 at_each : (P : Subject → Type 0) → All P subjects → (s : Subject) → P s
-at_each P all (subject.Refusal code.Malformed) = all 0 (subject.Fault fault.File) (omega arith)
-at_each P all (subject.Refusal code.TooFine) = all 1 (subject.Fault fault.File) (omega arith)
-at_each P all (subject.Refusal code.OutOfRange) = all 2 (subject.Fault fault.File) (omega arith)
-at_each P all (subject.Refusal code.NoEvent) = all 3 (subject.Fault fault.File) (omega arith)
-at_each P all (subject.Refusal code.SameEvent) = all 4 (subject.Fault fault.File) (omega arith)
-at_each P all (subject.Refusal code.Crossed) = all 5 (subject.Fault fault.File) (omega arith)
-at_each P all (subject.Refusal code.Overdue) = all 6 (subject.Fault fault.File) (omega arith)
-at_each P all (subject.Refusal code.DomainTooLong) = all 7 (subject.Fault fault.File) (omega arith)
-at_each P all (subject.Refusal code.DomainSyntax) = all 8 (subject.Fault fault.File) (omega arith)
-at_each P all (subject.Refusal code.DomainTooDeep) = all 9 (subject.Fault fault.File) (omega arith)
-at_each P all (subject.Refusal code.DomainUnsupported) = all 10 (subject.Fault fault.File) (omega arith)
-at_each P all (subject.Refusal code.DomainNumber) = all 11 (subject.Fault fault.File) (omega arith)
-at_each P all (subject.Refusal code.DomainTwice) = all 12 (subject.Fault fault.File) (omega arith)
-at_each P all (subject.Refusal code.DomainVariable) = all 13 (subject.Fault fault.File) (omega arith)
-at_each P all (subject.Refusal code.PlanTooLong) = all 14 (subject.Fault fault.File) (omega arith)
-at_each P all (subject.Refusal code.PlanSyntax) = all 15 (subject.Fault fault.File) (omega arith)
-at_each P all (subject.Refusal code.PlanNumber) = all 16 (subject.Fault fault.File) (omega arith)
-at_each P all (subject.Refusal code.PlanNegative) = all 17 (subject.Fault fault.File) (omega arith)
-at_each P all (subject.Refusal code.PlanTooManySteps) = all 18 (subject.Fault fault.File) (omega arith)
-at_each P all (subject.Refusal code.UnknownAction) = all 19 (subject.Fault fault.File) (omega arith)
-at_each P all (subject.Refusal code.Arity) = all 20 (subject.Fault fault.File) (omega arith)
-at_each P all (subject.Refusal code.DurationDiffers) = all 21 (subject.Fault fault.File) (omega arith)
-at_each P all (subject.Refusal code.PastHorizon) = all 22 (subject.Fault fault.File) (omega arith)
-at_each P all (subject.Refusal code.BareTooManySteps) = all 23 (subject.Fault fault.File) (omega arith)
-at_each P all (subject.Refusal code.Clash) = all 24 (subject.Fault fault.File) (omega arith)
-at_each P all (subject.Refusal code.Full) = all 25 (subject.Fault fault.File) (omega arith)
-at_each P all (subject.Refusal code.Unknown) = all 26 (subject.Fault fault.File) (omega arith)
-at_each P all (subject.Refusal code.CounterSpent) = all 27 (subject.Fault fault.File) (omega arith)
-at_each P all (subject.Refusal code.SelfReplace) = all 28 (subject.Fault fault.File) (omega arith)
-at_each P all (subject.Refusal code.NotRobust) = all 29 (subject.Fault fault.File) (omega arith)
-at_each P all (subject.Refusal code.FrameLength) = all 30 (subject.Fault fault.File) (omega arith)
-at_each P all (subject.Refusal code.FrameKind) = all 31 (subject.Fault fault.File) (omega arith)
-at_each P all (subject.Refusal code.FrameBody) = all 32 (subject.Fault fault.File) (omega arith)
-at_each P all (subject.Refusal code.OldFrame) = all 33 (subject.Fault fault.File) (omega arith)
-at_each P all (subject.Refusal code.OtherPlan) = all 34 (subject.Fault fault.File) (omega arith)
-at_each P all (subject.Refusal code.Unexpected) = all 35 (subject.Fault fault.File) (omega arith)
-at_each P all (subject.Refusal code.LogForm) = all 36 (subject.Fault fault.File) (omega arith)
-at_each P all (subject.Refusal code.Reply) = all 37 (subject.Fault fault.File) (omega arith)
-at_each P all (subject.Refusal code.LogThere) = all 38 (subject.Fault fault.File) (omega arith)
-at_each P all (subject.Refusal code.OldVersion) = all 39 (subject.Fault fault.File) (omega arith)
-at_each P all (subject.Refusal code.Line) = all 40 (subject.Fault fault.File) (omega arith)
-at_each P all (subject.Refusal code.NoSite) = all 41 (subject.Fault fault.File) (omega arith)
-at_each P all (subject.Refusal code.NoPacket) = all 42 (subject.Fault fault.File) (omega arith)
-at_each P all (subject.Refusal code.TooManyPackets) = all 43 (subject.Fault fault.File) (omega arith)
-at_each P all (subject.Fault fault.File) = all 44 (subject.Fault fault.File) (omega arith)
-at_each P all (subject.Fault fault.Net) = all 45 (subject.Fault fault.File) (omega arith)
-at_each P all (subject.Fault fault.Read) = all 46 (subject.Fault fault.File) (omega arith)
-at_each P all (subject.Fault fault.Write) = all 47 (subject.Fault fault.File) (omega arith)
-at_each P all (subject.Fault fault.Bound) = all 48 (subject.Fault fault.File) (omega arith)
-at_each P all (subject.Fault fault.Memory) = all 49 (subject.Fault fault.File) (omega arith)
+at_each P all s = (find_each P (is_same s) subjects s (recursion_from_All P subjects all) (found s)).0
 
 -- what holds of the subjects of the entries of all
 all_named : (P : Subject → Type 0) (entries : List Entry) → map (λ entry. entry.subject) entries ≡ subjects → All (λ entry. P entry.subject) entries → All P subjects
 all_named P entries are hold = subst (All P) are (All-map P (λ entry. entry.subject) entries hold)
-
-both : (a b : Bool) → (a && b) ≡ true → (a ≡ true) × (b ≡ true)
-both true true is = (refl, refl)
-both true false is = absurd (true≢false (sym is))
-both false b is = absurd (true≢false (sym is))
 
 alone : (text : List ℕ) (lines : List (List ℕ)) → is_only_line text lines ≡ true → lines ≡ text ∷ []
 alone text [] is = absurd (true≢false (sym is))
@@ -80,7 +40,7 @@ is_some (byte ∷ rest) is none = absurd (true≢false (ap is_word none))
 all_some : (lines : List (List ℕ)) → list_all is_word lines ≡ true → All (λ line. line ≢ []) lines
 all_some [] is = All-nil (λ line. line ≢ [])
 all_some (line ∷ rest) is =
-    let parts = both (is_word line) (list_all is_word rest) is in
+    let parts = and_parts (is_word line) (list_all is_word rest) is in
     All-cons (λ one. one ≢ []) line rest (is_some line parts.0) (all_some rest parts.1)
 
 ended : (text : List ℕ) → is_ended text ≡ true → (front : List ℕ) × (text ≡ front ++ line_feed ∷ [])
@@ -90,8 +50,8 @@ ended (byte ∷ other ∷ rest) is = let more = ended (other ∷ rest) is in (by
 
 said_entry : (entry : Entry) → says entry ≡ true → IsInLines entry
 said_entry entry is =
-    let texts = both (is_only_line entry.meaning.now (lines_of entry.meaning.now)) (list_all is_word (lines_of entry.more.now) && is_ended entry.more.now) is in
-    let lines = both (list_all is_word (lines_of entry.more.now)) (is_ended entry.more.now) texts.1 in
+    let texts = and_parts (is_only_line entry.meaning.now (lines_of entry.meaning.now)) (list_all is_word (lines_of entry.more.now) && is_ended entry.more.now) is in
+    let lines = and_parts (list_all is_word (lines_of entry.more.now)) (is_ended entry.more.now) texts.1 in
     record {
       meaning = alone entry.meaning.now (lines_of entry.meaning.now) texts.0;
       more = record { each = all_some (lines_of entry.more.now) lines.0; ended = ended entry.more.now lines.1 };
@@ -101,7 +61,7 @@ said_entry entry is =
 all_say : (entries : List Entry) → list_all says entries ≡ true → All IsInLines entries
 all_say [] is = All-nil IsInLines
 all_say (entry ∷ rest) is =
-    let parts = both (says entry) (list_all says rest) is in
+    let parts = and_parts (says entry) (list_all says rest) is in
     All-cons IsInLines entry rest (said_entry entry parts.0) (all_say rest parts.1)
 
 pub all_entries : (entries : List Entry) → IsTable entries → All IsInLines entries

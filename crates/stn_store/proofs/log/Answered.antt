@@ -1,35 +1,36 @@
--- Which fault an answer is, and what it counts.
-use Rattle.std.proofs.{Common.{◌≡◌, Bool, true, false, Result, Err, refl, sym, ap, ◌∙◌}, lemmas.Bool.false≢true}
-use Rattle.stn_device.proofs.Known.{fault_or}
-use Rattle.stn_lift.specs.declared.fault.BaseFault.{BaseFault}
-use Rattle.stn_lift.specs.declared.fault.BaseFault.TheVariants as base
-use Rattle.stn_site.specs.declared.faults.ReplicaFault.{ReplicaFault}
-use Rattle.stn_site.specs.declared.faults.ReplicaFault.TheVariants as replica
-use Rattle.stn_store.specs.{Log.Faults.{of_base, of_replica}, declared.log.fault.LoadFault.{LoadFault, TheVariants.{Read, Bound}}}
+-- What is answered where no read failed and the log is not too long.
+use Rattle.std.proofs.{Common.{◌≡◌, ℕ, ◌+◌, false, List, Option, Ok, Err, IfSome, sym, ap, ◌∙◌}, lemmas.Bool.false≢true}
+use Rattle.std.specs.Io.KnownBytes.{IsAtEnd}
+use Rattle.stn_device.{specs.{declared.counted.Counted.Counted, Counted.{counted_device, KeepsCount}, Bytes.{most_bytes, ConsumesAtMost}}, proofs.Known.{fault_or, not_err}}
+use Rattle.stn_site.specs.Held.{Held}
+use Rattle.stn_store.specs.{Log.{log_held, meaning_of, IsDecided, Loading.Loads, Opening.is_cut_off}, declared.log.fault.LoadFault.{LoadFault, TheVariants.{Read, Bound}}}
 
--- whether reading failed or went on too long, and no frame was refused
-abbrev pub is_cut_off : LoadFault → Bool
-is_cut_off Read = true
-is_cut_off Bound = true
-is_cut_off fault = false
+module _ {R : Type 0} (remaining : R → Option (List ℕ)) (number : ℕ) (old new : Counted R) where
+  -- another fault
+  pub uncut : (fault : LoadFault) → is_cut_off fault ≡ false → IfSome (meaning_of (Err fault)) (IsDecided (remaining (counted_device old)) (remaining (counted_device new)))
+      → KeepsCount old new → ConsumesAtMost (remaining (counted_device old)) (remaining (counted_device new)) (most_bytes + 1) → Loads remaining number old new (Err fault)
+  uncut fault whole decided kept used = record {
+    meaning = decided;
+    end = tt;
+    site = tt;
+    «open» = λ is. absurd (false≢true (sym whole ∙ ap is_cut_off (ap (fault_or Read) is)));
+    read = λ is. absurd (false≢true (sym whole ∙ ap is_cut_off (ap (fault_or Read) is)));
+    bound = λ is. absurd (false≢true (sym whole ∙ ap is_cut_off (ap (fault_or Bound) is)));
+    kept = λ _. kept;
+    used = used;
+  }
 
-pub not_read : {X : Type 0} (fault : LoadFault) → is_cut_off fault ≡ false → (let answer : Result X LoadFault = Err fault in answer) ≡ Err Read → ⊥
-not_read fault whole is = false≢true (sym whole ∙ ap is_cut_off (ap (fault_or Read) is))
-
-pub not_bound : {X : Type 0} (fault : LoadFault) → is_cut_off fault ≡ false → (let answer : Result X LoadFault = Err fault in answer) ≡ Err Bound → ⊥
-not_bound fault whole is = false≢true (sym whole ∙ ap is_cut_off (ap (fault_or Read) is))
-
-pub replica_not_cut : (fault : ReplicaFault) → is_cut_off (of_replica fault) ≡ false
-replica_not_cut (replica.Bound fault) = refl
-replica_not_cut replica.CounterSpent = refl
-replica_not_cut replica.Full = refl
-replica_not_cut replica.Unknown = refl
-replica_not_cut (replica.Clash id) = refl
-replica_not_cut replica.Memory = refl
-
-pub base_not_cut : (fault : BaseFault) → is_cut_off (of_base fault) ≡ false
-base_not_cut (base.Domain fault) = refl
-base_not_cut (base.Plan fault) = refl
-base_not_cut (base.Lift fault) = refl
-base_not_cut base.TooManySteps = refl
-base_not_cut base.Memory = refl
+  -- a copy of a plan
+  pub loaded : (held : Held) → IsDecided (remaining (counted_device old)) (remaining (counted_device new)) (Ok (log_held held)) → IsAtEnd (remaining (counted_device new))
+      → held.site ≡ number → KeepsCount old new → ConsumesAtMost (remaining (counted_device old)) (remaining (counted_device new)) (most_bytes + 1)
+      → Loads remaining number old new (Ok held)
+  loaded held decided end own kept used = record {
+    meaning = decided;
+    end = end;
+    site = own;
+    «open» = λ is. absurd (not_err _ _ is);
+    read = λ is. absurd (not_err _ _ is);
+    bound = λ is. absurd (not_err _ _ is);
+    kept = λ _. kept;
+    used = used;
+  }

@@ -3,12 +3,6 @@ use Rattle.std.{proofs.{Common.{◌≡◌, ℕ, Bool, List, [], ◌∷◌, ◌++
 use Rattle.stn_wire.{specs.{Frame.{FrameContent, spelling, IsFrame}, Front.{Front, whole, faulty, unfinished, IsFront}, declared.fault.WireFault.WireFault}, proofs.Fronts.whole_spelled}
 use Rattle.stn_store.specs.{Log.{Log, LogSoFar, taken, all_taken, all_taken_by, IsEnding, IsLogAnswer, IsRest}, declared.log.fault.LoadFault.{LoadFault, TheVariants.{Read, Bound, Frame, LogForm, Base, Take, Memory}}}
 
-not_unfinished : (frame : FrameContent) (n : ℕ) → whole frame n ≡ unfinished → ⊥
-not_unfinished frame n e = absurd cc
-
-not_faulty : (frame : FrameContent) (n : ℕ) (fault : WireFault) → whole frame n ≡ faulty fault → ⊥
-not_faulty frame n fault e = absurd cc
-
 apart : (fault : WireFault) → faulty fault ≡ unfinished → ⊥
 apart fault e = absurd cc
 
@@ -22,18 +16,17 @@ module _ (fronts : (bytes : List ℕ) (a b : Front) → IsFront bytes a → IsFr
 
   -- an ending is after all whole frames
   no_frame : (more : Bool) (log : Option LogSoFar) (frame : FrameContent) (tail : List ℕ) (meaning : Result Log LoadFault) → IsFrame frame → IsEnding more (spelling frame ++ tail) log meaning → ⊥
-  no_frame more log frame tail (Ok log') h e =
-      not_unfinished frame _ (fronts (spelling frame ++ tail) (whole frame (length (spelling frame))) unfinished (whole_spelled frame tail h) (nothing (spelling frame ++ tail) e.1))
-  no_frame more log frame tail (Err (Frame fault)) h e =
-      not_faulty frame _ fault (fronts (spelling frame ++ tail) (whole frame (length (spelling frame))) (faulty fault) (whole_spelled frame tail h) e)
-  no_frame more log frame tail (Err LogForm) h e =
-      not_unfinished frame _ (fronts (spelling frame ++ tail) (whole frame (length (spelling frame))) unfinished (whole_spelled frame tail h) e.1)
-  no_frame more log frame tail (Err Bound) h e =
-      not_unfinished frame _ (fronts (spelling frame ++ tail) (whole frame (length (spelling frame))) unfinished (whole_spelled frame tail h) e.1)
-  no_frame more log frame tail (Err Read) h e = e
-  no_frame more log frame tail (Err (Base fault)) h e = e
-  no_frame more log frame tail (Err (Take fault)) h e = e
-  no_frame more log frame tail (Err Memory) h e = e
+  no_frame more log frame tail meaning h e = by meaning e
+    where
+      front : (other : Front) → IsFront (spelling frame ++ tail) other → whole frame (length (spelling frame)) ≡ other
+      front other is = fronts (spelling frame ++ tail) (whole frame (length (spelling frame))) other (whole_spelled frame tail h) is
+
+      by : (meaning : Result Log LoadFault) → IsEnding more (spelling frame ++ tail) log meaning → ⊥
+      by (Ok log') e = let bad = front unfinished (nothing (spelling frame ++ tail) e.1) in cc
+      by (Err (Frame fault)) e = let bad = front (faulty fault) e in cc
+      by (Err LogForm) e = let bad = front unfinished e.1 in cc
+      by (Err Bound) e = let bad = front unfinished e.1 in cc
+      by (Err other) e = e
 
   -- a whole log is no other answer
   whole_alone : (more : Bool) (log : Option LogSoFar) (behind : List ℕ) (one : Log) (meaning : Result Log LoadFault) → IsEnding more behind log (Ok one) → IsEnding more behind log meaning → Ok one ≡ meaning
@@ -41,10 +34,7 @@ module _ (fronts : (bytes : List ℕ) (a b : Front) → IsFront bytes a → IsFr
   whole_alone more log behind one (Err (Frame fault)) p q = absurd (apart fault (fronts behind (faulty fault) unfinished q (nothing behind p.1)))
   whole_alone more log behind one (Err LogForm) p q = absurd (⊎_elim (λ none. none-some one (sym (sym p.2 ∙ ap (option_map (λ (begun : LogSoFar). begun.log)) none))) (λ some. omega (arith, some, ap length p.1)) q.2)
   whole_alone more log behind one (Err Bound) p q = absurd (false≢true (sym p.0 ∙ q.0))
-  whole_alone more log behind one (Err Read) p q = absurd q
-  whole_alone more log behind one (Err (Base fault)) p q = absurd q
-  whole_alone more log behind one (Err (Take fault)) p q = absurd q
-  whole_alone more log behind one (Err Memory) p q = absurd q
+  whole_alone more log behind one (Err other) p q = absurd q
 
   one_ending : (more : Bool) (log : Option LogSoFar) (behind : List ℕ) (a b : Result Log LoadFault) → IsEnding more behind log a → IsEnding more behind log b → a ≡ b
   one_ending more log behind (Ok one) b p q = whole_alone more log behind one b p q
@@ -62,10 +52,7 @@ module _ (fronts : (bytes : List ℕ) (a b : Front) → IsFront bytes a → IsFr
   one_ending more log behind (Err (Base fault)) b p q = absurd p
   one_ending more log behind (Err (Take fault)) b p q = absurd p
   one_ending more log behind (Err Memory) b p q = absurd p
-  one_ending more log behind a (Err Read) p q = absurd q
-  one_ending more log behind a (Err (Base fault)) p q = absurd q
-  one_ending more log behind a (Err (Take fault)) p q = absurd q
-  one_ending more log behind a (Err Memory) p q = absurd q
+  one_ending more log behind a (Err other) p q = absurd q
 
   by_first : (more : Bool) (fs gs : List FrameContent) (behind left : List ℕ) (a b : Result Log LoadFault) (first : Result LogSoFar LoadFault)
       → ((next : LogSoFar) → IsLogAnswer more behind (all_taken (Some next) fs) a → IsLogAnswer more left (all_taken (Some next) gs) b → a ≡ b)

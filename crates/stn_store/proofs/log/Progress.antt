@@ -4,13 +4,12 @@ use Rattle.stn_device.specs.{Bytes.{most_bytes, ConsumesAtMost}, declared.whole.
 use Rattle.stn_time.proofs.Each.{each_pushed}
 use Rattle.stn_wire.{specs.{Frame.{FrameContent, spelling, IsFrame}, Front.{IsFront, faulty, unfinished}, declared.fault.WireFault.WireFault, Stream.{IsNextFrame, IsCounted, Held.Stream}}, proofs.Fronts.fault_more}
 use Rattle.stn_device.specs.declared.whole.ReadFault.TheVariants as stream
-use Rattle.stn_store.specs.{Log.{Log, LogSoFar, log_held, taken, all_taken, all_taken_by, meaning_of, IsEnding, IsLogAnswer, IsRest, IsDecided, IsOpen, Faults.of_stream, Opening.{opened_so_far, closed_log, IsRefused}}, declared.log.{reading.Opened.Opened, fault.LoadFault.{LoadFault, TheVariants.{Read, Bound, Frame, LogForm, Base, Take, Memory}}}}
+use Rattle.stn_store.specs.{Log.{Log, LogSoFar, taken, all_taken, all_taken_by, meaning_of, IsEnding, IsLogAnswer, IsRest, IsDecided, IsOpen, Faults.of_stream, Opening.IsRefused}, declared.log.fault.LoadFault.{LoadFault, TheVariants.{Read, Bound, Frame, LogForm, Memory}}}
 
 -- a read that failed
 pub stream_read : (fault : ReadFault) → of_stream fault ≡ Read → fault ≡ stream.Read
 stream_read stream.Read is = refl
-stream_read stream.Bound is = absurd cc
-stream_read stream.Memory is = absurd cc
+stream_read fault is = cc
 
 -- ---- one frame
 
@@ -182,11 +181,7 @@ module _ (before after : Option (List ℕ)) (log : Option LogSoFar) (rest : List
       → IsRefused (taken log frame) fault → IfSome (meaning_of (Err fault)) (IsDecided before after)
   refuses few frame later valid front Read is = tt
   refuses few frame later valid front Memory is = tt
-  refuses few frame later valid front Bound is = next_refused few frame later valid front _ is
-  refuses few frame later valid front (Frame fault) is = next_refused few frame later valid front _ is
-  refuses few frame later valid front LogForm is = next_refused few frame later valid front _ is
-  refuses few frame later valid front (Base fault) is = next_refused few frame later valid front _ is
-  refuses few frame later valid front (Take fault) is = next_refused few frame later valid front _ is
+  refuses few frame later valid front fault is = next_refused few frame later valid front _ is.1
 
   -- the rest shows a fault
   pub shows_fault : count ≤ 16777216 → (fault : WireFault) → IsFront rest (faulty fault) → IsDecided before after (Err (Frame fault))
@@ -194,16 +189,11 @@ module _ (before after : Option (List ℕ)) (log : Option LogSoFar) (rest : List
       decides few (Err (Frame fault)) (λ more extra. bytes_end more log (rest ++ extra) (Err (Frame fault)) (fault_more rest extra fault front))
 
   -- the input ends between two frames, where a log was opened, or none
-  closes : {A : Type 0} → count ≤ 16777216 → IsAtEnd after → rest ≡ [] → (opened : Opened A) → log ≡ Some (opened_so_far opened) → IsDecided before after (Ok (log_held opened.plan))
-  closes few end none opened is = ends few end (Ok (log_held opened.plan)) (refl, none, ap (option_map (λ (begun : LogSoFar). begun.log)) is)
+  pub closes : (held : LogSoFar) → count ≤ 16777216 → IsAtEnd after → rest ≡ [] → log ≡ Some held → IsDecided before after (Ok held.log)
+  closes held few end none is = ends few end (Ok held.log) (refl, none, ap (option_map (λ (begun : LogSoFar). begun.log)) is)
 
-  closes_empty : count ≤ 16777216 → IsAtEnd after → rest ≡ [] → log ≡ None → IsDecided before after (Err LogForm)
+  pub closes_empty : count ≤ 16777216 → IsAtEnd after → rest ≡ [] → log ≡ None → IsDecided before after (Err LogForm)
   closes_empty few end none is = ends few end (Err LogForm) (refl, subst (λ l. IsFront l unfinished) (sym none) (inl (omega arith)), inl is)
-
-  -- the input ends between two frames
-  pub closed : {A : Type 0} → count ≤ 16777216 → IsAtEnd after → rest ≡ [] → (opened : Option (Opened A)) → log ≡ option_map opened_so_far opened → IsDecided before after (closed_log opened)
-  closed few end none None is = closes_empty few end none is
-  closed few end none (Some opened) is = closes few end none opened is
 
   -- the input ends within a frame
   pub cuts : count ≤ 16777216 → IsAtEnd after → IsFront rest unfinished → 0 < length rest → IsDecided before after (Err LogForm)
@@ -238,14 +228,12 @@ module _ (before after : Option (List ℕ)) (log : Option LogSoFar) (rest : List
   -- nothing more comes of the stream
   module _ (A : Type 0) (now : Stream) where
     pub stream_fails : (fault : ReadFault) → IsNextFrame {A = A} rest now (Err fault) → IsCounted {A = A} count now (Err fault) → IfSome (meaning_of (Err (of_stream fault))) (IsDecided before after)
-    stream_fails stream.Read next counted = tt
     stream_fails stream.Bound next counted = beyond counted next.0 next.1 next.2 next.3
-    stream_fails stream.Memory next counted = tt
+    stream_fails fault next counted = tt
 
     pub stream_used : (fault : ReadFault) → IsCounted {A = A} count now (Err fault) → ConsumesAtMost before after (most_bytes + 1)
-    stream_used stream.Read counted = used (omega (arith, counted))
     stream_used stream.Bound counted = used (omega (arith, counted))
-    stream_used stream.Memory counted = used (omega (arith, counted))
+    stream_used fault counted = used (omega (arith, counted))
 
     pub stream_open : (fault : ReadFault) → of_stream fault ≡ Read → IsNextFrame {A = A} rest now (Err fault) → IsOpen before after
     stream_open stream.Read is next = record {
@@ -257,10 +245,8 @@ module _ (before after : Option (List ℕ)) (log : Option LogSoFar) (rest : List
       taken = p.came;
       unfinished = next;
     }
-    stream_open stream.Bound is next = absurd cc
-    stream_open stream.Memory is next = absurd cc
+    stream_open fault is next = absurd cc
 
     pub stream_bound : (fault : ReadFault) → of_stream fault ≡ Bound → IsCounted {A = A} count now (Err fault) → IfSome before (λ input. most_bytes < length input)
-    stream_bound stream.Read is counted = absurd cc
     stream_bound stream.Bound is counted = too_long counted
-    stream_bound stream.Memory is counted = absurd cc
+    stream_bound fault is counted = absurd cc

@@ -1,6 +1,6 @@
 -- Bytes that are cut into frames and a rest have a meaning as a log.
-use Rattle.std.{proofs.Common.{◌≡◌, ℕ, Bool, true, false, List, [], ◌∷◌, length, Option, Some, None, Result, Ok, Err, ◌⊎◌, inl, inr, refl, arith}, specs.Prelude.option_map}
-use Rattle.stn_wire.{specs.{Frame.FrameContent, Front.{faulty, unfinished, IsFront}, declared.fault.WireFault.WireFault}, proofs.{Fronts.ShowsNone, Cuts.IsCut}}
+use Rattle.std.{proofs.Common.{ℕ, Bool, true, false, List, [], ◌∷◌, Option, Some, None, Result, Ok, Err, inl, inr, refl, arith}}
+use Rattle.stn_wire.{specs.{Frame.FrameContent}, proofs.{Fronts.ShowsNone, Cuts.IsCut}}
 use Rattle.stn_store.specs.{Log.{Log, LogSoFar, all_taken, IsEnding, IsLogAnswer, IsRest}, declared.log.fault.LoadFault.{LoadFault, TheVariants.{Bound, Frame, LogForm}}}
 
 -- what is answered where all frames were taken

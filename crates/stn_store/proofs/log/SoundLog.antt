@@ -1,10 +1,9 @@
 -- What a log says is sound: its source has a base, and its records are of bounds of the plan.
-use Rattle.std.{proofs.{Common.{◌≡◌, ℕ, Bool, true, false, not, List, [], ◌∷◌, Option, Some, None, IfSome, Result, Ok, Err, refl, subst}, lemmas.Option.same_Some}, specs.{Prelude.option_map, Bool.then_some, Option.option_or, List.AllByRecursion, FinMap.entries}}
-use Rattle.stn_net.specs.Difference.{NamesEvents, IsBoundWithin}
+use Rattle.std.{proofs.{Common.{◌≡◌, ℕ, Bool, true, false, not, List, [], ◌∷◌, Option, Some, None, IfSome, Result, Ok, Err, refl, subst}, lemmas.Option.same_Some}, specs.{Prelude.option_map, Bool.then_some, Option.option_or, List.AllByRecursion}}
+use Rattle.stn_net.specs.Difference.{IsBoundWithin}
 use Rattle.stn_lift.{specs.{PlanSource.{PlanSource, events_of, base_of, IsSoundSource}, declared.fault.BaseFault.BaseFault}, proofs.SoundSource.base_sound}
-use Rattle.stn_records.{specs.{Id.SiteCounter, Record.IsProperRecord, declared.record.Record.Record, Maps.{union, AllFit}, Content.{Content, AllProper, no_content, joined_contents}, ContentLaws.{ids_total, ids_exact}}, proofs.{Gets.get_from_entries, Proper.{empty_fits, union_fits}}}
-use Rattle.stn_site.{specs.{declared.faults.ReplicaFault.ReplicaFault, Bounds.RecordsName, Held.holding_state, SoundSite.IsSoundSite, Refusals.{records_name, take_refusal}}, proofs.Refused.records_name-decides}
-use Rattle.stn_replica.proofs.Live.{bounds_from_live}
+use Rattle.stn_records.{specs.{Record.IsProperRecord, declared.record.Record.Record, Maps.{AllFit}, Content.{Content, AllProper, no_content, joined_contents}}, proofs.{Proper.{empty_fits, union_fits}}}
+use Rattle.stn_site.{specs.{declared.faults.ReplicaFault.ReplicaFault, Bounds.RecordsName, Held.holding_state, SoundSite.IsSoundSite, Refusals.{records_name, take_refusal}}, proofs.{Refused.records_name-decides, Live.bounds_from_live}}
 use Rattle.stn_wire.{specs.Frame.{FrameContent, old_hello, old_records, hello, records, IsFrame}, proofs.SaidBounds.said_bounds}
 use Rattle.stn_store.specs.{declared.log.{version.Version.{Version, TheVariants.{Old, New}}, fault.LoadFault.LoadFault}, Log.{Log, LogSoFar, so_far, opened, joined, taken_later, taken, all_taken, all_taken_by, IsLogAnswer, IsRest}}
 

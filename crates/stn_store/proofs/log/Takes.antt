@@ -10,11 +10,8 @@ use Rattle.stn_store.specs.{Log.{Log, log_held, so_far, opened, joined, taken_in
 
 -- a source without a base
 pub base_refused : (version : Version) (source : PlanSource) (fault : BaseFault) → Fails {Y = PlanSource} is_base_memory fault (base_of source) → IsRefused (opened version (base_of source)) (of_base fault)
-base_refused version source (base.Domain fault) is = ap (opened version) is
-base_refused version source (base.Plan fault) is = ap (opened version) is
-base_refused version source (base.Lift fault) is = ap (opened version) is
-base_refused version source base.TooManySteps is = ap (opened version) is
-base_refused version source base.Memory is = tt
+base_refused version source base.Memory is = (refl, tt)
+base_refused version source fault is = (refl, ap (opened version) is)
 
 -- a source with a base
 pub base_opens : (version : Version) (source base : PlanSource) (held : Held) → base_of source ≡ Ok base → held.source ≡ base → held.state ≡ no_content
@@ -23,15 +20,11 @@ base_opens version source base held given from empty = ap (opened version) given
 
 -- a state that is not taken
 named : (version : Version) (log : Log) (state : Content) (fault : ReplicaFault) → IsRefused (joined version (Some fault) log state) (of_replica fault)
-named version log state (replica.Bound fault) = refl
-named version log state replica.CounterSpent = refl
-named version log state replica.Full = refl
-named version log state replica.Unknown = refl
-named version log state (replica.Clash id) = refl
-named version log state replica.Memory = tt
+named version log state replica.Memory = (refl, tt)
+named version log state fault = (refl, refl)
 
 by_refusal : (version : Version) (refusal : Option ReplicaFault) (log : Log) (state : Content) → IsRefused (joined version refusal log state) (of_replica (unwrap_or refusal replica.Memory))
-by_refusal version None log state = tt
+by_refusal version None log state = (refl, tt)
 by_refusal version (Some fault) log state = named version log state fault
 
 pub take_refused : (version : Version) (old : Held) (state : Content) (fault : ReplicaFault) → fault ≡ unwrap_or (take_refusal old state) replica.Memory

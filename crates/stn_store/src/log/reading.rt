@@ -1,8 +1,8 @@
-ghost use Rattle.std.specs.{Prelude.{is_some, true, ◌≡◌, ◌≢◌, ◌+◌, ◌-◌, ◌^◌, ◌<◌, option_map, Some, None, Ok, Err, length, IfOk, IfErr, IfSome, OnOk, IsErrOf, MatchOption}, Io.KnownBytes.IsAtEnd};
-ghost use Rattle.stn_device.specs.{Counted.{counted_device, failure_count, KeepsCount}, Bytes.{most_bytes, ConsumesAtMost}};
-ghost use Rattle.stn_wire.specs.{Frame.content, Stream.unread};
+ghost use Rattle.std.specs.Prelude.{is_some, true, ◌≡◌, ◌-◌, ◌^◌, ◌<◌, option_map, Ok, Err, IfOk, IfErr, IfSome, OnOk, MatchOption};
+ghost use Rattle.stn_device.specs.Counted.{failure_count};
+ghost use Rattle.stn_wire.specs.Frame.{content};
 ghost use Rattle.stn_lift.specs.PlanSource.{plan_source, base_of};
-ghost use Rattle.stn_store.specs.Log.{Log, log_held, so_far, opened, taken, taken_in, taken_later, meaning_by, meaning_of, IsDecided, IsOpen, Loading.Loads, Opening.{opened_so_far, closed_log, IsRefused}};
+ghost use Rattle.stn_store.specs.Log.{Log, log_held, so_far, opened, taken, taken_in, taken_later, Loading.Loads, Opening.{opened_so_far, IsRefused}};
 
 use crate::log::fault::LoadFault;
 use crate::log::version::Version;
@@ -31,15 +31,20 @@ pub fn load_plan<R: Read, A: Allocator + Copy>(
 {
     let mut frames = FrameReader::new(alloc);
     let mut log = None;
-    let read = read_frames(alloc, reader, site, &mut frames, &mut log);
-    drop(frames);
-    if let Err(fault) = read {
-        drop(log);
-        return Err(fault);
-    }
-    match log {
-        Some(opened) => Ok(opened.plan),
-        None => Err(LoadFault::LogForm),
+    'frames: loop {
+        match frames.next(reader)? {
+            Next::Frame(frame) => {
+                let taken = take(alloc, site, &mut log, &frame);
+                drop(frame);
+                taken?;
+            }
+            Next::Faulty(fault) => return Err(LoadFault::from(fault)),
+            Next::Cut => return Err(LoadFault::LogForm),
+            Next::Closed => match log {
+                Some(opened) => return Ok(opened.plan),
+                None => return Err(LoadFault::LogForm),
+            },
+        }
     }
 }
 
@@ -54,46 +59,6 @@ pub fn load<R: Read, A: Allocator + Copy>(
 {
     let plan = load_plan(alloc, reader, site)?;
     Ok(Replica::of(plan)?)
-}
-
-// Reads the frames of a log to its end, and takes each before it asks for more.
-fn read_frames<R: Read, A: Allocator + Copy>(
-    alloc: A,
-    reader: &mut Counted<R>,
-    site: Site,
-    frames: &mut FrameReader<A>,
-    log: &mut Option<Opened<A>>,
-) -> Result<(), LoadFault>
-    requires reader_counts { failure_count reader.old < 2 ^ 64 - 1 }
-    requires unread { frames.old ≡ unread }
-    requires unopened { log.old ≡ None }
-    ensures meaning { IfErr result (λ fault. IfSome (meaning_of (Err fault)) (IsDecided (R.remaining (counted_device reader.old))
-        (R.remaining (counted_device reader.new)))) }
-    ensures closed { OnOk result (IsDecided (R.remaining (counted_device reader.old))
-        (R.remaining (counted_device reader.new)) (closed_log log.new)) }
-    ensures end { OnOk result (IsAtEnd (R.remaining (counted_device reader.new))) }
-    ensures site { OnOk result (IfSome log.new (λ opened. opened.plan.site ≡ site)) }
-    ensures open { IsErrOf result LoadFault.Read → IsOpen (R.remaining (counted_device reader.old))
-        (R.remaining (counted_device reader.new)) }
-    ensures read { IsErrOf result LoadFault.Read → failure_count reader.old < failure_count reader.new }
-    ensures bound { IsErrOf result LoadFault.Bound
-        → IfSome (R.remaining (counted_device reader.old)) (λ input. most_bytes < length input) }
-    ensures kept { result ≢ Err LoadFault.Read → KeepsCount reader.old reader.new }
-    ensures used { ConsumesAtMost (R.remaining (counted_device reader.old))
-        (R.remaining (counted_device reader.new)) (most_bytes + 1) }
-{
-    'frames: loop {
-        match frames.next(reader)? {
-            Next::Frame(frame) => {
-                let taken = take(alloc, site, log, &frame);
-                drop(frame);
-                taken?;
-            }
-            Next::Faulty(fault) => return Err(LoadFault::from(fault)),
-            Next::Cut => return Err(LoadFault::LogForm),
-            Next::Closed => return Ok(()),
-        }
-    }
 }
 
 // A log that is being read: the version of its frames, and the copy of the plan that they make.
@@ -114,8 +79,6 @@ fn take<A: Allocator + Copy>(
     ensures taken { OnOk result (IfSome (option_map opened_so_far log.new) (λ next. taken (option_map opened_so_far log.old) (content frame.now) ≡ Ok next)) }
     ensures opened { OnOk result (is_some (option_map opened_so_far log.new) ≡ true) }
     ensures refused { IfErr result (IsRefused (taken (option_map opened_so_far log.old) (content frame.now))) }
-    ensures bound { result ≢ Err LoadFault.Bound }
-    ensures unread { result ≢ Err LoadFault.Read }
     ensures site { OnOk result (IfSome log.new (λ opened. opened.plan.site ≡ site)) }
 {
     match log {
@@ -130,9 +93,8 @@ fn take<A: Allocator + Copy>(
 
 // The log by its first frame.
 fn open<A: Allocator + Copy>(alloc: A, site: Site, frame: &Frame<A>) -> Result<Opened<A>, LoadFault>
-    ensures meaning { IfSome (meaning_by opened_so_far result) (λ meaning. taken None (content frame.now) ≡ meaning) }
-    ensures bound { result ≢ Err LoadFault.Bound }
-    ensures unread { result ≢ Err LoadFault.Read }
+    ensures taken { IfOk result (λ opened. taken None (content frame.now) ≡ Ok (opened_so_far opened)) }
+    ensures refused { IfErr result (IsRefused (taken None (content frame.now))) }
     ensures site { IfOk result (λ opened. opened.plan.site ≡ site) }
 {
     match frame {
@@ -149,9 +111,8 @@ fn open_by<A: Allocator + Copy>(
     version: Version,
     source: &Source<A>,
 ) -> Result<Opened<A>, LoadFault>
-    ensures meaning { IfSome (meaning_by opened_so_far result) (λ meaning. opened version (base_of (plan_source source.now)) ≡ meaning) }
-    ensures bound { result ≢ Err LoadFault.Bound }
-    ensures unread { result ≢ Err LoadFault.Read }
+    ensures taken { IfOk result (λ log. opened version (base_of (plan_source source.now)) ≡ Ok (opened_so_far log)) }
+    ensures refused { IfErr result (IsRefused (opened version (base_of (plan_source source.now)))) }
     ensures site { IfOk result (λ opened. opened.plan.site ≡ site) }
 {
     let base = Base::from_source(alloc, source)?;
@@ -167,8 +128,6 @@ fn take_records<A: Allocator + Copy>(
 ) -> Result<(), LoadFault>
     ensures taken { OnOk result (taken_later version (log_held plan.old) (content frame.now) ≡ Ok (so_far version (log_held plan.new))) }
     ensures refused { IfErr result (IsRefused (taken_later version (log_held plan.old) (content frame.now))) }
-    ensures bound { result ≢ Err LoadFault.Bound }
-    ensures unread { result ≢ Err LoadFault.Read }
     ensures site { OnOk result (plan.new.site ≡ plan.old.site) }
 {
     match records_of(version, frame) {

@@ -1,5 +1,6 @@
-use Rattle.std.proofs.{Common.{◌≡◌, ◌<◌, refl, ◌∙◌, arith}, lemmas.Result.err_from_is_err_and}
+use Rattle.std.proofs.Common.{◌≡◌, ◌<◌, refl, ◌∙◌, arith}
 use Rattle.stn_exchanges.{specs.Connections.{ServesSite, WithNext}, proofs.Served.{leads_none, leads_more, leads_all, leads_out}}
+use Rattle.stn_store.proofs.Lacks.{passed_on}
 use Rattle.stn_exchanges.proofs.connections.serve_each.Goals as goal
 
 pub sites-init : goal.sites-init
@@ -7,11 +8,10 @@ sites-init g c = record { served = leads_none (WithNext (ServesSite g.S.Store.fa
 
 pub returns-in_err-_session : goal.returns-in_err-_session
 returns-in_err-_session g c =
-    let p = err_from_is_err_and c.from_residual.result c.from_residual.ensures.1 in
     let i = c.sites.invariant in
     let is = c.in_err-_session.ensures in
     let few : c.sites.counter < c.args.count = omega (arith, c.sites-test.true) in
-    rw (p.1, p.2) (record {
+    rw (passed_on _ _ c.from_residual.ensures.1) (record {
       served = leads_out (WithNext (ServesSite g.S.Store.fails c.args.log.now (g.C.SiteCopy.held c.args.copy.now).source)) _ _ _ _ _ _ i.served few (rw i.source at is.served);
       source = is.source ∙ i.source;
       site = is.site ∙ i.site;

@@ -1,13 +1,12 @@
-use Rattle.std.proofs.{Common.{None, refl}, lemmas.Result.err_from_is_err_and}
+use Rattle.std.proofs.Common.{None, refl}
 use Rattle.stn_effects.specs.Effects.{stopped, went}
 use Rattle.stn_site.specs.Calls.{took}
 use Rattle.stn_exchanges.proofs.Joined.{took_log, source_stays, site_stays, held_stays, state_stays}
+use Rattle.stn_store.proofs.Lacks.{passed_on}
 use Rattle.stn_exchanges.proofs.joining.take_log.Goals as goal
 
 pub returns-in_err-said : goal.returns-in_err-said
-returns-in_err-said g c =
-    let p = err_from_is_err_and c.from_residual.result c.from_residual.ensures.1 in
-    rw (p.1, p.2) (record { taken = (stopped _ c.in_err-said.ensures refl, refl); source = refl; site = refl })
+returns-in_err-said g c = rw (passed_on _ _ c.from_residual.ensures.1) (record { taken = (stopped _ c.in_err-said.ensures refl, refl); source = refl; site = refl })
 
 pub returns-in-Some : goal.returns-in-Some
 returns-in-Some g c =

@@ -1,13 +1,13 @@
-use Rattle.std.proofs.{Common.{refl, ◌∙◌}, lemmas.Result.err_from_is_err_and}
+use Rattle.std.proofs.Common.{refl, ◌∙◌}
 use Rattle.stn_device.specs.Partner.{partner_state}
 use Rattle.stn_effects.{specs.{Effects.{stopped, went}, Printing.device_of}, proofs.Endings.wrote}
 use Rattle.stn_exchanges.specs.{Connections.meeting, Joining.shared}
+use Rattle.stn_store.proofs.Lacks.{passed_on}
 use Rattle.stn_exchanges.proofs.partners.send_to_partner.Goals as goal
 
 pub returns-in_err-ask : goal.returns-in_err-ask
 returns-in_err-ask g c =
-    let p = err_from_is_err_and c.from_residual.result c.from_residual.ensures.1 in
-    rw (p.1, p.2) (record {
+    rw (passed_on _ _ c.from_residual.ensures.1) (record {
       sent = stopped _ (c.in_err-ask.ensures (g.S.Store.entries c.args.store.now) (device_of g.O.Write.contents c.args.out.now)) refl;
       source = refl;
       site = refl;
@@ -15,9 +15,8 @@ returns-in_err-ask g c =
 
 pub returns-in_err-text : goal.returns-in_err-text
 returns-in_err-text g c =
-    let p = err_from_is_err_and c.from_residual-in_err-text.result c.from_residual-in_err-text.ensures.1 in
     let is = c.in_err-text.ensures in
-    rw (p.1, p.2) (record {
+    rw (passed_on _ _ c.from_residual-in_err-text.ensures.1) (record {
       sent = went tt (meeting (partner_state g.R.Read.remaining g.W.Write.contents g.W.Finish.ended c.ask.new.partner) (shared (g.C.SiteCopy.held c.args.copy.now).state (g.S.Store.entries c.args.store.now)) (device_of g.O.Write.contents c.args.out.now))
           (c.in_ok-ask.ensures (g.S.Store.entries c.args.store.now) (device_of g.O.Write.contents c.args.out.now)) (stopped _ (is.received (g.S.Store.entries c.args.store.now), refl) refl);
       source = is.source;
@@ -26,10 +25,9 @@ returns-in_err-text g c =
 
 pub returns-in_err-save_join : goal.returns-in_err-save_join
 returns-in_err-save_join g c =
-    let p = err_from_is_err_and c.from_residual-in_err-save_join.result c.from_residual-in_err-save_join.ensures.1 in
     let heard = c.in_ok-text.ensures in
     let is = c.in_err-save_join.ensures in
-    rw (p.1, p.2) (record {
+    rw (passed_on _ _ c.from_residual-in_err-save_join.ensures.1) (record {
       sent = went tt (meeting (partner_state g.R.Read.remaining g.W.Write.contents g.W.Finish.ended c.ask.new.partner) (shared (g.C.SiteCopy.held c.args.copy.now).state (g.S.Store.entries c.args.store.now)) (device_of g.O.Write.contents c.args.out.now))
           (c.in_ok-ask.ensures (g.S.Store.entries c.args.store.now) (device_of g.O.Write.contents c.args.out.now)) (went c.in_ok-text.text.items
           (meeting (partner_state g.R.Read.remaining g.W.Write.contents g.W.Finish.ended c.hear.new.partner) (shared (g.C.SiteCopy.held c.hear.new.copy).state (g.S.Store.entries c.args.store.now)) (device_of g.O.Write.contents c.args.out.now))

@@ -1,23 +1,18 @@
-use Rattle.std.proofs.{Common.{Some, None, refl, ap, inl, inr, ⊎_elim, ◌∙◌}, lemmas.Result.err_from_is_err_and}
+use Rattle.std.proofs.Common.{Some, None, refl, ap, inl, inr, ⊎_elim, ◌∙◌}
 use Rattle.stn_site.specs.Failures.{replica_failure}
 use Rattle.stn_command.specs.Guarding.{guard_text}
 use Rattle.stn_logs.specs.Commands.{updated, unchanged, guarded, conflict}
+use Rattle.stn_store.proofs.Lacks.{passed_on}
 use Rattle.stn_logs.proofs.changes.guard_plan.Goals as goal
 
 pub returns-in_err-ids : goal.returns-in_err-ids
-returns-in_err-ids g c =
-    let p = err_from_is_err_and c.from_residual.result c.from_residual.ensures.1 in
-    rw (p.1, p.2) (⊎_elim (λ memory. inl (ap replica_failure memory)) (λ refusal. inr (_, refusal, refl)) c.in_err-ids.ensures.fault)
+returns-in_err-ids g c = rw (passed_on _ _ c.from_residual.ensures.1) (⊎_elim (λ memory. inl (ap replica_failure memory)) (λ refusal. inr (_, refusal, refl)) c.in_err-ids.ensures.fault)
 
 pub returns-in_err-guard_lines-in-Some : goal.returns-in_err-guard_lines-in-Some
-returns-in_err-guard_lines-in-Some g c =
-    let p = err_from_is_err_and c.from_residual-in_err-guard_lines-in-Some.result c.from_residual-in_err-guard_lines-in-Some.ensures.1 in
-    rw (p.1, p.2) (inl refl)
+returns-in_err-guard_lines-in-Some g c = rw (passed_on _ _ c.from_residual-in_err-guard_lines-in-Some.ensures.1) (inl refl)
 
 pub returns-in_err-guard_lines-in-None : goal.returns-in_err-guard_lines-in-None
-returns-in_err-guard_lines-in-None g c =
-    let p = err_from_is_err_and c.from_residual-in_err-guard_lines-in-None.result c.from_residual-in_err-guard_lines-in-None.ensures.1 in
-    rw (p.1, p.2) (inl refl)
+returns-in_err-guard_lines-in-None g c = rw (passed_on _ _ c.from_residual-in_err-guard_lines-in-None.ensures.1) (inl refl)
 
 pub returns-in_ok-guard_lines-in-Some : goal.returns-in_ok-guard_lines-in-Some
 returns-in_ok-guard_lines-in-Some g c =

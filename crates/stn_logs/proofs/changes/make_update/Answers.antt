@@ -1,4 +1,4 @@
-use Rattle.std.proofs.{Common.{◌≡◌, option_map, sym, ap, inl, inr, ⊎_elim}, lemmas.Result.MatchResult-weaker}
+use Rattle.std.proofs.{Common.{◌≡◌, option_map, sym, ap}, lemmas.Result.MatchResult-weaker}
 use Rattle.stn_effects.proofs.Endings.{makes_of}
 use Rattle.stn_site.specs.{Change.change_refusal, Failures.replica_failure}
 use Rattle.stn_logs.specs.Commands.{seen_outcome, IsChanged, IsGuarded, IsUnguarded}

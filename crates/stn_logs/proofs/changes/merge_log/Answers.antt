@@ -1,27 +1,23 @@
-use Rattle.std.{proofs.{Common.{refl, sym, ap, inl, inr, ⊎_elim}, lemmas.Result.err_from_is_err_and}, specs.Prelude.option_map}
+use Rattle.std.{proofs.Common.{refl, sym, ap, inl, inr, ⊎_elim}, specs.Prelude.option_map}
 use Rattle.stn_effects.specs.Effects.{stopped, went}
 use Rattle.stn_site.specs.Failures.{replica_failure}
-use Rattle.stn_store.proofs.Lacks.{lack_of_memory}
+use Rattle.stn_store.proofs.Lacks.{lack_of_memory, passed_on}
 use Rattle.stn_logs.specs.Commands.{updated}
 use Rattle.stn_logs.proofs.changes.merge_log.Goals as goal
 
 pub returns-in_err-theirs : goal.returns-in_err-theirs
-returns-in_err-theirs g c =
-    let p = err_from_is_err_and c.from_residual.result c.from_residual.ensures.1 in
-    rw (p.1, p.2) (stopped _ (refl, c.in_err-theirs.ensures.failed) refl)
+returns-in_err-theirs g c = rw (passed_on _ _ c.from_residual.ensures.1) (stopped _ (refl, c.in_err-theirs.ensures.failed) refl)
 
 pub returns-in_err-take_in : goal.returns-in_err-take_in
 returns-in_err-take_in g c =
-    let p = err_from_is_err_and c.from_residual-in_err-take_in.result c.from_residual-in_err-take_in.ensures.1 in
     let opened = rw c.site.ensures at c.in_ok-theirs.ensures.opened in
-    rw (p.1, p.2) (went c.in_ok-theirs.theirs _ (refl, opened)
+    rw (passed_on _ _ c.from_residual-in_err-take_in.ensures.1) (went c.in_ok-theirs.theirs _ (refl, opened)
     (refl, ⊎_elim (λ memory. inr (lack_of_memory _ _ memory)) inl c.in_err-take_in.ensures.refused))
 
 pub returns-in_err-copied : goal.returns-in_err-copied
 returns-in_err-copied g c =
-    let p = err_from_is_err_and c.from_residual-in_err-copied.result c.from_residual-in_err-copied.ensures.1 in
     let opened = rw c.site.ensures at c.in_ok-theirs.ensures.opened in
-    rw (p.1, p.2) (went c.in_ok-theirs.theirs _ (refl, opened) (refl, inr (lack_of_memory g.S.Store.fails _ refl)))
+    rw (passed_on _ _ c.from_residual-in_err-copied.ensures.1) (went c.in_ok-theirs.theirs _ (refl, opened) (refl, inr (lack_of_memory g.S.Store.fails _ refl)))
 
 pub returns : goal.returns
 returns g c =

@@ -1,4 +1,4 @@
-use Rattle.std.proofs.Common.{option_map, refl, inl}
+use Rattle.std.proofs.Common.{option_map}
 use Rattle.stn_effects.proofs.Endings.{makes_of}
 use Rattle.stn_line.specs.Explanations.Explained.{IsExplained}
 use Rattle.stn_logs.specs.Commands.{IsExplainRefusal}

@@ -1,6 +1,6 @@
-use Rattle.std.proofs.{Common.{refl, inl, inr, ⊎_elim}, lemmas.Result.err_from_is_err_and}
+use Rattle.std.proofs.Common.{refl, inl, inr, ⊎_elim}
 use Rattle.stn_effects.specs.Effects.{stopped, went}
-use Rattle.stn_store.proofs.Lacks.{lack_of_memory}
+use Rattle.stn_store.proofs.Lacks.{lack_of_memory, passed_on}
 use Rattle.stn_logs.proofs.Read.{right_first, wrong_first}
 use Rattle.stn_logs.proofs.commands.ask_log.Goals as goal
 
@@ -17,9 +17,7 @@ pub returns-in-Rehearse : goal.returns-in-Rehearse
 returns-in-Rehearse g c = rw c.in-Rehearse.is c.foresee-in-Rehearse.ensures
 
 pub returns-in_err-why-in-Why : goal.returns-in_err-why-in-Why
-returns-in_err-why-in-Why g c =
-    let p = err_from_is_err_and c.from_residual.result c.from_residual.ensures.1 in
-    rw (p.1, p.2, c.in-Why.is) (stopped _ (refl, inl (wrong_first _ _ _ c.in_err-why-in-Why.ensures)) refl)
+returns-in_err-why-in-Why g c = rw (passed_on _ _ c.from_residual.ensures.1, c.in-Why.is) (stopped _ (refl, inl (wrong_first _ _ _ c.in_err-why-in-Why.ensures)) refl)
 
 pub returns-in_ok-why-in-Why : goal.returns-in_ok-why-in-Why
 returns-in_ok-why-in-Why g c = rw c.in-Why.is (went _ _ (refl, right_first _ _ _ c.in_ok-why-in-Why.ensures) c.say_of-in-Why.ensures)
@@ -38,9 +36,8 @@ returns-in-Bounds g c = rw c.in-Bounds.is (went _ _ (refl, refl) c.say_of-in-Bou
 
 pub returns-in_err-times-in-Check : goal.returns-in_err-times-in-Check
 returns-in_err-times-in-Check g c =
-    let p = err_from_is_err_and c.from_residual-in_err-times-in-Check.result c.from_residual-in_err-times-in-Check.ensures.1 in
     let read = rw c.deref.ensures.value at c.in_err-times-in-Check.ensures in
-    rw (p.1, p.2, c.in-Check.is) (stopped _ (refl, ⊎_elim (λ memory. inr (lack_of_memory _ _ memory)) (λ wrong. inl (wrong_first _ _ _ wrong)) read) refl)
+    rw (passed_on _ _ c.from_residual-in_err-times-in-Check.ensures.1, c.in-Check.is) (stopped _ (refl, ⊎_elim (λ memory. inr (lack_of_memory _ _ memory)) (λ wrong. inl (wrong_first _ _ _ wrong)) read) refl)
 
 pub returns-in_ok-times-in-Check : goal.returns-in_ok-times-in-Check
 returns-in_ok-times-in-Check g c =

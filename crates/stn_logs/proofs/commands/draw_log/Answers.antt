@@ -1,27 +1,24 @@
-use Rattle.std.proofs.{Common.{refl, sym, inl, inr, ⊎_elim}, lemmas.Result.err_from_is_err_and}
+use Rattle.std.proofs.Common.{refl, sym, inl, inr, ⊎_elim}
 use Rattle.stn_effects.specs.Effects.{stopped, went}
-use Rattle.stn_store.proofs.Lacks.{lack_of_memory}
+use Rattle.stn_store.proofs.Lacks.{lack_of_memory, passed_on}
 use Rattle.stn_picture.specs.Chart.{Look}
 use Rattle.stn_logs.proofs.Read.{right_first, wrong_first, owned_wrong, arrows_wrong, present_wrong, look_right}
 use Rattle.stn_logs.proofs.commands.draw_log.Goals as goal
 
 pub returns-in_err-owned : goal.returns-in_err-owned
 returns-in_err-owned g c =
-    let p = err_from_is_err_and c.from_residual.result c.from_residual.ensures.1 in
     let read = rw c.deref.ensures.value at c.in_err-owned.ensures in
-    rw (p.1, p.2) (stopped _ (refl, ⊎_elim (λ memory. inr (lack_of_memory _ _ memory)) (λ wrong. inl (wrong_first _ _ _ (owned_wrong _ _ _ _ _ wrong))) read) refl)
+    rw (passed_on _ _ c.from_residual.ensures.1) (stopped _ (refl, ⊎_elim (λ memory. inr (lack_of_memory _ _ memory)) (λ wrong. inl (wrong_first _ _ _ (owned_wrong _ _ _ _ _ wrong))) read) refl)
 
 pub returns-in_err-arrows : goal.returns-in_err-arrows
 returns-in_err-arrows g c =
-    let p = err_from_is_err_and c.from_residual-in_err-arrows.result c.from_residual-in_err-arrows.ensures.1 in
     let read = rw c.deref.ensures.value at c.in_ok-owned.ensures in
-    rw (p.1, p.2) (stopped _ (refl, inl (wrong_first _ _ _ (arrows_wrong _ _ _ _ _ _ read (sym c.in_err-arrows.ensures)))) refl)
+    rw (passed_on _ _ c.from_residual-in_err-arrows.ensures.1) (stopped _ (refl, inl (wrong_first _ _ _ (arrows_wrong _ _ _ _ _ _ read (sym c.in_err-arrows.ensures)))) refl)
 
 pub returns-in_err-present : goal.returns-in_err-present
 returns-in_err-present g c =
-    let p = err_from_is_err_and c.from_residual-in_err-present.result c.from_residual-in_err-present.ensures.1 in
     let read = rw c.deref.ensures.value at c.in_ok-owned.ensures in
-    rw (p.1, p.2) (stopped _ (refl, inl (wrong_first _ _ _ (present_wrong _ _ _ _ _ _ _ read (sym c.in_ok-arrows.ensures) (sym c.in_err-present.ensures)))) refl)
+    rw (passed_on _ _ c.from_residual-in_err-present.ensures.1) (stopped _ (refl, inl (wrong_first _ _ _ (present_wrong _ _ _ _ _ _ _ read (sym c.in_ok-arrows.ensures) (sym c.in_err-present.ensures)))) refl)
 
 pub returns : goal.returns
 returns g c =

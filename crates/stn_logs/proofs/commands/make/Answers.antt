@@ -1,14 +1,12 @@
-use Rattle.std.proofs.{Common.{refl, ap, inl, inr, ⊎_elim}, lemmas.Result.err_from_is_err_and}
+use Rattle.std.proofs.Common.{refl, ap, inl, inr, ⊎_elim}
 use Rattle.stn_effects.specs.Effects.{failing, stopped, went}
 use Rattle.stn_lift.specs.{Failures.base_failure, PlanSource.plan_source}
-use Rattle.stn_store.proofs.Lacks.{lack_of_memory}
+use Rattle.stn_store.proofs.Lacks.{lack_of_memory, passed_on}
 use Rattle.stn_logs.proofs.Made.{saved_as}
 use Rattle.stn_logs.proofs.commands.make.Goals as goal
 
 pub returns-in_err-plan : goal.returns-in_err-plan
-returns-in_err-plan g c =
-    let p = err_from_is_err_and c.from_residual.result c.from_residual.ensures.1 in
-    rw (p.1, p.2) (stopped _ (refl, ⊎_elim (λ memory. inr (lack_of_memory _ _ memory)) inl c.in_err-plan.ensures.refused) refl)
+returns-in_err-plan g c = rw (passed_on _ _ c.from_residual.ensures.1) (stopped _ (refl, ⊎_elim (λ memory. inr (lack_of_memory _ _ memory)) inl c.in_err-plan.ensures.refused) refl)
 
 pub returns : goal.returns
 returns g c =

@@ -1,13 +1,11 @@
-use Rattle.std.proofs.{Common.{◌∙◌, List, ℕ, Option, Some, None, refl, sym}, lemmas.Result.err_from_is_err_and}
+use Rattle.std.proofs.Common.{◌∙◌, List, ℕ, Option, Some, None, refl, sym}
 use Rattle.stn_effects.{specs.Effects.{stopped, went}, proofs.Endings.makes_of}
-use Rattle.stn_store.proofs.SameLog.{opens_same}
+use Rattle.stn_store.proofs.{Lacks.passed_on, SameLog.{opens_same}}
 use Rattle.stn_command.specs.{Query.seen_query, Named.{IsSaidBy, IsRefusedBy}}
 use Rattle.stn_logs.proofs.commands.say_of.Goals as goal
 
 pub returns-in_err-known : goal.returns-in_err-known
-returns-in_err-known g c =
-    let p = err_from_is_err_and c.from_residual.result c.from_residual.ensures.1 in
-    rw (p.1, p.2) (stopped _ (refl, c.in_err-known.ensures.failed) refl)
+returns-in_err-known g c = rw (passed_on _ _ c.from_residual.ensures.1) (stopped _ (refl, c.in_err-known.ensures.failed) refl)
 
 pub returns-in-Ok-Some : goal.returns-in-Ok-Some
 returns-in-Ok-Some g c =

@@ -1,7 +1,8 @@
-use Rattle.std.proofs.{Common.{◌≡◌, ◌∙◌, Err, refl, sym, ap, inl}, lemmas.Result.err_from_is_err_and}
+use Rattle.std.proofs.Common.{◌≡◌, ◌∙◌, Err, refl, sym, ap, inl}
 use Rattle.stn_effects.specs.Effects.{stopped, went}
 use Rattle.stn_lift.specs.PlanSource.{bare, files, plan_source}
 use Rattle.stn_logs.specs.Commands.{nameless}
+use Rattle.stn_store.proofs.Lacks.{passed_on}
 use Rattle.stn_logs.proofs.commands.text_of_file.Goals as goal
 
 pub returns-in-Files : goal.returns-in-Files
@@ -11,9 +12,8 @@ returns-in-Files g c =
 
 pub returns-in_err-text-in-Bare : goal.returns-in_err-text-in-Bare
 returns-in_err-text-in-Bare g c =
-    let p = err_from_is_err_and c.from_residual.result c.from_residual.ensures.1 in
     let is : c.args.ours.now.source ≡ bare c.in-Bare.field-0 = sym c.base.ensures ∙ sym c.source.ensures.source ∙ ap plan_source c.in-Bare.is in
-    rw (p.1, p.2) (went tt _ (refl, ap nameless is) (stopped _ (refl, c.in_err-text-in-Bare.ensures.failed) refl))
+    rw (passed_on _ _ c.from_residual.ensures.1) (went tt _ (refl, ap nameless is) (stopped _ (refl, c.in_err-text-in-Bare.ensures.failed) refl))
 
 pub returns-in_ok-text-in-Bare : goal.returns-in_ok-text-in-Bare
 returns-in_ok-text-in-Bare g c =

@@ -1,6 +1,7 @@
-use Rattle.std.proofs.{Common.{Ok, Err, refl, sym, inl, ◌∙◌}, lemmas.Result.err_from_is_err_and}
+use Rattle.std.proofs.Common.{Ok, Err, refl, sym, inl, ◌∙◌}
 use Rattle.stn_effects.specs.{Effects.{stopped, went}, Printing.device_of}
 use Rattle.stn_shell.specs.Outside.{outside}
+use Rattle.stn_store.proofs.Lacks.{passed_on}
 use Rattle.stn_shell.proofs.coprocess.do_line.Goals as goal
 
 pub returns-then-is_skipped : goal.returns-then-is_skipped
@@ -8,8 +9,7 @@ returns-then-is_skipped g c = λ unread. rw (sym c.is_skipped.ensures ∙ c.if-i
 
 pub returns-in_err-print_answer-in-Ok : goal.returns-in_err-print_answer-in-Ok
 returns-in_err-print_answer-in-Ok g c =
-    let p = err_from_is_err_and c.from_residual.result c.from_residual.ensures.1 in
-    rw (p.1, p.2) (λ unread. rw (sym c.is_skipped.ensures ∙ c.if-is_skipped.false)
+    rw (passed_on _ _ c.from_residual.ensures.1) (λ unread. rw (sym c.is_skipped.ensures ∙ c.if-is_skipped.false)
     (went (Ok c.in-Ok.answered.items) (outside (g.S.Store.entries c.reply.new.store) unread (device_of g.W.Write.contents c.args.out.now) (device_of g.E.Write.contents c.reply.new.err)) (c.in-Ok.ensures unread (device_of g.W.Write.contents c.args.out.now)) (stopped _ (c.in_err-print_answer-in-Ok.ensures.failed, refl, refl, refl) refl)))
 
 pub returns-in_ok-print_answer-in-Ok : goal.returns-in_ok-print_answer-in-Ok
@@ -19,17 +19,15 @@ returns-in_ok-print_answer-in-Ok g c =
 
 pub returns-in_err-text_of-in-Err-Refused : goal.returns-in_err-text_of-in-Err-Refused
 returns-in_err-text_of-in-Err-Refused g c =
-    let p = err_from_is_err_and c.from_residual-in_err-text_of-in-Err-Refused.result c.from_residual-in_err-text_of-in-Err-Refused.ensures.1 in
     let undone = rw c.in-Err-Refused.field-0-is at c.in-Err-Refused.ensures in
-    rw (p.1, p.2) (λ unread. rw (sym c.is_skipped.ensures ∙ c.if-is_skipped.false)
+    rw (passed_on _ _ c.from_residual-in_err-text_of-in-Err-Refused.ensures.1) (λ unread. rw (sym c.is_skipped.ensures ∙ c.if-is_skipped.false)
     (went (Err c.in-Err-Refused.refusal) (outside (g.S.Store.entries c.reply.new.store) unread (device_of g.W.Write.contents c.args.out.now) (device_of g.E.Write.contents c.reply.new.err)) (undone unread (device_of g.W.Write.contents c.args.out.now)) (stopped _ (inl (refl, refl), refl, refl, refl) refl)))
 
 pub returns-in_err-print_answer-in-Err-Refused : goal.returns-in_err-print_answer-in-Err-Refused
 returns-in_err-print_answer-in-Err-Refused g c =
-    let p = err_from_is_err_and c.from_residual-in_err-print_answer-in-Err-Refused.result c.from_residual-in_err-print_answer-in-Err-Refused.ensures.1 in
     let undone = rw c.in-Err-Refused.field-0-is at c.in-Err-Refused.ensures in
     let failed = rw c.in_ok-text_of-in-Err-Refused.ensures at c.in_err-print_answer-in-Err-Refused.ensures.failed in
-    rw (p.1, p.2) (λ unread. rw (sym c.is_skipped.ensures ∙ c.if-is_skipped.false)
+    rw (passed_on _ _ c.from_residual-in_err-print_answer-in-Err-Refused.ensures.1) (λ unread. rw (sym c.is_skipped.ensures ∙ c.if-is_skipped.false)
     (went (Err c.in-Err-Refused.refusal) (outside (g.S.Store.entries c.reply.new.store) unread (device_of g.W.Write.contents c.args.out.now) (device_of g.E.Write.contents c.reply.new.err)) (undone unread (device_of g.W.Write.contents c.args.out.now)) (stopped _ (failed, refl, refl, refl) refl)))
 
 pub returns-in_ok-print_answer-in-Err-Refused : goal.returns-in_ok-print_answer-in-Err-Refused

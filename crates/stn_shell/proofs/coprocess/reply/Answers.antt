@@ -1,12 +1,11 @@
-use Rattle.std.proofs.{Common.{map, refl, inl, inr}, lemmas.Result.err_from_is_err_and}
+use Rattle.std.proofs.Common.{map, refl, inl, inr}
 use Rattle.stn_effects.specs.{Effects.{stopped, went}, Printing.device_of}
 use Rattle.stn_shell.specs.Outside.{outside}
+use Rattle.stn_store.proofs.Lacks.{passed_on}
 use Rattle.stn_shell.proofs.coprocess.reply.Goals as goal
 
 pub returns-in_err-words : goal.returns-in_err-words
-returns-in_err-words g c =
-    let p = err_from_is_err_and c.from_residual.result c.from_residual.ensures.1 in
-    rw (p.1, p.2) (λ unread out. stopped _ (inr (refl, refl), refl, refl, refl) refl)
+returns-in_err-words g c = rw (passed_on _ _ c.from_residual.ensures.1) (λ unread out. stopped _ (inr (refl, refl), refl, refl, refl) refl)
 
 pub returns-in-Some : goal.returns-in-Some
 returns-in-Some g c =

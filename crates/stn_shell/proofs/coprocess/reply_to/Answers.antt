@@ -1,7 +1,8 @@
-use Rattle.std.proofs.{Common.{refl, inl, inr}, lemmas.Result.err_from_is_err_and}
+use Rattle.std.proofs.Common.{refl, inl, inr}
 use Rattle.stn_effects.specs.{Effects.{stopped, went}, Printing.device_of}
 use Rattle.clap.specs.Words.{kind_of}
 use Rattle.stn_shell.specs.Outside.{outside}
+use Rattle.stn_store.proofs.Lacks.{passed_on}
 use Rattle.stn_shell.proofs.coprocess.reply_to.Goals as goal
 
 pub returns-then-set_log : goal.returns-then-set_log
@@ -22,9 +23,7 @@ returns-in-Ok g c =
     ) refl
 
 pub returns-in_err-tell_mistake-in-Err-Words : goal.returns-in_err-tell_mistake-in-Err-Words
-returns-in_err-tell_mistake-in-Err-Words g c =
-    let p = err_from_is_err_and c.from_residual.result c.from_residual.ensures.1 in
-    rw (p.1, p.2) (λ unread out. stopped _ (inr (refl, c.in_err-tell_mistake-in-Err-Words.ensures.kept), refl, refl, refl) refl)
+returns-in_err-tell_mistake-in-Err-Words g c = rw (passed_on _ _ c.from_residual.ensures.1) (λ unread out. stopped _ (inr (refl, c.in_err-tell_mistake-in-Err-Words.ensures.kept), refl, refl, refl) refl)
 
 pub returns-in-Err-Words : goal.returns-in-Err-Words
 returns-in-Err-Words g c =

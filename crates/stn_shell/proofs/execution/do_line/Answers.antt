@@ -1,4 +1,4 @@
-use Rattle.std.{proofs.Common.{◌≡◌, ◌⊎◌, ℕ, List, Option, Result, refl, sym, subst, inl, inr}, specs.Borrow.Bor}
+use Rattle.std.{proofs.Common.{◌≡◌, ◌⊎◌, ℕ, List, Option, Result, sym, subst, inl, inr}, specs.Borrow.Bor}
 use Rattle.stn_effects.specs.Printing.{device_of}
 use Rattle.stn_line.specs.declared.words.{SiteLog.SiteLog, NewLog.NewLog, LogChange.LogChange, LogQuestion.LogQuestion, NameWords.NameWords, Line.{Line, TheVariants.{Make, Change, Ask, Explain}}}
 use Rattle.stn_refusal.specs.declared.failure.{Failure.Failure, Fault.Fault}

@@ -1,12 +1,11 @@
-use Rattle.std.{proofs.{Common.{◌≡◌, ℕ, Ok, refl, ap, arith}, lemmas.Result.err_from_is_err_and}, specs.Prelude.{◌≢◌, ◌==◌, if◌then◌else◌}}
+use Rattle.std.{proofs.Common.{◌≡◌, ℕ, Ok, refl, ap, arith}, specs.Prelude.{◌≢◌, ◌==◌, if◌then◌else◌}}
 use Rattle.stn_effects.specs.{Effects.{stopped, went}, Printing.device_of}
 use Rattle.stn_shell.specs.Outside.{outside}
+use Rattle.stn_store.proofs.Lacks.{passed_on}
 use Rattle.stn_shell.proofs.execution.run_input.Goals as goal
 
 pub returns-in_err-ran : goal.returns-in_err-ran
-returns-in_err-ran g c =
-    let p = err_from_is_err_and c.from_residual.result c.from_residual.ensures.1 in
-    rw (p.1, p.2) (record { status = tt; ran = λ entries err. stopped _ (c.in_err-ran.ensures.runs, refl, refl) refl })
+returns-in_err-ran g c = rw (passed_on _ _ c.from_residual.ensures.1) (record { status = tt; ran = λ entries err. stopped _ (c.in_err-ran.ensures.runs, refl, refl) refl })
 
 -- the status, by the number of refusals
 status_none : (refusals : ℕ) → refusals ≡ 0 → ◌≡◌ {A = ℕ} 0 (if refusals == 0 then 0 else 1)

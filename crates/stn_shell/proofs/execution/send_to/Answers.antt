@@ -1,18 +1,16 @@
-use Rattle.std.proofs.{Common.{None, refl}, lemmas.Result.err_from_is_err_and}
+use Rattle.std.proofs.Common.{None, refl}
 use Rattle.stn_effects.specs.{Effects.{stopped, went}, Printing.device_of}
 use Rattle.stn_device.specs.{Counted.failure_count, Partner.PartnerState}
 use Rattle.stn_shell.specs.Outside.{outside}
+use Rattle.stn_store.proofs.Lacks.{passed_on}
 use Rattle.stn_shell.proofs.execution.send_to.Goals as goal
 
 pub returns-in_err-plan : goal.returns-in_err-plan
-returns-in_err-plan g c =
-    let p = err_from_is_err_and c.from_residual.result c.from_residual.ensures.1 in
-    rw (p.1, p.2) (λ unread err. stopped _ (c.in_err-plan.ensures, refl, refl, refl) refl)
+returns-in_err-plan g c = rw (passed_on _ _ c.from_residual.ensures.1) (λ unread err. stopped _ (c.in_err-plan.ensures, refl, refl, refl) refl)
 
 pub returns-in_err-peer : goal.returns-in_err-peer
 returns-in_err-peer g c =
-    let p = err_from_is_err_and c.from_residual-in_err-peer.result c.from_residual-in_err-peer.ensures.1 in
-    rw (p.1, p.2) (λ unread err. went c.in_ok-plan.plan (outside (g.S.Store.entries c.args.store.now) unread (device_of g.W.Write.contents c.args.out.now) err) (c.in_ok-plan.ensures, refl, refl, refl)
+    rw (passed_on _ _ c.from_residual-in_err-peer.ensures.1) (λ unread err. went c.in_ok-plan.plan (outside (g.S.Store.entries c.args.store.now) unread (device_of g.W.Write.contents c.args.out.now) err) (c.in_ok-plan.ensures, refl, refl, refl)
     (stopped _ (refl, c.in_err-peer.ensures.failed) refl))
 
 pub returns : goal.returns

@@ -1,25 +1,22 @@
-use Rattle.std.proofs.{Common.{refl, inr}, lemmas.Result.err_from_is_err_and}
+use Rattle.std.proofs.Common.{refl, inr}
 use Rattle.stn_effects.specs.{Effects.{stopped, went}, Printing.device_of}
 use Rattle.stn_shell.specs.Outside.{outside}
+use Rattle.stn_store.proofs.Lacks.{passed_on}
 use Rattle.stn_shell.proofs.execution.serve_at.Goals as goal
 
 pub returns-in_err-plan : goal.returns-in_err-plan
-returns-in_err-plan g c =
-    let p = err_from_is_err_and c.from_residual.result c.from_residual.ensures.1 in
-    rw (p.1, p.2) (λ unread err. stopped _ (c.in_err-plan.ensures, refl, refl, refl) refl)
+returns-in_err-plan g c = rw (passed_on _ _ c.from_residual.ensures.1) (λ unread err. stopped _ (c.in_err-plan.ensures, refl, refl, refl) refl)
 
 pub returns-in_err-can_save : goal.returns-in_err-can_save
 returns-in_err-can_save g c =
-    let p = err_from_is_err_and c.from_residual-in_err-can_save.result c.from_residual-in_err-can_save.ensures.1 in
-    rw (p.1, p.2) (λ unread err. went c.in_ok-plan.plan (outside (g.S.Store.entries c.args.store.now) unread (device_of g.W.Write.contents c.args.out.now) err) (c.in_ok-plan.ensures, refl, refl, refl)
+    rw (passed_on _ _ c.from_residual-in_err-can_save.ensures.1) (λ unread err. went c.in_ok-plan.plan (outside (g.S.Store.entries c.args.store.now) unread (device_of g.W.Write.contents c.args.out.now) err) (c.in_ok-plan.ensures, refl, refl, refl)
     (stopped _ ((refl, inr c.in_err-can_save.ensures.failed), refl, refl, refl) refl))
 
 pub returns-in_err-listener : goal.returns-in_err-listener
 returns-in_err-listener g c =
-    let p = err_from_is_err_and c.from_residual-in_err-listener.result c.from_residual-in_err-listener.ensures.1 in
     let entries = g.S.Store.entries c.args.store.now in
     let out = device_of g.W.Write.contents c.args.out.now in
-    rw (p.1, p.2) (λ unread err. went c.in_ok-plan.plan (outside entries unread out err) (c.in_ok-plan.ensures, refl, refl, refl) (went tt (outside entries unread out err) ((refl, tt), refl, refl, refl)
+    rw (passed_on _ _ c.from_residual-in_err-listener.ensures.1) (λ unread err. went c.in_ok-plan.plan (outside entries unread out err) (c.in_ok-plan.ensures, refl, refl, refl) (went tt (outside entries unread out err) ((refl, tt), refl, refl, refl)
     (stopped _ (c.in_err-listener.ensures entries unread err) refl)))
 
 pub returns : goal.returns

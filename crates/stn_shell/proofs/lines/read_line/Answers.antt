@@ -1,6 +1,7 @@
-use Rattle.std.proofs.{Common.{◌≡◌, ◌≢◌, ◌+◌, ◌-◌, ◌^◌, ◌++◌, ◌∷◌, [], min, length, refl, ap, inl, ◌∙◌, arith}, KnownBytes.{Consumes-nil, Consumes-kept}, lemmas.{Grind.common_steps, Result.err_from_is_err_and}}
+use Rattle.std.proofs.{Common.{◌≡◌, ◌≢◌, ◌+◌, ◌-◌, ◌^◌, ◌++◌, ◌∷◌, [], min, length, refl, ap, inl, ◌∙◌, arith}, KnownBytes.{Consumes-nil, Consumes-kept}, lemmas.Grind.common_steps}
 use Rattle.stn_text.specs.Bytes.{line_feed}
 use Rattle.stn_shell.proofs.Bytes.{within_more, one_taken, taken_more, at_end}
+use Rattle.stn_store.proofs.Lacks.{passed_on}
 use Rattle.stn_shell.proofs.lines.read_line.Goals as goal
 
 pub bytes-init : goal.bytes-init
@@ -57,11 +58,10 @@ bytes-preserved g c =
 
 pub returns-in_err-extend_from_slice-in-Ok : goal.returns-in_err-extend_from_slice-in-Ok
 returns-in_err-extend_from_slice-in-Ok g c =
-    let p = err_from_is_err_and c.from_residual.result c.from_residual.ensures.1 in
     let i = c.bytes.invariant in
     let one = one_taken c.read.new.buf _ c.in-Ok.field-0 (grind (arith, common_steps, c.read.auto.buf, i.byte_len)) refl (omega (arith, c.in-Ok.field-0-test.1)) in
     let other : one.0 ≢ line_feed = rw one.1 at c.if-byte-eq-LINE_FEED.false in
-    rw (p.1, p.2) (
+    rw (passed_on _ _ c.from_residual.ensures.1) (
       c.bytes.line.items ++ one.0 ∷ [],
       within_more _ _ i.within other,
       taken_more _ _ _ _ _ _ _ _ _ i.taken (rw one.2 at c.in-Ok.ensures.bytes.0) c.in-Ok.ensures.passed (omega (arith, c.if-room-eq0.false)),

@@ -1,12 +1,11 @@
-use Rattle.std.proofs.{Common.{Some, refl, ap, inl, inr, ⊎_elim}, lemmas.Result.err_from_is_err_and}
-use Rattle.stn_store.proofs.Failed.{take_failed}
+use Rattle.std.proofs.Common.{Some, refl, ap, inl, inr, ⊎_elim}
+use Rattle.stn_store.proofs.{Lacks.passed_on, Failed.{take_failed}}
 use Rattle.stn_store.proofs.merging.take_in.Goals as goal
 
 pub returns-in_err-find_same : goal.returns-in_err-find_same
 returns-in_err-find_same g c =
-    let p = err_from_is_err_and c.from_residual.result c.from_residual.ensures.1 in
     let other = rw (c.base.ensures, c.plan.ensures.source, c.base-2.ensures) at c.in_err-find_same.ensures in
-    rw (p.1, p.2) (record {
+    rw (passed_on _ _ c.from_residual.ensures.1) (record {
       same = tt;
       left = tt;
       accepted = tt;
@@ -16,9 +15,8 @@ returns-in_err-find_same g c =
 
 pub returns-in_err-take : goal.returns-in_err-take
 returns-in_err-take g c =
-    let p = err_from_is_err_and c.from_residual-in_err-take.result c.from_residual-in_err-take.ensures.1 in
     let same = rw (c.base.ensures, c.plan.ensures.source, c.base-2.ensures) at c.in_ok-find_same.ensures in
-    rw (p.1, p.2) (record {
+    rw (passed_on _ _ c.from_residual-in_err-take.ensures.1) (record {
       same = tt;
       left = tt;
       accepted = tt;

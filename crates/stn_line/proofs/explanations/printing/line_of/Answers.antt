@@ -1,4 +1,4 @@
-use Rattle.std.proofs.Common.{◌≡◌, ◌++◌, ◌∙◌, sym, ap, subst}
+use Rattle.std.proofs.Common.{◌++◌, ◌∙◌, sym, ap, subst}
 use Rattle.stn_line.specs.Explanations.Explained.{IsMeaning}
 use Rattle.stn_line.proofs.explanations.printing.line_of.Goals as goal
 

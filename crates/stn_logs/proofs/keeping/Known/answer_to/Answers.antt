@@ -1,7 +1,7 @@
-use Rattle.std.proofs.Common.{◌≡◌, None, sym, subst}
+use Rattle.std.proofs.Common.{None, sym, subst}
 use Rattle.stn_site.specs.Held.{Held}
 use Rattle.stn_command.specs.Query.{seen_query, IsSaid, IsQueryRefusal}
-use Rattle.stn_logs.{specs.Keeping.IsKeptAnswer, proofs.Spelled.this_answer}
+use Rattle.stn_logs.{proofs.Spelled.this_answer}
 use Rattle.stn_logs.proofs.keeping.Known.answer_to.Goals as goal
 
 pub returns-in-Some : goal.returns-in-Some

@@ -1,6 +1,6 @@
-use Rattle.std.{proofs.{Common.{◌≡◌, Ok, [], refl, sym, ap, subst, ◌∙◌}, KnownBytes.{Appends-nil, Keeps-refl}, lemmas.Result.err_from_is_err_and}, specs.Io.KnownBytes.Appends}
+use Rattle.std.{proofs.{Common.{◌≡◌, Ok, [], refl, sym, ap, subst, ◌∙◌}, KnownBytes.{Appends-nil, Keeps-refl}}, specs.Io.KnownBytes.Appends}
 use Rattle.stn_device.{specs.{Bytes.AppendsPart, Counted.counted_device, declared.whole.OutputFault.TheVariants.{Write, Memory}}, proofs.Known.{fails_more, fault_or, not_err}}
-use Rattle.stn_store.{specs.Log.{Log, log_held, log_text, IsLog}, proofs.log.Saved.same_log}
+use Rattle.stn_store.{specs.Log.{Log, log_held, log_text, IsLog}, proofs.log.Saved.same_log, proofs.Lacks.passed_on}
 use Rattle.stn_store.proofs.log.writing.save.Goals as goal
 
 apart : Write ≡ Memory → ⊥
@@ -8,8 +8,7 @@ apart is = cc
 
 pub returns-in_err-text : goal.returns-in_err-text
 returns-in_err-text g c =
-    let p = err_from_is_err_and c.from_residual.result c.from_residual.ensures.1 in
-    rw (p.1, p.2) (record {
+    rw (passed_on _ _ c.from_residual.ensures.1) (record {
       written = tt;
       loaded = tt;
       part = ([], log_text (log_held (g.C.SiteCopy.held c.args.copy.now)), refl, Appends-nil _);
@@ -20,12 +19,11 @@ returns-in_err-text g c =
 
 pub returns-in_err-write_whole : goal.returns-in_err-write_whole
 returns-in_err-write_whole g c =
-    let p = err_from_is_err_and c.from_residual-in_err-write_whole.result c.from_residual-in_err-write_whole.ensures.1 in
     let before = g.W.Write.contents (counted_device c.args.writer.now) in
     let after = g.W.Write.contents (counted_device c.write_whole.new.writer) in
     let same = same_log (g.C.SiteCopy.held c.args.copy.now) c.plan.result.now c.plan.ensures.source c.plan.ensures.state in
     let lost = c.in_err-write_whole.ensures in
-    rw (p.1, p.2) (record {
+    rw (passed_on _ _ c.from_residual-in_err-write_whole.ensures.1) (record {
       written = tt;
       loaded = tt;
       part = subst (AppendsPart before after) (c.deref.ensures.value ∙ c.in_ok-text.ensures.text ∙ ap log_text same) lost.part;

@@ -2,7 +2,7 @@ use Rattle.std.{proofs.Common.{◌≡◌, ◌+◌, ◌-◌, length, IfSome}, spe
 use Rattle.stn_device.specs.Counted.{counted_device, KeepsCount}
 use Rattle.stn_wire.specs.Stream.{pending, IsReading}
 use Rattle.stn_store.{specs.Log.Opening.opened_so_far, proofs.log.Progress.Progress}
-use Rattle.stn_store.proofs.log.reading.read_frames.Given as goal
+use Rattle.stn_store.proofs.log.reading.load_plan.Given as goal
 
 abbrev pub invariant-frames : goal.invariant-frames
 invariant-frames g l = record {
