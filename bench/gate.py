@@ -16,8 +16,8 @@ missed; the line `in all` counts everything.
 - Each edit costs a check of its crate, which reads all libraries below: 5 seconds of one processor in stn_refusal, 9 to 14 in most
   crates, and 5 to 10 more for the functions that it and the edit before it changed.
 - A program of tests is proved once and compiled twice. One with a single line over stn_shell takes one and a half to four minutes
-  of one processor. So a few cases are a module of another program. Only refused_command stays: a program has one stored run, and
-  no other shows that a process ends with 1; stn shows 0, command_lines 2.
+  of one processor. So cases are a module of another program. A program has one stored run: stn shows that a process ends with 0,
+  answers with 1, command_lines with 2.
 """
 import os
 import re

@@ -20,15 +20,15 @@ TOP = Path(__file__).resolve().parent.parent
 HEAD = re.compile(r"^(?P<end>\}|\});?$|^(?:pub )?(?:unsafe )?(?P<kind>impl|trait)\b(?P<owner>[^{]*)\{"
                   r"|^ *(?P<public>pub )?(?:pub\(crate\) )?(?:const )?fn (?P<function>\w+)"
                   r"|^ *(?P<what>ensures|requires)(?: (?P<clause>\w+))? \{", re.M)
-# The programs whose input has rows, and how a line begins a part.
-ROWS = {"answers": "== ", "command_lines": "\0", "script_outputs": "= "}
+# The programs whose input has rows, of earlier commits too, and how a line begins a part. A part of `answers` has scripts.
+ROWS, OF_SCRIPTS = {"answers": "== ", "command_lines": "\0", "script_outputs": "= "}, "== scripts"
 KINDS = "edit", "test", "row", "clause"
 
 
 def texts_now():
     """Returns the texts of the working tree that have names, by path."""
     found = [*TOP.glob("crates/*/must-fail/*.edit"), *TOP.glob("bench/edits/*/*.edit"), *TOP.glob("crates/*/src/**/*.rt"),
-             *(TOP / "crates" / name / "stdin" for name in ROWS)]
+             *(it for name in ROWS for it in TOP.glob(f"crates/{name}/stdin"))]
     return {str(it.relative_to(TOP)): it.read_text(encoding="utf-8", errors="replace") for it in found}
 
 
@@ -77,9 +77,10 @@ def names_of(texts):
             name, crate = parts[-1].removesuffix(".edit"), parts[1] if parts[0] == "crates" else parts[2]
             add("edit", name, f"{crate} in the gate" if parts[0] == "crates" else f"{crate} beside it", text)
         elif path.endswith("/stdin") and parts[1] in ROWS:
-            part = ""
+            part, begins = "", ROWS[parts[1]]
             for line in text.splitlines():
-                part = line if line.startswith(ROWS[parts[1]]) else part
+                part = line if line.startswith(begins) else part
+                begins = ROWS["script_outputs"] if line == OF_SCRIPTS else begins
                 add("row", f"{line}  ({part})" if part not in ("", line) else line, parts[1])
         elif path.endswith(".rt"):
             for name in re.findall(r"#\[test\]\s+(?:#\[[^\]]*\]\s+)*fn (\w+)", text):

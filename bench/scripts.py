@@ -1,8 +1,8 @@
 #!/usr/bin/env python3
-"""Prints what the program script_outputs is to print, by the formats alone (docs/FORMATS.md), with - for the numbers of requests and
+"""Prints what the part `scripts` of `answers` is to print, by the formats alone (docs/FORMATS.md), with - for the numbers of requests and
 of writes, which are the program's own.
 
-usage: cd crates/script_outputs; ../../bench/scripts.py $(cat args) < stdin > stdout
+usage: cd crates/answers; ../../bench/part.py scripts < stdin | ../../bench/scripts.py
        bench/scripts.py - < SCRIPT        the output of one script
 
 The greatest differences of all pairs of events are kept as a table, which each bound shortens; a conflict is found bound by bound.
@@ -695,12 +695,14 @@ def main():
         script.run()
         print("\n".join(script.printed))
         return
-    for part in re.split(rb"\n(?=[=~@!] )", sys.stdin.buffer.read().removesuffix(b"\n")):
+    for part in re.split(rb"\n(?=[=~@!%] )", sys.stdin.buffer.read().removesuffix(b"\n")):
         heading, _, text = part.partition(b"\n")
-        print_part(heading.decode(), text + b"\n")
-    for name in sys.argv[1:]:
-        print(f"= {name}")
-        print_run(Path("data", name).read_bytes(), False)
+        if heading.startswith(b"% "):
+            name = heading.decode().removeprefix("% ")
+            print(f"= {name}")
+            print_run(Path("data", name).read_bytes(), False)
+        else:
+            print_part(heading.decode(), text + b"\n")
 
 
 if __name__ == "__main__":

@@ -6,7 +6,7 @@ import re
 import sys
 
 TOP = os.path.dirname(os.path.dirname(os.path.realpath(__file__)))
-TESTS = {"answers", "command_lines", "refused_command", "script_outputs", "stn_examples", "stn_refusing"}
+TESTS = {"answers", "command_lines", "stn_examples", "stn_refusing"}
 WIDTH, ROW, BOX, HIGH, GAP = 960, 76, 104, 30, 14
 STYLE = """<style>
 text { font: 13px sans-serif; text-anchor: middle; fill: #1b1f24 }

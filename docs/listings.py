@@ -39,7 +39,7 @@ FORMATS = TOP / "docs" / "FORMATS.md"
 DOCUMENTS = [README, *sorted((TOP / "docs").glob("*.md")), TOP / "bench" / "README.md"]
 PROMISES = TOP / "docs" / "PROMISES.md"
 CRATE_NAMES = {crate.name for crate in CRATES.iterdir()}
-OF_TESTS = {"answers", "command_lines", "refused_command", "script_outputs", "stn_examples", "stn_refusing"}
+OF_TESTS = {"answers", "command_lines", "stn_examples", "stn_refusing"}
 HEAD = re.compile(r"^(?P<end>\}|\});?$|^(?:pub )?(?:unsafe )?(?P<kind>impl|trait)\b(?P<owner>[^{]*)\{"
                   r"|^ *(?P<pub>pub )?(?:pub\(crate\) )?(?:unsafe )?fn (?P<name>\w+)", re.M)
 END_OF_HEAD = re.compile(r"(?:\b(?P<what>ensures|requires|decreases)(?: (?P<clause>\w+))? )?\{|;\n")
@@ -89,7 +89,7 @@ def stands_in(part, text):
 def not_run():
     """The listings that the gate doesn't run."""
     stored = [lines_of(path) for crate in CRATES.iterdir() for name in ("stdin", "stdout") for path in [crate / name] if path.exists()]
-    stored += [lines_of(path) for path in sorted((CRATES / "script_outputs" / "data").iterdir())]
+    stored += [lines_of(path) for path in sorted((CRATES / "answers" / "data").iterdir())]
     for document in LISTED:
         for begins, block in listings(document):
             for part in parts(block):

@@ -1,6 +1,8 @@
-//! For tests: what calls that work on times, texts, records, frames, sessions and logs answer. The input consists of parts. A line
-//! `== NAME` begins a part, and is printed; the lines after it are answered as the module of this name says. The parts are
-//! `logs`, `changed`, `random COUNT`, `sessions`, `calls`, `texts`, `records`.
+//! For tests: what calls that work on times, texts, records, frames, sessions and logs answer, and what scripts print. The input
+//! consists of parts. A line `== NAME` begins a part, and is printed; the lines after it are answered as the module of this
+//! name says. The parts are `logs`, `changed`, `random COUNT`, `sessions`, `calls`, `texts`, `records`, `scripts`.
+//!
+//! At its end it does the command of its own words as the process that it is. It is refused, so it ends with 1.
 #![tactic(auto)]
 
 mod calls;
@@ -10,16 +12,20 @@ mod held;
 mod logs;
 mod random;
 mod records;
+mod scripts;
 mod sessions;
 mod tally;
 mod texts;
 mod words;
 
 use crate::records::Sites;
+use crate::scripts::Headed;
 use crate::words::cut_word;
 use std::alloc::Global;
 use std::io;
 use std::io::Error;
+use std::process::ExitCode;
+use stn_shell::program;
 
 /// A part of the input.
 #[derive(Clone, Copy)]
@@ -32,6 +38,7 @@ enum Part {
     Calls,
     Texts,
     Records,
+    Scripts,
     /// None of these, whose lines have no answer.
     Other,
 }
@@ -45,6 +52,7 @@ fn part_of(heading: &str) -> Part {
         ("calls", _) => Part::Calls,
         ("texts", _) => Part::Texts,
         ("records", _) => Part::Records,
+        ("scripts", _) => Part::Scripts,
         _ => Part::Other,
     }
 }
@@ -55,6 +63,7 @@ struct State {
     frames: Vec<Vec<u8>>,
     domain: String,
     sites: Sites,
+    headed: Headed,
 }
 
 impl State {
@@ -63,6 +72,7 @@ impl State {
             frames: Vec::new(alloc),
             domain: String::new(alloc),
             sites: Sites::new(alloc),
+            headed: Headed::new(alloc),
         }
     }
 }
@@ -76,23 +86,26 @@ fn answer_line(rt: &HostRuntime, part: Part, state: &mut State, line: &str) -> i
         Part::Calls => calls::answer(rt, line),
         Part::Texts => texts::answer(rt, &mut state.domain, line),
         Part::Records => records::answer(rt, &mut state.sites, line),
+        Part::Scripts => state.headed.take_row(rt, line),
         Part::Other => Err(Error::other("no such part")),
     }
 }
 
 // Prints what is printed once a part is over, and lets go of its frames.
-fn end_part(rt: &HostRuntime, part: Part, frames: &mut Vec<Vec<u8>>) -> io::Result<()> {
-    if let Part::Random(count) = part {
-        random::print_all(rt, count, frames)?;
+fn end_part(rt: &HostRuntime, part: Part, state: &mut State) -> io::Result<()> {
+    match part {
+        Part::Random(count) => random::print_all(rt, count, &state.frames)?,
+        Part::Scripts => state.headed.end(rt)?,
+        _ => {}
     }
-    frames.clear();
+    state.frames.clear();
     Ok(())
 }
 
 fn take_line(rt: &HostRuntime, part: &mut Part, state: &mut State, line: &str) -> io::Result<()> {
     match line.strip_prefix("== ") {
         Some(heading) => {
-            end_part(rt, *part, &mut state.frames)?;
+            end_part(rt, *part, state)?;
             *part = part_of(heading);
             println!(rt; "{line}")
         }
@@ -105,12 +118,13 @@ fn answer_lines(rt: &HostRuntime, state: &mut State) -> io::Result<()> {
     for line in rt.lines(rt.alloc()) {
         take_line(rt, &mut part, state, &line?)?;
     }
-    end_part(rt, part, &mut state.frames)
+    end_part(rt, part, state)
 }
 
-fn main(rt: HostRuntime) -> io::Result<()> {
+fn main(rt: HostRuntime) -> io::Result<ExitCode> {
     let mut state = State::new(rt.alloc());
     let answer = answer_lines(&rt, &mut state);
     drop(state);
-    answer
+    answer?;
+    Ok(program(&rt))
 }

@@ -7,8 +7,7 @@ use stn_lift::Base;
 use stn_net::{Bound, BoundFault, Event};
 use stn_records::{Id, Mark, Records, Site};
 use stn_refusing::{Outcome, Refusing};
-use stn_replica::StepRange;
-use stn_site::{ReplicaFault, SitePlan};
+use stn_site::{ReplicaFault, SitePlan, StepRange};
 use stn_time::Ms;
 use stn_world::World;
 

@@ -1,4 +1,4 @@
-use crate::output::output_of;
+use crate::scripts::output::output_of;
 use std::alloc::{AllocError, Global};
 use std::io;
 use std::io::Write;

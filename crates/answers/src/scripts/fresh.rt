@@ -1,5 +1,5 @@
-use crate::output::output_of;
-use crate::replicas::Replicas;
+use crate::scripts::output::output_of;
+use crate::scripts::replicas::Replicas;
 use std::alloc::{AllocError, Global};
 use std::io;
 

@@ -1,21 +1,21 @@
-//! For tests: runs scripts and prints what each prints and what its run counts, after a line `= <name>`: first those of
-//! its input, each after such a line, and then those of the files that its arguments name. Of each script of its input
-//! that has at most 4,096 bytes and prints at most so many it then has each request for memory, each read and each write
-//! refused in turn, and prints how many were, if each was answered as it must be.
-//!
-//! After a line `! <name>` stands a number: of a script of so many line feeds it prints what its run counts, or why it ended, and
-//! has each request for memory refused in turn.
-//!
-//! What sites report is compared after lines with another mark:
-//!
-//! - After a line `~ <name>` stands a script, in which a line `* <number> <command>` stands for so many commands. Before and
-//!   after each line of it the report of each site is compared with that of a new site that has merged it, and that of each
-//!   site's replica, which comes from its matrix, with that of a new replica that took the same records. It prints at how many
-//!   times and sites both were the same, or the first line after which one was not.
-//! - After a line `@ <name>` stands nothing. 64 sites of one plan each add a bound, one of them withdraws another of its own, and
-//!   they merge in a ring until nothing that they report changes. It prints what they then report and how many of them do, and
-//!   the same again once one of them has added a bound that contradicts others.
-#![tactic(auto)]
+// What scripts print. A script stands after a heading:
+//
+// - `= NAME`: prints what the script prints and what its run counts. If it has at most 4,096 bytes and prints at most so many,
+//   each request for memory, each read and each write is then refused in turn; prints how many were, if each was answered as
+//   it must be.
+// - `! NAME`, and a number: of a script of so many line feeds, prints what its run counts, or why it ended, and has each
+//   request for memory refused in turn.
+// - `% FILE`: prints what the script of a file prints and counts.
+//
+// What sites report is compared after other headings:
+//
+// - `~ NAME`, and a script, in which a line `* NUMBER COMMAND` stands for so many commands. Before and after each line of it the
+//   report of each site is compared with that of a new site that has merged it, and that of each site's replica, which comes
+//   from its matrix, with that of a new replica that took the same records. Prints at how many times and sites both were the
+//   same, or the first line after which one was not.
+// - `@ NAME`: 64 sites of one plan each add a bound, one of them withdraws another of its own, and they merge in a ring until
+//   nothing that they report changes. Prints what they then report and how many of them do, and the same again once one of
+//   them has added a bound that contradicts others.
 
 mod faults;
 mod fresh;
@@ -23,13 +23,13 @@ mod output;
 mod replicas;
 mod ring;
 
-use crate::faults::{Worked, sweep, sweep_requests};
-use crate::fresh::compare;
-use crate::ring::merge_in_ring;
-use std::alloc::AllocError;
+use crate::scripts::faults::{Worked, sweep, sweep_requests};
+use crate::scripts::fresh::compare;
+use crate::scripts::ring::merge_in_ring;
+use std::alloc::{AllocError, Global};
 use std::fs::File;
 use std::io::Write;
-use std::{env, fs, io};
+use std::{fs, io};
 use stn_exec::{Counted, Ran, RunFault, run};
 
 // The most bytes of a script, and of its output, of which every call is refused in turn.
@@ -122,6 +122,9 @@ fn do_heading(rt: &HostRuntime, heading: &str, script: &str) -> io::Result<()> {
     if let Some(name) = heading.strip_prefix("~ ") {
         return compare(rt, name, script);
     }
+    if let Some(name) = heading.strip_prefix("% ") {
+        return run_one(rt, name);
+    }
     println!(rt; "{heading}")?;
     if heading.starts_with('@') {
         merge_in_ring(rt)
@@ -133,22 +136,11 @@ fn do_heading(rt: &HostRuntime, heading: &str, script: &str) -> io::Result<()> {
 }
 
 fn is_heading(row: &str) -> bool {
-    row.starts_with("= ") || row.starts_with("~ ") || row.starts_with("@ ") || row.starts_with("! ")
-}
-
-// Begins with a heading, after doing what the last one says.
-fn take_heading(
-    rt: &HostRuntime,
-    heading: &mut String,
-    script: &mut String,
-    row: &str,
-) -> io::Result<()> {
-    if !heading.is_empty() {
-        do_heading(rt, heading, script)?;
-    }
-    heading.clear();
-    script.clear();
-    Ok(heading.push_str(row)?)
+    row.starts_with("= ")
+        || row.starts_with("! ")
+        || row.starts_with("% ")
+        || row.starts_with("~ ")
+        || row.starts_with("@ ")
 }
 
 fn add_row(script: &mut String, row: &str) -> Result<(), AllocError> {
@@ -156,46 +148,39 @@ fn add_row(script: &mut String, row: &str) -> Result<(), AllocError> {
     script.push('\n')
 }
 
-// Adds a row to the script, or does what the last heading says and begins with the next one.
-fn take_row(
-    rt: &HostRuntime,
-    heading: &mut String,
-    script: &mut String,
-    row: &str,
-) -> io::Result<()> {
-    if is_heading(row) {
-        take_heading(rt, heading, script, row)
-    } else {
-        Ok(add_row(script, row)?)
+/// A heading, and the lines of the script after it.
+#[derive(Drop)]
+pub struct Headed {
+    heading: String,
+    script: String,
+}
+
+impl Headed {
+    /// No heading.
+    pub fn new(alloc: Global) -> Headed {
+        Headed {
+            heading: String::new(alloc),
+            script: String::new(alloc),
+        }
     }
-}
 
-// Takes each row of the input, and does what the last heading says.
-fn take_rows(rt: &HostRuntime, heading: &mut String, script: &mut String) -> io::Result<()> {
-    for row in rt.lines(rt.alloc()) {
-        take_row(rt, heading, script, &row?)?;
+    /// Adds a row to the script, or does what the heading says and begins with the next one.
+    pub fn take_row(&mut self, rt: &HostRuntime, row: &str) -> io::Result<()> {
+        if is_heading(row) {
+            self.end(rt)?;
+            Ok(self.heading.push_str(row)?)
+        } else {
+            Ok(add_row(&mut self.script, row)?)
+        }
     }
-    do_heading(rt, heading, script)
-}
 
-// Does what each heading of the input says.
-fn run_input(rt: &HostRuntime) -> io::Result<()> {
-    let mut heading = String::new(rt.alloc());
-    let mut script = String::new(rt.alloc());
-    take_rows(rt, &mut heading, &mut script)
-}
-
-// Runs the script of each file that an argument names.
-fn run_files(rt: &HostRuntime) -> io::Result<()> {
-    let mut words = env::args(rt)?;
-    words.next();
-    for name in words {
-        run_one(rt, &name)?;
+    /// Does what the heading says, if there is one.
+    pub fn end(&mut self, rt: &HostRuntime) -> io::Result<()> {
+        if !self.heading.is_empty() {
+            do_heading(rt, &self.heading, &self.script)?;
+        }
+        self.heading.clear();
+        self.script.clear();
+        Ok(())
     }
-    Ok(())
-}
-
-fn main(rt: HostRuntime) -> io::Result<()> {
-    run_input(&rt)?;
-    run_files(&rt)
 }
