@@ -18,7 +18,7 @@ on_given (Err fault) is p = absurd (false≢true (sym is))
 
 -- one more call failed
 pub fails_more : (first old new : ℕ) → new ≡ min (old + 1) (2 ^ 64 - 1) → old ≡ first → first < 2 ^ 64 - 1 → first < new
-fails_more first old new counts kept few = omega (arith, counts, kept, few)
+fails_more first old new counts kept few = omega arith
 
 -- two reads in a row use what both use
 pub ConsumesAtMost-trans : (a b c : Option (List ℕ)) (bs cs : List ℕ) (n : ℕ) → Consumes a b bs → Consumes b c cs → length bs + length cs ≤ n → ConsumesAtMost a c n

@@ -1,5 +1,5 @@
 -- How effects end: what they leave if they stop, and that two runs of one end alike.
-use Rattle.std.{proofs.{Common.{◌≡◌, ◌⊎◌, inl, inr, ℕ, List, OnOk, IfErr, Option, Some, None, is_some, Result, Ok, Err, MatchResult, refl, sym, ap, subst, ◌∙◌}, lemmas.{Bool.false≢true, Option.same_Some}}, specs.Prelude.⊤}
+use Rattle.std.{proofs.{Common.{rules, ◌≡◌, ◌⊎◌, inl, inr, ℕ, List, OnOk, IfErr, Option, Some, None, is_some, Result, Ok, Err, MatchResult, refl, sym, ap, subst, ◌∙◌}, lemmas.{Bool.false≢true, Option.same_Some}}, specs.Prelude.⊤}
 use Rattle.stn_device.proofs.Known.{not_err}
 use Rattle.stn_effects.specs.{Effects.{Effect, Then, stopped, went, seen, Gives, Finds, Makes, Settles, IsLack, EndAlike}, Printing.{Device, Prints, IsUnprinted, Writes}}
 use Rattle.stn_refusal.specs.declared.failure.{Failure.{Failure, TheVariants.Failed}, Fault.{Fault, TheVariants.Memory}}
@@ -62,8 +62,7 @@ module _ {World X Y : Type 0} (First : Effect World X) (Next : X → Effect Worl
   then_done keeps never old new failure (went value between first next) = absurd (never value between new failure next)
 
   pub then_lacks : (Fails : Fault → Type 0) → StopsForLack Fails First → ((value : X) → StopsForLack Fails (Next value)) → StopsForLack Fails (Then First Next)
-  then_lacks Fails lacks later old new failure (stopped why first is) =
-      subst (IsLack Fails) (sym (same_err failure why is)) (lacks old new why first)
+  then_lacks Fails lacks later old new failure (stopped why first is) = search rules
   then_lacks Fails lacks later old new failure (went value between first next) = later value between new failure next
 
 same_ok : {X : Type 0} (value other : X) → (let none : Result X Failure = Ok value in none) ≡ Ok other → value ≡ other

@@ -10,17 +10,13 @@ horizon_bounds_named all (suc events) within =
     let last : NamesEvents all (horizon_bound (suc events)) = record { from = omega arith; to = within } in
     All-push (NamesEvents all) (horizon_bounds events) (horizon_bound (suc events)) (horizon_bounds_named all events (omega arith)) last
 
--- a time of 0 meets the horizon bound of its event
-pub horizon_met_at_zero : (event : ℕ) → Meets (λ _. pos 0) (horizon_bound event)
-horizon_met_at_zero event = (omega (arith, ints), omega (arith, ints))
-
 -- all events at 0 meet the horizon bounds
 pub horizon_bounds_met_at_zero : (events : ℕ) → All (Meets (λ _. pos 0)) (horizon_bounds events)
 unfolding horizon_bounds
 horizon_bounds_met_at_zero zero = All-nil (Meets (λ _. pos 0))
 horizon_bounds_met_at_zero (suc events) =
     All-push (Meets (λ _. pos 0)) (horizon_bounds events) (horizon_bound (suc events))
-    (horizon_bounds_met_at_zero events) (horizon_met_at_zero (suc events))
+    (horizon_bounds_met_at_zero events) (omega (arith, ints))
 
 -- a bare source of at most 256 steps is sound
 pub sound_bare_source : (steps : ℕ) → steps ≤ 256 → IsSoundSource (bare steps)

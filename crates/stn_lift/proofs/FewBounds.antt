@@ -1,6 +1,6 @@
 -- How many bounds a plan has.
-use Rattle.std.{proofs.{Common.{◌≡◌, ℕ, ◌+◌, ◌-◌, ◌*◌, ◌<◌, ◌≤◌, ℤ, zero, suc, Bool, true, false, not, ◌&&◌, eqb, nat_lt, cond, [], ◌∷◌, ◌++◌, length, refl, arith, length-append}, Math.Nat.mul-le-mul_left, lemmas.Bool.{eq-eqb, Decides.nat_tests}}, specs.Ordering.int_cmp}
-use Rattle.stn_net.{specs.{Event.most_steps, Difference.Difference, Horizon.horizon_bounds}, proofs.Horizons.length-horizon_bounds}
+use Rattle.std.{proofs.{Common.{rules, ◌≡◌, ℕ, ◌+◌, ◌-◌, ◌*◌, ◌<◌, ◌≤◌, ℤ, zero, suc, Bool, true, false, not, ◌&&◌, eqb, nat_lt, cond, [], ◌∷◌, ◌++◌, length, refl, arith, length-append}, Math.Nat.mul-le-mul_left, lemmas.Bool.{eq-eqb, Decides.nat_tests}}, specs.Ordering.int_cmp}
+use Rattle.stn_net.{specs.Event.most_steps, proofs.Horizons.length-horizon_bounds}
 use Rattle.stn_lift.{specs.{BaseBounds.{step_of, order_bound, pair_order, event_orders, orders, duration_bound, duration_bounds}, PlanSource.most_base_bounds}, proofs.SoundBounds.bounds}
 
 pub length-duration_bounds : (duration : ℕ → ℤ) (steps : ℕ) → length (duration_bounds duration steps) ≡ steps
@@ -10,14 +10,8 @@ length-duration_bounds duration (suc steps) =
     omega (arith, length-append (duration_bounds duration steps) (duration_bound steps (duration steps) ∷ []), length-duration_bounds duration steps)
 
 module _ (interferes : ℕ → ℕ → Bool) (planned : ℕ → ℤ) where
-  -- a pair has one order at most
-  length-chosen : (test : Bool) (bound : Difference) → length (cond test (bound ∷ []) []) ≤ 1
-  length-chosen true bound = omega arith
-  length-chosen false bound = omega arith
-
   length-pair : (one other : ℕ) → length (pair_order interferes planned one other) ≤ 1
-  length-pair one other =
-      length-chosen (nat_lt one other && (not (eqb (step_of one) (step_of other)) && interferes one other)) (order_bound one other (int_cmp (planned one) (planned other)))
+  length-pair one other = search rules
 
   -- and none with an event up to the end of its own step
   length-own : (one other : ℕ) → other ≤ 2 * step_of one → length (pair_order interferes planned one other) ≡ 0
@@ -55,21 +49,8 @@ module _ (interferes : ℕ → ℕ → Bool) (planned : ℕ → ℤ) where
       let end = length-event (suc (suc (2 * some))) (2 * steps) in
       let first = length-append (orders interferes planned (2 * steps) (2 * some)) (event_orders interferes planned (suc (2 * some)) (2 * steps)) in
       let second = length-append (orders interferes planned (2 * steps) (2 * some) ++ event_orders interferes planned (suc (2 * some)) (2 * steps)) (event_orders interferes planned (suc (suc (2 * some))) (2 * steps)) in
-      let one : step_of (suc (2 * some)) ≡ suc some = omega arith in
-      let two : step_of (suc (suc (2 * some))) ≡ suc some = omega arith in
       rw next (omega arith)
 
   -- a plan has few enough bounds
   pub few_bounds : (duration : ℕ → ℤ) (steps : ℕ) → steps ≤ most_steps → length (bounds interferes planned duration steps) ≤ most_base_bounds
-  few_bounds duration steps small =
-      let many = length-steps steps steps (omega arith) in
-      let square : steps * steps ≤ steps * most_steps = mul-le-mul_left steps small in
-      omega (
-        arith,
-        many,
-        square,
-        length-append (horizon_bounds (2 * steps) ++ duration_bounds duration steps) (orders interferes planned (2 * steps) (2 * steps)),
-        length-append (horizon_bounds (2 * steps)) (duration_bounds duration steps),
-        length-horizon_bounds (2 * steps),
-        length-duration_bounds duration steps,
-      )
+  few_bounds duration steps small = search (rules, length-steps, mul-le-mul_left, length-append, length-horizon_bounds, length-duration_bounds)

@@ -2,7 +2,7 @@
 use Rattle.std.{proofs.{Common.{◌≡◌, ◌<◌, ◌≤◌, ◌+◌, ℕ, true, false, nat_lt, List, [], ◌∷◌, ◌++◌, length, Option, Result, Ok, Err, IsOk, refl, sym, ap, subst, ◌∙◌, arith, All}, lemmas.{Bool.{lt-ltb, le-ltb}, List.Elements.{All-head, All-tail}}}, specs.Option.option_to_list}
 use Rattle.stn_text.specs.Faults.{◌>>=◌, Unless}
 use Rattle.stn_pddl.specs.Schemas.{ActionSchema}
-use Rattle.stn_lift.{specs.{declared.{plan.fault.PlanFault.PlanFault, fault.LiftFault.LiftFault}, Plan.{Lines.lines_of, Steps.{PlannedStep, most_text, most_steps, line_step, steps_of, limited, plan_of}, Faults.{IsFirstLineFault, IsPlanCause as IsPlanCause}}, Activities.{Activity, activity_of, activities, IsFirstRefusedStep, IsLiftCause as IsLiftCause}}, proofs.{plan.PlanFacts.plan_of-many, Steps.cause_of}}
+use Rattle.stn_lift.{specs.{declared.{plan.fault.PlanFault.PlanFault, fault.LiftFault.LiftFault}, Plan.{Lines.lines_of, Steps.{PlannedStep, most_text, line_step, steps_of, plan_of}, Faults.{IsFirstLineFault, IsPlanCause as IsPlanCause}}, Activities.{Activity, activity_of, activities, IsFirstRefusedStep, IsLiftCause as IsLiftCause}}, proofs.{plan.PlanFacts.plan_of-many, Steps.cause_of}}
 use Rattle.stn_lift.specs.declared.plan.fault.PlanFault.TheVariants as plan
 use Rattle.stn_lift.specs.declared.fault.LiftFault.TheVariants as lifting
 use Rattle.stn_lift.specs.Plan.Steps as read

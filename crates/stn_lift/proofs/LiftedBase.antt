@@ -1,9 +1,9 @@
 -- The base of a plan in a domain.
-use Rattle.std.{specs.{Prelude.slice_index_or, List.{All, AllByRecursion}}, proofs.{Common.{◌≡◌, ℕ, ◌+◌, ◌*◌, ◌<◌, ◌≤◌, ℤ, pos, ◌+ℤ◌, ◌≤ℤ◌, zero, suc, List, [], ◌∷◌, length, take, Ok, refl, sym, ap, subst, ◌∙◌, arith}, lemmas.{Int.ints, List.length-map}}}
+use Rattle.std.{specs.{Prelude.slice_index_or, List.AllByRecursion}, proofs.{Common.{rules, ◌≡◌, ℕ, ◌+◌, ◌*◌, ◌<◌, ◌≤◌, ℤ, pos, ◌+ℤ◌, ◌≤ℤ◌, zero, suc, List, [], ◌∷◌, length, Ok, refl, sym, ap, subst, ◌∙◌, arith}, lemmas.{Int.ints, List.length-map}}}
 use Rattle.stn_time.specs.Time.{horizon}
-use Rattle.stn_net.specs.{Event.most_steps, Difference.NamesEvents, Horizon.horizon_bounds, Schedule.{times_of, IsSchedule}}
+use Rattle.stn_net.specs.{Event.most_steps, Schedule.{times_of, IsSchedule}}
 use Rattle.stn_pddl.specs.{Tree.Scan.most_text, Schemas.ActionSchema, Domains.domain_of}
-use Rattle.stn_lift.{specs.{Plan.Steps.{PlannedStep, plan_of}, Footprints.Footprint, Activities.{Activity, activities}, BaseBounds.{times_behind, event_times, events_interfere, duration_of, lifted_bounds, KeepsOrder}, Timelines.{IsTimed, IsLifted, IsWholeTimeline, numbered_bounds}, PlanSource.{files, of_lift, base_of, source_with, activities_of, most_base_bounds, IsSoundSource, IsBase}}, proofs.{SoundBounds.{bounds, first_horizons, all_named, planned_possible, order_keeps}, FewBounds.few_bounds, Steps.length-activities, Texts.{lifted-Ok, texts_lifted}}}
+use Rattle.stn_lift.{specs.{Plan.Steps.{PlannedStep, plan_of}, Footprints.Footprint, Activities.{Activity, activities}, BaseBounds.{times_behind, event_times, events_interfere, duration_of, lifted_bounds}, Timelines.{IsTimed, IsLifted, IsWholeTimeline, numbered_bounds}, PlanSource.{files, of_lift, base_of, source_with, activities_of, IsSoundSource, IsBase}}, proofs.{SoundBounds.{bounds, first_horizons, all_named, planned_possible, order_keeps}, FewBounds.few_bounds, Steps.length-activities, Texts.{lifted-Ok, texts_lifted}}}
 
 -- a time lies from 0 to the horizon
 abbrev IsWithin : ℤ → Type 0
@@ -14,8 +14,8 @@ unfolding times_behind
 times_within [] timed = tt
 times_within (step ∷ steps) timed =
     let first : IsTimed step = timed.0 in
-    let start : IsWithin step.time = (first.time, omega (arith, ints, first.time, first.duration, first.last)) in
-    let end : IsWithin (step.time +ℤ step.duration) = (omega (arith, ints, first.time, first.duration), first.last) in
+    let start : IsWithin step.time = search rules in
+    let end : IsWithin (step.time +ℤ step.duration) = search rules in
     (start, (end, times_within steps timed.1))
 
 -- at any place, 0 where the list has none
@@ -40,7 +40,7 @@ module _ (steps : List Activity) (timed : AllByRecursion IsTimed steps) (small :
   lasting place within =
       let end : 2 * place + 2 ≡ suc (2 * place + 1) = omega arith in
       let start : 2 * place + 1 ≡ suc (2 * place) = omega arith in
-      rw end (ends_at steps place within ∙ ap (λ n. times_of (event_times steps) n +ℤ duration_of steps place) (sym start))
+      search (rules, ends_at)
 
   times_are_within : (event : ℕ) → event ≤ 2 * length steps → IsWithin (times_of (event_times steps) event)
   times_are_within event last = time_within (event_times steps) ((omega (arith, ints), omega (arith, ints)), times_within steps timed) event
@@ -53,33 +53,25 @@ module _ (steps : List Activity) (timed : AllByRecursion IsTimed steps) (small :
       record {
         based = based;
         small = subst (λ (found : List Activity). length found ≤ most_steps) (sym is) small;
-        horizon = subst (λ (found : List Activity). take (2 * length found) (lifted_bounds found) ≡ horizon_bounds (2 * length found)) (sym is)
-            (first_horizons (events_interfere steps) (planned steps) (duration_of steps) (length steps));
-        named = subst (λ (found : List Activity). All (NamesEvents (2 * length found)) (lifted_bounds found)) (sym is)
-            (all_named (events_interfere steps) (planned steps) (duration_of steps) (length steps));
-        few = subst (λ (found : List Activity). length (lifted_bounds found) ≤ most_base_bounds) (sym is)
-            (few_bounds (events_interfere steps) (planned steps) (duration_of steps) (length steps) small);
+        horizon = search (rules, first_horizons);
+        named = search (rules, all_named);
+        few = search (rules, few_bounds);
         possible = subst (λ (found : List Activity). IsSchedule (lifted_bounds found) (planned found)) (sym is)
             (planned_possible (events_interfere steps) (planned steps) (duration_of steps) (length steps) refl times_are_within lasting);
-        ordered = subst (λ (found : List Activity). KeepsOrder (2 * length found) (events_interfere found) (planned found) (lifted_bounds found)) (sym is)
-            (order_keeps (events_interfere steps) (planned steps) (duration_of steps) (length steps));
+        ordered = search (rules, order_keeps);
         texts = (short_domain, short_plan);
       }
 
 module _ (steps : List Activity) (durations times : List ℤ) (footprints : List (Footprint ℕ)) (made : IsLifted steps durations times footprints) where
   -- the bounds by numbers are the bounds by atoms
   same_bounds : numbered_bounds durations times footprints ≡ lifted_bounds steps
-  same_bounds =
-      ap (λ f. bounds f (times_of times) (λ b. slice_index_or durations b (pos 0)) (length durations)) (λ i one other. made.interfering one other i)
-      ∙ ap (λ ts. bounds (events_interfere steps) (times_of ts) (λ b. slice_index_or durations b (pos 0)) (length durations)) made.timed
-      ∙ ap (λ ds. bounds (events_interfere steps) (times_of (event_times steps)) (λ b. slice_index_or ds b (pos 0)) (length ds)) made.lasting
-      ∙ ap (bounds (events_interfere steps) (times_of (event_times steps)) (duration_of steps)) (rw length-map refl)
+  same_bounds = search (rules, bounds, lasting, length-map)
 
   counted : length durations ≡ length steps
   counted = ap length made.lasting ∙ rw length-map refl
 
   pub is_whole : length steps ≤ most_steps → IsWholeTimeline durations times footprints
-  is_whole small = record { few = omega (arith, counted); many_times = made.many_times; many_footprints = made.many_footprints }
+  is_whole small = omega (arith, counted)
 
   module _ (domain plan : List ℕ) (actions : List ActionSchema) (planned : List PlannedStep) (domain_is : domain_of domain ≡ Ok actions) (plan_is : plan_of plan ≡ Ok planned)
       (found : activities actions 0 planned ≡ Ok steps) where

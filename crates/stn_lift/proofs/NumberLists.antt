@@ -1,8 +1,8 @@
 -- Numbers of atoms, as a numbering grows.
-use Rattle.std.{proofs.{Common.{◌≡◌, ℕ, ◌+◌, ◌<◌, List, [], ◌∷◌, ◌++◌, map, length, take, get_or, IsPermutation, sym, ap, subst, ◌∙◌, ⊎_elim, append_assoc, arith}, lemmas.List.{map-append, take_more, get_or-map, length-map, Elements.{All-from_recursion, Contains-push, Contains-push_cases, Contains-append_left}, Sorted.{IsPermutation-sym, Contains-permutation}}}, specs.List.{AllZip, AllByRecursion}}
+use Rattle.std.{proofs.{Common.{rules, ◌≡◌, ℕ, ◌+◌, ◌<◌, List, [], ◌∷◌, ◌++◌, map, length, take, get_or, IsPermutation, sym, ap, subst, ◌∙◌, ⊎_elim}, lemmas.List.{map-append, take_more, get_or-map, length-map, Elements.{All-from_recursion, Contains-push, Contains-push_cases, Contains-append_left}, Sorted.{IsPermutation-sym, Contains-permutation}}}, specs.List.{AllZip, AllByRecursion}}
 use Rattle.indexmap.proofs.SetLemmas.{AllZip-push}
-use Rattle.stn_pddl.specs.{Schemas.{TermSchema, AtomSchema}, Tree.Names.folded}
-use Rattle.stn_lift.specs.{Footprints.{GroundAtom, Footprint, term_name, ground}, Numbering.{Numbering, IsNameAt, IsNumberOf, KeepsNumbers, AreNumbersOf, IsNumbered}}
+use Rattle.stn_pddl.specs.{Schemas.TermSchema, Tree.Names.folded}
+use Rattle.stn_lift.specs.{Footprints.{GroundAtom, Footprint, term_name}, Numbering.{Numbering, IsNameAt, IsNumberOf, KeepsNumbers, AreNumbersOf, IsNumbered}}
 
 pub zip_weaker : {A B : Type 0} (R S : A → B → Type 0) → ((a : A) (b : B) → R a b → S a b) → (xs : List A) (ys : List B) → AllZip R xs ys → AllZip S xs ys
 zip_weaker R S each [] [] all = all
@@ -11,21 +11,14 @@ zip_weaker R S each (a ∷ xs) [] all = absurd all
 zip_weaker R S each (a ∷ xs) (b ∷ ys) all = (each a b all.0, zip_weaker R S each xs ys all.1)
 
 pub kept_along : (first second third : Numbering) → KeepsNumbers first second → KeepsNumbers second third → KeepsNumbers first third
-kept_along first second third one two = record {
-  names = λ number name there. two.names number name (one.names number name there);
-  spellings = λ number spelling there. two.spellings number spelling (one.spellings number spelling there);
-}
+kept_along first second third one two = search rules
 
 module _ (old new : Numbering) (kept : KeepsNumbers old new) where
   pub names_kept : (spelling : List ℕ) (atom : GroundAtom) → AllZip (IsNameAt old.names) spelling atom → AllZip (IsNameAt new.names) spelling atom
   names_kept spelling atom = zip_weaker (IsNameAt old.names) (IsNameAt new.names) kept.names spelling atom
 
   pub number_kept : (number : ℕ) (atom : GroundAtom) → IsNumberOf old number atom → IsNumberOf new number atom
-  number_kept number atom is = record {
-    spelling = is.spelling;
-    stored = kept.spellings number is.spelling is.stored;
-    names = names_kept is.spelling atom is.names;
-  }
+  number_kept number atom is = search (rules, names_kept)
 
   pub numbers_kept : (numbers : List ℕ) (atoms : List GroundAtom) → AreNumbersOf old numbers atoms → AreNumbersOf new numbers atoms
   numbers_kept numbers atoms are = record {
@@ -34,11 +27,7 @@ module _ (old new : Numbering) (kept : KeepsNumbers old new) where
   }
 
   pub numbered_kept : (numbered : Footprint ℕ) (atoms : Footprint GroundAtom) → IsNumbered old numbered atoms → IsNumbered new numbered atoms
-  numbered_kept numbered atoms is = record {
-    needs = numbers_kept numbered.needs atoms.needs is.needs;
-    adds = numbers_kept numbered.adds atoms.adds is.adds;
-    deletes = numbers_kept numbered.deletes atoms.deletes is.deletes;
-  }
+  numbered_kept numbered atoms is = search (rules, numbers_kept)
 
 module _ (args : List (List ℕ)) where
   -- one term more
@@ -53,21 +42,9 @@ module _ (args : List (List ℕ)) where
       subst (λ ts. AllZip (IsNameAt names) (spelling ++ number ∷ []) (first ∷ ts)) (sym mapped)
       (AllZip-push (IsNameAt names) spelling (first ∷ map f (take place terms)) number (f term) all one)
 
-  -- one atom more
-  pub grounded_more : (before : List GroundAtom) (atoms : List AtomSchema) (place : ℕ) (atom : AtomSchema) → place < length atoms → atom ≡ get_or atoms place atom
-      → (before ++ map (ground args) (take place atoms)) ++ ground args atom ∷ [] ≡ before ++ map (ground args) (take (place + 1) atoms)
-  grounded_more before atoms place atom within here =
-      let more : take (place + 1) atoms ≡ take place atoms ++ atom ∷ [] = take_more atoms place atom within ∙ ap (λ a. take place atoms ++ a ∷ []) (sym here) in
-      let mapped : map (ground args) (take (place + 1) atoms) ≡ map (ground args) (take place atoms) ++ ground args atom ∷ [] =
-      ap (map (ground args)) more ∙ map-append (ground args) (take place atoms) (atom ∷ []) in
-      append_assoc before (map (ground args) (take place atoms)) (ground args atom ∷ []) ∙ ap (λ l. before ++ l) (sym mapped)
-
 module _ (numbering : Numbering) where
   pub numbers_none : AreNumbersOf numbering [] []
-  numbers_none = record {
-    sound = λ number there. let none : there.0 < 0 = there.1 in absurd (omega arith);
-    full = λ atom there. let none : there.0 < 0 = there.1 in absurd (omega arith);
-  }
+  numbers_none = search rules
 
   -- one more
   pub numbers_push : (numbers : List ℕ) (atoms : List GroundAtom) (number : ℕ) (atom : GroundAtom) → AreNumbersOf numbering numbers atoms → IsNumberOf numbering number atom

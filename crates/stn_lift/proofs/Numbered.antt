@@ -1,5 +1,5 @@
 -- Sets in their order, and what their keys say.
-use Rattle.std.{proofs.{Common.{◌≡◌, ℕ, ◌<◌, Bool, true, false, cond, List, [], ◌∷◌, ◌++◌, map, zero, suc, Option, Some, None, slice_get, refl, sym, ap, ◌∙◌, ⊎_elim, Decides, arith}, lemmas.{Bool.{false≢true, cases_lt}, Map.Keys.apart_from_distinct, List.map-append, Option.{slice_get-map, slice_get_within, get_or_from_slice_get, same_Some}}}, specs.{List.{IsDistinct, list_any}, Option.option_map}}
+use Rattle.std.{proofs.{Common.{rules, ◌≡◌, ℕ, ◌<◌, Bool, true, false, cond, List, [], ◌∷◌, ◌++◌, map, zero, suc, Option, Some, None, slice_get, refl, sym, ap, ◌∙◌, Decides}, lemmas.{Bool.{false≢true, cases_lt}, Map.Keys.apart_from_distinct, List.map-append, Option.{slice_get-map, slice_get_within, get_or_from_slice_get, same_Some}}}, specs.{List.{IsDistinct, list_any}, Option.option_map}}
 use Rattle.indexmap.specs.IndexSet.{insert_key}
 use Rattle.stn_lift.specs.Numbering.{AreDifferent}
 
@@ -32,10 +32,7 @@ module _ {K X : Type 0} (eq : K → K → Bool) (view : K → X) (decides : (a b
 
   -- distinct keys say different things
   pub different : (ks : List K) → IsDistinct eq ks → AreDifferent (map view ks)
-  different ks distinct i j x at_i at_j =
-      ⊎_elim (λ less. absurd (not_before ks i j x distinct at_i at_j less))
-      (λ most. ⊎_elim (λ less. absurd (not_before ks j i x distinct at_j at_i less)) (λ least. omega arith) (cases_lt j i))
-      (cases_lt i j)
+  different ks distinct i j x at_i at_j = search (rules, not_before, cases_lt)
 
   -- the place of a key that was inserted
   pub stored_at : (ks : List K) (value : K) (i : ℕ) → (k : K) × (slice_get ks i ≡ Some k) × (eq value k ≡ true) → slice_get (map view ks) i ≡ Some (view value)

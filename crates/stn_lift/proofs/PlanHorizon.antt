@@ -1,5 +1,5 @@
 -- The bounds of the horizon, with which a plan's bounds begin.
-use Rattle.std.proofs.Common.{ℕ, ◌≤◌, length, take, ap, arith, length-take}
+use Rattle.std.proofs.Common.{◌≤◌, length, ap, arith, length-take}
 use Rattle.stn_net.proofs.Horizons.{length-horizon_bounds}
 use Rattle.stn_lift.specs.PlanSource.{PlanSource, base_bounds, events_of, IsSoundSource}
 

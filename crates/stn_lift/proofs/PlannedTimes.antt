@@ -1,8 +1,8 @@
 -- When a plan made from texts has its steps.
-use Rattle.std.{specs.Prelude.slice_index_or, proofs.Common.{◌≡◌, ℕ, ◌+◌, ◌-◌, ◌*◌, pos, ◌+ℤ◌, suc, Bool, true, false, cond, List, [], ◌∷◌, ◌++◌, length, Some, Result, Ok, Err, refl, sym, ap, ◌∙◌, arith}}
+use Rattle.std.{specs.Prelude.slice_index_or, proofs.Common.{rules, ◌≡◌, ℕ, ◌+◌, ◌-◌, ◌*◌, pos, ◌+ℤ◌, suc, Bool, true, false, cond, List, [], ◌∷◌, ◌++◌, length, Some, Result, Ok, Err, refl, sym, ap, ◌∙◌, arith}}
 use Rattle.stn_text.{specs.Faults.{◌>>=◌}, proofs.Readings.bind_ok}
 use Rattle.stn_pddl.specs.{Schemas.ActionSchema, Domains.action_named}
-use Rattle.stn_lift.{specs.{Plan.Steps.PlannedStep, declared.fault.LiftFault.{LiftFault, TheVariants.{Arity, DurationDiffers, PastHorizon}}, BaseBounds.times_behind, PlannedTimes.{IsStepOf, IsPlannedAt}, Activities.{Activity, activity, with_action, with_found, activity_of, activities}, PlanSource.{files, of_lift, source_with, base_of, planned_of}}, proofs.Texts.{lifted-Ok, texts_lifted}}
+use Rattle.stn_lift.{specs.{Plan.Steps.PlannedStep, declared.fault.LiftFault.{LiftFault, TheVariants.{Arity, DurationDiffers, PastHorizon}}, BaseBounds.times_behind, PlannedTimes.{IsStepOf, IsPlannedAt}, Activities.{Activity, activity, with_action, activity_of, activities}, PlanSource.{files, of_lift, source_with, base_of, planned_of}}, proofs.Texts.{lifted-Ok, texts_lifted}}
 
 -- a step that is not refused does what its action says
 module _ (number : ℕ) (made one : Activity) where
@@ -16,9 +16,7 @@ module _ (number : ℕ) (made one : Activity) where
 activity_of-Ok : (actions : List ActionSchema) (number : ℕ) (step : PlannedStep) (action : ActionSchema) (one : Activity)
     → activity_of actions number step ≡ Ok one → action_named step.action actions ≡ Some action → activity step action ≡ one
 unfolding activity_of with_action
-activity_of-Ok actions number step action one e named =
-    let found : with_action number step action ≡ Ok one = ap (with_found number step) (sym named) ∙ e in
-    accepted number (activity step action) one _ _ _ found
+activity_of-Ok actions number step action one e named = search rules
 
 -- the times of a step after so many others
 times_at : (actions : List ActionSchema) (before : ℕ) (earlier : List PlannedStep) (step : PlannedStep) (later : List PlannedStep) (action : ActionSchema) (found : List Activity)
@@ -30,7 +28,7 @@ times_at actions before [] step later action found e named =
     let first = bind_ok (activity_of actions (before + 1) step) (λ first. activities actions (before + 1) later >>= λ others. Ok (first ∷ others)) found e in
     let others = bind_ok (activities actions (before + 1) later) (λ others. Ok (first.0 ∷ others)) found first.2 in
     let same : first.0 ∷ others.0 ≡ found = let given = others.2 in cc in
-    let listed : activity step action ∷ others.0 ≡ found = ap (λ one. one ∷ others.0) (activity_of-Ok actions (before + 1) step action first.0 first.1 named) ∙ same in
+    let listed : activity step action ∷ others.0 ≡ found = search (rules, activity_of-Ok) in
     rw (← listed) (refl, refl)
 times_at actions before (other ∷ earlier) step later action found e named =
     let steps = earlier ++ step ∷ later in
@@ -59,7 +57,4 @@ planned_at domain plan based number step action is =
     let start : 2 * number - 1 ≡ suc (2 * length is.earlier) = omega (arith, is.counted) in
     let end : 2 * number ≡ suc (2 * length is.earlier + 1) = omega (arith, is.counted) in
     let given = texts_lifted domain plan is.actions steps found.0 is.given is.read found.1 in
-    record {
-      start = rw (start, given) times.0;
-      end = rw (end, given) times.1;
-    }
+    search rules

@@ -1,5 +1,5 @@
 -- What is in two lists at once, by atoms and by their numbers.
-use Rattle.std.{specs.{Prelude.slice_index_or, List.{AllZip, list_any}}, proofs.{Common.{◌≡◌, ℕ, Bool, true, nat_eq, List, [], ◌∷◌, Some, zero, suc, Contains, Decides, refl, sym, ap, subst, ◌∙◌}, lemmas.{Bool.Decides.{Decides-eqb, same_from_decides}, List.Folds.{Any-from_list_any, list_any-from_Any}, Option.same_Some, Slice.Eq.{bytes_eq-Decides, slice_eq-Decides}}}}
+use Rattle.std.{specs.{Prelude.slice_index_or, List.{AllZip, list_any}}, proofs.{Common.{rules, ◌≡◌, ℕ, Bool, true, nat_eq, List, [], ◌∷◌, zero, suc, Contains, Decides, refl, sym, ap, subst, ◌∙◌}, lemmas.{Bool.Decides.{Decides-eqb, same_from_decides}, List.Folds.{Any-from_list_any, list_any-from_Any}, Option.same_Some, Slice.Eq.{bytes_eq-Decides, slice_eq-Decides}}}}
 use Rattle.stn_lift.{specs.{Footprints.{GroundAtom, Footprint, no_footprint, is_same_atom, IsInBoth, share, touches, interfere}, Numbering.{Numbering, AreDifferent, IsUnambiguous, IsNameAt, IsNumberOf, AreNumbersOf, IsNumbered}, Timelines.numbers_at}, proofs.NumberLists.numbers_none}
 
 -- the test finds an element that is in both lists, and none where there is none
@@ -44,14 +44,10 @@ module _ (numbering : Numbering) where
       ap (λ z. z ∷ s) first ∙ ap (λ l. m ∷ l) others
 
   same_atoms : (number : ℕ) (a b : GroundAtom) → IsNumberOf numbering number a → IsNumberOf numbering number b → a ≡ b
-  same_atoms number a b p q =
-      let spelt : p.spelling ≡ q.spelling = same_Some p.spelling q.spelling (sym p.stored ∙ q.stored) in
-      one_atom q.spelling a b (subst (λ s. AllZip (IsNameAt numbering.names) s a) spelt p.names) q.names
+  same_atoms number a b p q = search (rules, same_Some, one_atom)
 
   same_numbers : IsUnambiguous numbering → (n m : ℕ) (atom : GroundAtom) → IsNumberOf numbering n atom → IsNumberOf numbering m atom → n ≡ m
-  same_numbers unambiguous n m atom p q =
-      let spelt : p.spelling ≡ q.spelling = one_spelling unambiguous.names p.spelling q.spelling atom p.names q.names in
-      unambiguous.spellings n m q.spelling (p.stored ∙ ap Some spelt) q.stored
+  same_numbers unambiguous n m atom p q = search (rules, one_spelling)
 
   module _ (unambiguous : IsUnambiguous numbering) where
     -- numbers are shared where atoms are

@@ -1,5 +1,5 @@
 -- What holds of the bounds of a plan.
-use Rattle.std.{proofs.{Common.{◌≡◌, ◌≢◌, ℕ, ◌+◌, ◌*◌, ◌<◌, ◌≤◌, ℤ, pos, ◌+ℤ◌, ◌≤ℤ◌, ◌<ℤ◌, zero, suc, Bool, true, false, not, ◌&&◌, eqb, nat_lt, cond, List, [], ◌∷◌, ◌++◌, length, get_or, take, Ordering, Less, Equal, Greater, refl, sym, ap, subst, ◌∙◌, arith, append_assoc, length-append}, lemmas.{Bool.Decides.nat_tests, Int.ints, List.{get_or_default, take-append-le, take_all, Elements.{All-from_recursion, recursion_from_All}}}}, specs.{List.{All, AllByRecursion}, Ordering.{int_cmp, MatchOrdering}, Cmp.int_ranks}}
+use Rattle.std.{proofs.{Common.{rules, ◌≡◌, ◌≢◌, ℕ, ◌+◌, ◌*◌, ◌<◌, ◌≤◌, ℤ, pos, ◌+ℤ◌, ◌≤ℤ◌, ◌<ℤ◌, zero, suc, Bool, true, false, not, ◌&&◌, eqb, nat_lt, cond, List, [], ◌∷◌, ◌++◌, length, get_or, take, Ordering, Less, Equal, Greater, refl, subst, arith, append_assoc, length-append}, lemmas.{Bool.Decides.nat_tests, Int.ints, List.{get_or_default, take-append-le, take_all, Elements.{All-from_recursion, recursion_from_All}}}}, specs.{List.{All, AllByRecursion}, Ordering.{int_cmp, MatchOrdering}, Cmp.int_ranks}}
 use Rattle.stn_time.{specs.Time.horizon, proofs.Each.{each_joined, each_parted, each_pushed}}
 use Rattle.stn_net.{specs.{Difference.{Difference, NamesEvents}, Horizon.{horizon_bound, horizon_bounds}, Schedule.{Meets, IsSchedule}}, proofs.Horizons.length-horizon_bounds}
 use Rattle.stn_lift.specs.BaseBounds.{step_of, duration_bound, order_bound, pair_order, event_orders, orders, duration_bounds, IsOrderedPair, KeepsOrder}
@@ -62,11 +62,7 @@ module _ (interferes : ℕ → ℕ → Bool) (planned duration : ℕ → ℤ) (s
 
   -- the first bounds are the horizon bounds
   pub first_horizons : take (2 * steps) bounds ≡ horizon_bounds (2 * steps)
-  first_horizons =
-      let many = length-horizon_bounds (2 * steps) in
-      let inner : 2 * steps ≤ length (horizon_bounds (2 * steps) ++ duration_bounds duration steps) = omega (arith, length-append (horizon_bounds (2 * steps)) (duration_bounds duration steps)) in
-      let front : 2 * steps ≤ length (horizon_bounds (2 * steps)) = omega arith in
-      rw (take-append-le, take-append-le) (take_all (2 * steps) (horizon_bounds (2 * steps)) (omega arith))
+  first_horizons = search (rules, length-horizon_bounds, length-append, take-append-le, take_all)
 
   order_named : (one other : ℕ) (o : Ordering) → one ≤ 2 * steps → other ≤ 2 * steps → NamesEvents (2 * steps) (order_bound one other o)
   order_named one other Less first second = record { from = first; to = second }
@@ -145,12 +141,9 @@ module _ (interferes : ℕ → ℕ → Bool) (planned duration : ℕ → ℤ) (s
   order_kept : (one other : ℕ) (o : Ordering) (time : ℕ → ℤ) → MatchOrdering o (planned one <ℤ planned other) (planned one ≡ planned other) (planned other <ℤ planned one)
       → Meets time (order_bound one other o)
       → (planned one <ℤ planned other → time one <ℤ time other) × (planned other <ℤ planned one → time other <ℤ time one) × (planned one ≡ planned other → time one ≡ time other)
-  order_kept one other Less time is met =
-      (λ h. omega (arith, ints, met.0), λ h. absurd (omega (arith, ints, is, h)), λ h. absurd (omega (arith, ints, is, h)))
-  order_kept one other Equal time is met =
-      (λ h. absurd (omega (arith, ints, is, h)), λ h. absurd (omega (arith, ints, is, h)), λ h. omega (arith, ints, met.0, met.1))
-  order_kept one other Greater time is met =
-      (λ h. absurd (omega (arith, ints, is, h)), λ h. omega (arith, ints, met.0), λ h. absurd (omega (arith, ints, is, h)))
+  order_kept one other Less time is met = search rules
+  order_kept one other Equal time is met = search rules
+  order_kept one other Greater time is met = search rules
 
   -- in every schedule events that interfere keep the plan's order
   pub order_keeps : KeepsOrder (2 * steps) interferes planned bounds
@@ -167,22 +160,11 @@ module _ (interferes : ℕ → ℕ → Bool) (planned duration : ℕ → ℤ) (s
 pub more_pairs : (interferes : ℕ → ℕ → Bool) (planned : ℕ → ℤ) (one count : ℕ) (first old new : List Difference) → old ≡ first ++ event_orders interferes planned one count
     → new ≡ old ++ pair_order interferes planned one (count + 1) → new ≡ first ++ event_orders interferes planned one (count + 1)
 unfolding event_orders
-more_pairs interferes planned one count first old new was is =
-    let next : suc count ≡ count + 1 = omega arith in
-    let more : event_orders interferes planned one (count + 1) ≡ event_orders interferes planned one count ++ pair_order interferes planned one (count + 1) =
-    subst (λ n. event_orders interferes planned one n ≡ event_orders interferes planned one count ++ pair_order interferes planned one n) next refl in
-    is ∙ ap (λ l. l ++ pair_order interferes planned one (count + 1)) was
-    ∙ append_assoc first (event_orders interferes planned one count) (pair_order interferes planned one (count + 1)) ∙ ap (λ l. first ++ l) (sym more)
+more_pairs interferes planned one count first old new was is = search (rules, append_assoc)
 
 -- the bounds of one duration more
 pub more_durations : (durations : List ℤ) (before : ℕ) (duration : ℤ) (first old new : List Difference) → before < length durations → duration ≡ get_or durations before duration
     → old ≡ first ++ duration_bounds (λ step. get_or durations step (pos 0)) before → new ≡ old ++ duration_bound before duration ∷ []
     → new ≡ first ++ duration_bounds (λ step. get_or durations step (pos 0)) (before + 1)
 unfolding duration_bounds
-more_durations durations before duration first old new within read was is =
-    let of_step : ℕ → ℤ = λ step. get_or durations step (pos 0) in
-    let next : suc before ≡ before + 1 = omega arith in
-    let more : duration_bounds of_step before ++ duration_bound before duration ∷ [] ≡ duration_bounds of_step (before + 1) =
-    ap (λ d. duration_bounds of_step before ++ duration_bound before d ∷ []) (read ∙ get_or_default durations before duration (pos 0) within)
-    ∙ ap (duration_bounds of_step) next in
-    is ∙ ap (λ l. l ++ duration_bound before duration ∷ []) was ∙ append_assoc first (duration_bounds of_step before) (duration_bound before duration ∷ []) ∙ ap (λ l. first ++ l) more
+more_durations durations before duration first old new within read was is = search (rules, get_or_default, append_assoc)

@@ -1,5 +1,5 @@
 -- The steps of a source, one by one and together.
-use Rattle.std.{proofs.{Common.{◌≡◌, ℕ, ◌+◌, ◌≤◌, List, [], ◌∷◌, ◌++◌, length, Result, Ok, Err, IsOk, refl, ap, subst, arith}, lemmas.Result.{MatchResult-at_ok, MatchResult-at_err, MatchResult-weaker}}, specs.Result.{MatchResult, result_unwrap_or}}
+use Rattle.std.{proofs.{Common.{rules, ◌≡◌, ℕ, ◌+◌, ◌≤◌, List, [], ◌∷◌, ◌++◌, length, Result, Ok, Err, IsOk, refl, ap, subst, arith}, lemmas.Result.{MatchResult-at_ok, MatchResult-at_err, MatchResult-weaker}}, specs.Result.{MatchResult, result_unwrap_or}}
 use Rattle.stn_text.{specs.Faults.{◌>>=◌, Fails}, proofs.Readings.both_give}
 use Rattle.stn_net.specs.Event.{most_steps}
 use Rattle.stn_pddl.specs.{declared.fault.DomainFault.DomainFault, Schemas.ActionSchema, Domains.domain_of}
@@ -62,14 +62,7 @@ length-activities actions before steps found is =
 first_refused : (actions : List ActionSchema) (steps : List PlannedStep) (fault : LiftFault) → activities actions 0 steps ≡ Err fault → IsFirstRefusedStep actions steps fault
 first_refused actions steps fault e =
     let parts = MatchResult-at_err (λ (found : List Activity). length found ≡ length steps) (Parts actions 0 steps) fault e (activities_given actions 0 steps) in
-    record {
-      earlier = parts.earlier;
-      step = parts.step;
-      later = parts.later;
-      whole = parts.whole;
-      refused = subst (λ n. activity_of actions n parts.step ≡ Err fault) (omega arith) parts.refused;
-      none_before = parts.none_before;
-    }
+    search rules
 
 pub cause_of : (actions : List ActionSchema) (steps : List PlannedStep) (fault : LiftFault) → Fails is_lift_memory fault (activities actions 0 steps) → IsLiftCause actions steps fault
 cause_of actions steps (UnknownAction step) is = first_refused actions steps _ is

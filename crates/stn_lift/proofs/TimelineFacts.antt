@@ -1,5 +1,5 @@
 -- The steps of a plan, one after another.
-use Rattle.std.{proofs.{Common.{◌≡◌, ℕ, ℤ, pos, ◌+ℤ◌, suc, ◌+◌, ◌*◌, ◌<◌, List, [], ◌∷◌, ◌++◌, map, length, get_or, drop, add-one, Result, Ok, Err, refl, sym, ap, subst, ◌∙◌, append_assoc, arith}, Math.Seq.drop-cons, lemmas.{Slice.Zip.AllZip-long, List.{map-append, append-nil, length-map}}}, specs.List.AllZip}
+use Rattle.std.proofs.{Common.{rules, ◌≡◌, ℕ, ℤ, pos, ◌+ℤ◌, suc, ◌+◌, ◌*◌, ◌<◌, List, [], ◌∷◌, ◌++◌, map, length, get_or, drop, add-one, Result, Ok, Err, refl, sym, ap, subst, ◌∙◌, append_assoc, arith}, Math.Seq.drop-cons, lemmas.{Slice.Zip.AllZip-long, List.{map-append, append-nil, length-map}}}
 use Rattle.indexmap.proofs.SetLemmas.{AllZip-push}
 use Rattle.stn_pddl.specs.Schemas.{ActionSchema}
 use Rattle.stn_time.proofs.Each.{each_pushed}
@@ -26,13 +26,7 @@ timeline_push old middle new steps step durations times footprints start end one
     footprints (event_footprints steps) was.numbered in
     let second = AllZip-push (IsNumbered new) footprints (event_footprints steps) start step.start first (numbered_kept middle new two start step.start starts) in
     let third = AllZip-push (IsNumbered new) (footprints ++ start ∷ []) (event_footprints steps ++ step.start ∷ []) end step.end second ends in
-    record {
-      unambiguous = unambiguous;
-      lasting = ap (λ ds. ds ++ step.duration ∷ []) was.lasting ∙ sym (map-append (λ (s : Activity). s.duration) steps (step ∷ []));
-      timed = ap (λ ts. (ts ++ step.time ∷ []) ++ (step.time +ℤ step.duration) ∷ []) was.timed ∙ ap (λ ts. pos 0 ∷ ts) (sym (times_behind-push steps step));
-      numbered = subst (λ fs. AllZip (IsNumbered new) ((footprints ++ start ∷ []) ++ end ∷ []) (no_footprint ∷ fs)) (sym (footprints_behind-push steps step)) third;
-      within = each_pushed IsTimed steps step was.within timed;
-    }
+    search (rules, map-append, times_behind-push, footprints_behind-push, each_pushed)
 
 -- the same, of lists that are known by equations
 pub timeline_pushed : (old middle new : Numbering) (steps : List Activity) (step : Activity) (durations times more_durations more_times : List ℤ)

@@ -1,5 +1,5 @@
 //! Timed plans: texts of steps, each with its time, its action and the action's arguments, and perhaps a duration.
-ghost use Rattle.std.specs.Prelude.{◌≡◌, ◌≤◌, length, map, All, Ok, IfOk, IfErr};
+ghost use Rattle.std.specs.Prelude.{◌≡◌, ◌≤◌, length, map, All, Ok, IfOk, IfErr, IsErrOf};
 ghost use Rattle.stn_text.specs.Faults.{Returns};
 ghost use Rattle.stn_lift.specs.Plan.{Steps.{is_plan_memory, IsTimely, most_steps, most_text, steps_of, plan_of}, Faults.IsPlanCause, Views.planned_step};
 
@@ -56,7 +56,8 @@ fn read_steps<'a, A: Allocator + Copy>(
 
 impl<'a, A: Allocator + Copy> Plan<'a, A> {
     /// Reads a plan from its text. The faults are looked for in this order: `TooLong`; the fault of the first line that
-    /// has one, `Syntax`, `Number` or `Negative`; `TooManySteps`. `Memory` may come in place of any answer.
+    /// has one, `Syntax`, `Number` or `Negative`; `TooManySteps`. `Memory` may come in place of any answer but
+    /// `TooLong`.
     #[tactic(auto, unfolding(crate::specs::Plan::Steps::plan_of, crate::specs::Plan::Steps::limited))]
     pub fn read(alloc: A, text: &'a [u8]) -> Result<Plan<'a, A>, PlanFault>
         ensures given { Returns is_plan_memory (λ plan. plan.steps) result (plan_of text.now) }
@@ -64,6 +65,7 @@ impl<'a, A: Allocator + Copy> Plan<'a, A> {
 
         // The text is too long, or the first line with a fault has it, or there are too many steps.
         ensures cause { IfErr result (IsPlanCause text.now) }
+        ensures memory { IsErrOf result PlanFault.Memory → length text.now ≤ most_text }
     {
         if is_too_long(text) {
             return Err(PlanFault::TooLong);

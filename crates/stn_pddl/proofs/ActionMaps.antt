@@ -1,15 +1,12 @@
 -- A map of actions, and the list of what it says.
-use Rattle.std.{proofs.Common.{◌≡◌, ℕ, Bool, true, false, ◌||◌, cond, List, [], ◌∷◌, ◌++◌, Option, Some, None, is_some, MatchOption, Result, Ok, Err, OnOk, OnErr, refl, sym, ◌∙◌, ap}, specs.{Option.{option_map, option_copied}, Borrow.Bor, Map.lookup}}
+use Rattle.std.{proofs.Common.{rules, ◌≡◌, ℕ, Bool, true, false, ◌||◌, cond, List, [], ◌∷◌, ◌++◌, Option, Some, None, is_some, MatchOption, Result, Ok, Err, OnOk, OnErr, refl, sym, ◌∙◌, ap}, specs.{Option.{option_map, option_copied}, Borrow.Bor, Map.lookup}}
 use Rattle.stn_time.proofs.Each.{each_pushed}
 use Rattle.stn_pddl.specs.{declared.{tree.name.Name.Name, action.Action.Action}, Tree.Names.is_same_word, Schemas.ActionSchema, Actions.is_taken, Domains.action_named, Views.{bytes_of_name, action_schema, entries_schema, AreNamed}}
 
 module _ {A : Type 0} where
-  AreNamed-push : (entries : List (Name × Action A)) (name : Name) (action : Action A) → bytes_of_name name ≡ (action_schema action).name → AreNamed entries → AreNamed (entries ++ (name, action) ∷ [])
-  AreNamed-push entries name action same named = each_pushed (λ (e : Name × Action A). bytes_of_name e.0 ≡ (action_schema e.1).name) entries (name, action) named same
-
   pub AreNamed-inserted : {E : Type 0} (result : Result (Unit {0}) E) (old new : List (Name × Action A)) (name : Name) (action : Action A) → bytes_of_name name ≡ (action_schema action).name
       → OnOk result (new ≡ old ++ (name, action) ∷ []) → OnErr result (new ≡ old) → AreNamed old → AreNamed new
-  AreNamed-inserted (Ok done) old new name action same added kept named = rw added (AreNamed-push old name action same named)
+  AreNamed-inserted (Ok done) old new name action same added kept named = rw added (search (rules, each_pushed))
   AreNamed-inserted (Err fault) old new name action same added kept named = rw kept named
 
   module _ (word : List ℕ) where

@@ -1,5 +1,5 @@
 -- The first fault of a domain has its cause.
-use Rattle.std.{proofs.{Common.{◌≡◌, ℕ, ◌<◌, ◌⊎◌, inl, inr, Bool, true, false, cond, ◌&&◌, List, [], length, Result, Ok, Err, refl, sym, ap, subst, ◌∙◌, codes}, lemmas.Result.MatchResult-at_err}, specs.List.AllByRecursion}
+use Rattle.std.{proofs.{Common.{rules, ◌≡◌, ℕ, ◌<◌, ◌⊎◌, inl, inr, Bool, true, false, cond, ◌&&◌, List, [], length, Result, Ok, Err, refl, sym, ap, subst, ◌∙◌, codes}, lemmas.Result.MatchResult-at_err}, specs.List.AllByRecursion}
 use Rattle.stn_pddl.{specs.{declared.{tree.scan.TreeFault.TreeFault, fault.DomainFault.{DomainFault, TheVariants.{TooLong, Syntax, TooDeep, Unsupported, Number, Twice, Variable, Memory}}}, Tree.{Names.is_same_word, Trees.{Trees, End, Word, Group}, Scan.{most_text, tree_of}}, Faults.{of_tree, is_memory}, Schemas.ActionSchema, Sound.IsSound, Domains.{part, parts, is_title, root, domain_of_tree, domain_of_bytes, domain_of}, Causes.{row_then, BeginsDomain, IsListAt, IsOtherList, IsRefusedPart, IsFirstRefusedPart, IsDomainCause}}, proofs.{tree.Faults.{tree_of-long, tree_of-list}, Forms.{IsFormFault, all_parts_given}}}
 use Rattle.stn_pddl.specs.declared.tree.scan.TreeFault.TheVariants as tree
 use Rattle.stn_text.specs.Faults.{◌>>=◌, Fails}
@@ -61,19 +61,7 @@ module _ (text : List ℕ) (fault : DomainFault) (line : ℕ) where
       → is_same_word define (codes "define") ≡ d → is_title title ≡ t → cond (d && t) (parts rest []) (Err (Syntax line)) ≡ Err fault → Origin text fault
   begun a b define title rest list true true is_define titled is =
       let found = first_part rest [] fault is in
-      forms (record {
-        line = line;
-        children = Word a define (Group b title rest);
-        list = list;
-        rest = rest;
-        domain = record { first_line = a; define = define; title_line = b; title = title; whole = refl; is_define = is_define; titled = titled };
-        earlier = found.earlier;
-        later = found.later;
-        whole = found.whole;
-        before = found.given;
-        none_before = found.none_before;
-        refused = found.refused;
-      }) (MatchResult-at_err (AllByRecursion IsSound) IsFormFault fault is (all_parts_given rest))
+      forms (search rules) (MatchResult-at_err (AllByRecursion IsSound) IsFormFault fault is (all_parts_given rest))
   begun a b define title rest list true false is_define titled is =
       let same : Syntax line ≡ fault = cc in
       other line (record { children = Word a define (Group b title rest); list = list; other = λ others has. cc }) same

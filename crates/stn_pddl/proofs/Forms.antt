@@ -1,5 +1,5 @@
 -- What the forms of a domain give: a sound value, or a fault of the forms.
-use Rattle.std.{proofs.{Common.{◌≡◌, ℕ, Bool, true, false, cond, ◌&&◌, ◌==◌, List, [], ◌∷◌, ◌++◌, length, is_some, Option, Some, None, Result, Ok, Err, refl, sym, ◌∙◌, subst, arith, ℤ, pos, ◌≤ℤ◌, int_lt, position, codes}, lemmas.{Int.ints, List.Quantifiers.position-Some, Result.{MatchResult-weaker}}}, specs.{List.{AllByRecursion, list_any}, Result.MatchResult}}
+use Rattle.std.{proofs.{Common.{rules, ◌≡◌, ℕ, Bool, true, false, cond, ◌&&◌, ◌==◌, List, [], ◌∷◌, ◌++◌, length, is_some, Option, Some, None, Result, Ok, Err, refl, arith, ℤ, pos, ◌≤ℤ◌, int_lt, position, codes}, lemmas.{Int.ints, List.Quantifiers.position-Some, Result.MatchResult-weaker}}, specs.{List.AllByRecursion, Result.MatchResult}}
 use Rattle.stn_time.{proofs.Each.each_pushed, specs.{declared.reading.TimeFault.TimeFault, TimeOf.time_of}}
 use Rattle.stn_text.{specs.Faults.{◌>>=◌}, proofs.Readings.{both_give, either_gives}}
 use Rattle.stn_pddl.specs.{Tree.{Names.is_same_word, Trees.{Trees, End, Word, Group, how_many}}, declared.{fault.DomainFault.{DomainFault, TheVariants.{TooLong, Syntax, TooDeep, Unsupported, Number, Twice, Memory}}, action.{Label.{Label, TheVariants.{StartCondition, OverAll, EndCondition, StartEffect, EndEffect}}, Side.{Side, TheVariants.{Condition, Effect}}, Form.{Form, TheVariants.{Plain, Timed}}}, word.{Head.Head, Item.Item, Field.Field, Key.Key, Section.Section}}, Words.{is_name, is_variable, is_key, head_of, item_of, key_of, section_of}, Atoms.{parameter_at, term, terms, atom, equality}, Sound.{IsSoundTerm, IsSoundAtom, HasSoundAtoms, IsSound}, Schemas.{TermSchema, AtomSchema, ActionSchema, Constant, bare_action, with_literal}, Conditions.{is_effect, row, tree, literal, negated_tree, negated_first, negation, label_of, labelled}, Fields.{Listing, Values, no_values, parameters, parameters_behind_type, not_negative, constant, duration, value_of, with_value, fields, field_value}, Actions.{timed_value, action_of_lists, action_of_values, named_action, is_taken, action}, Domains.{part, parts, is_title, root, domain_of_tree}}
@@ -29,14 +29,10 @@ record Keeps (before after : ActionSchema) : Type 0 where
 same : (a : ActionSchema) → Keeps a a
 same a = record { name = refl; parameters = refl; duration = refl; atoms = λ h. h }
 
-chained : {a b c : ActionSchema} → Keeps a b → Keeps b c → Keeps a c
-chained p q = record { name = q.name ∙ p.name; parameters = q.parameters ∙ p.parameters; duration = q.duration ∙ p.duration; atoms = λ h. q.atoms (p.atoms h) }
-
 -- one change of an action, and then another
 keeps_both : (a : ActionSchema) (first : Result ActionSchema DomainFault) (next : ActionSchema → Result ActionSchema DomainFault)
     → OfForms (Keeps a) first → ((b : ActionSchema) → OfForms (Keeps b) (next b)) → OfForms (Keeps a) (first >>= next)
-keeps_both a first next one other =
-    both_give (Keeps a) (Keeps a) IsFormFault first next one (λ b kept. MatchResult-weaker (next b) (other b) (λ c more. chained kept more) (λ fault is. is))
+keeps_both a first next one other = search rules
 
 -- terms and atoms
 term_given : (names : List (List ℕ)) (line : ℕ) (word : List ℕ) → OfForms (IsSoundTerm (length names)) (term names line word)
@@ -156,8 +152,7 @@ module _ (line : ℕ) (word : List ℕ) (next : Trees) (before : List (List ℕ)
   parameter_given : ((names : List (List ℕ)) → OfForms (λ _. Unit {0}) (parameters next names)) → OfForms (λ _. Unit {0}) (parameters_behind_type line next before)
       → (k : Item) → item_of word ≡ k → OfForms (λ _. Unit {0}) (parameters (Word line word next) before)
   unfolding parameters
-  parameter_given more typed item.Parameter e =
-      rw (e, parameters) (either_gives (λ _. Unit {0}) IsFormFault (list_any (is_same_word word) before) (Err (Twice line)) (parameters next (before ++ word ∷ [])) tt (more (before ++ word ∷ [])))
+  parameter_given more typed item.Parameter e = search rules
   parameter_given more typed item.Dash e = rw (e, parameters) typed
   parameter_given more typed item.Other e = rw (e, parameters) tt
 
@@ -221,13 +216,7 @@ pub record IsMade (name : List ℕ) (action : ActionSchema) : Type 0 where
   pub sound : IsSound action
 
 made_of : (name : List ℕ) (names : List (List ℕ)) (millis : ℤ) (b : ActionSchema) → pos 0 ≤ℤ millis → Keeps (bare_action name names millis) b → IsMade name b
-made_of name names millis b positive kept = record {
-  named = kept.name;
-  sound = record {
-    atoms = kept.atoms (record { start_needs = tt; all_needs = tt; end_needs = tt; start_adds = tt; start_deletes = tt; end_adds = tt; end_deletes = tt });
-    duration = subst (λ n. pos 0 ≤ℤ n) (sym kept.duration) positive;
-  };
-}
+made_of name names millis b positive kept = search rules
 
 lists_given : (name : List ℕ) (listed timed : Listing) (values : Values) → OfForms (IsMade name) (action_of_lists name listed timed values)
 unfolding action_of_lists

@@ -1,6 +1,6 @@
 -- The cause of a fault gives the fault.
 use Rattle.std.proofs.{Common.{◌≡◌, ◌<◌, ℕ, ◌⊎◌, inl, inr, Bool, true, false, cond, nat_lt, ◌&&◌, List, [], length, Ok, Err, refl, sym, ap, ◌∙◌, arith, codes}, lemmas.Bool.Decides.nat_tests}
-use Rattle.stn_text.{specs.Faults.{◌>>=◌}, proofs.Readings.bind_ok}
+use Rattle.stn_text.proofs.Readings.{bind_ok}
 use Rattle.stn_pddl.{specs.{declared.{tree.scan.TreeFault.TreeFault, fault.DomainFault.{DomainFault, TheVariants.{TooLong, Syntax, TooDeep, Memory}}}, Tree.{Names.is_same_word, Trees.{Trees, End, Word, Group}, Scan.{most_text, tree_of}}, Faults.{of_tree, is_memory}, Schemas.ActionSchema, Domains.{part, parts, is_title, root, domain_of_tree, domain_of_bytes, domain_of}, Causes.{row_then, BeginsDomain, IsListAt, IsOtherList, IsRefusedPart, IsFirstRefusedPart, IsDomainCause}}, proofs.Causes.cause_of}
 use Rattle.stn_pddl.specs.declared.tree.scan.TreeFault.TheVariants as tree
 
@@ -18,7 +18,7 @@ refused_then End later before given fault none is = let same : before ≡ given 
 refused_then (Word line word next) later before given fault none is = cc
 refused_then (Group line children next) later before given fault none is =
     let step = bind_ok (part line children before) (λ found. parts next found) given none in
-    ap (λ r. r >>= λ found. parts (row_then next later) found) step.1 ∙ refused_then next later step.0 given fault step.2 is
+    cc (refused_then next later step.0 given fault step.2 is)
 
 root-parts : (line : ℕ) (children rest : Trees) → BeginsDomain children rest → root line children ≡ parts rest []
 unfolding root
@@ -54,8 +54,7 @@ module _ (text : List ℕ) where
 
   by_part : (fault : DomainFault) → IsFirstRefusedPart text fault → domain_of text ≡ Err fault
   by_part fault is =
-      by_list is.line is.children is.list ∙ root-parts is.line is.children is.rest is.domain ∙ ap (λ row. parts row []) is.whole
-      ∙ refused_then is.earlier is.later [] is.before fault is.none_before is.refused
+      cc (by_list is.line is.children is.list, root-parts is.line is.children is.rest is.domain, refused_then is.earlier is.later [] is.before fault is.none_before is.refused)
 
   by_syntax : (line : ℕ) → (tree_of text ≡ Err (tree.Syntax line)) ⊎ (IsOtherList text line ⊎ IsFirstRefusedPart text (Syntax line)) → domain_of text ≡ Err (Syntax line)
   by_syntax line (inl is) = by_bytes (tree.Syntax line) is

@@ -1,5 +1,5 @@
 -- Conditions and effects in small letters.
-use Rattle.std.proofs.{Common.{arith, ◌≡◌, ℕ, Bool, true, false, cond, List, [], ◌∷◌, ◌++◌, map, Option, Some, None, Result, Ok, Err, refl, sym, ap, ◌∙◌, position, codes, ◌==◌}, lemmas.{Grind.common_steps, List.map-append}}
+use Rattle.std.proofs.{Common.{rules, arith, ◌≡◌, ℕ, Bool, true, false, cond, List, [], ◌∷◌, ◌++◌, map, Option, Some, None, Result, Ok, Err, refl, sym, ap, ◌∙◌, position, codes}, lemmas.List.map-append}
 use Rattle.stn_text.specs.Faults.{◌>>=◌}
 use Rattle.stn_pddl.{specs.{Tree.{Names.{folded, is_same_word}, Trees.{Trees, End, Word, Group, how_many}, Case.in_small}, declared.{fault.DomainFault.{DomainFault, TheVariants.Syntax}, action.{Label.{Label, TheVariants.{StartCondition, OverAll, EndCondition, StartEffect, EndEffect}}, Side.{Side, TheVariants.{Condition}}, Form.{Form, TheVariants.{Plain, Timed}}}, word.Head.Head}, Words.{is_variable, is_key, head_of}, Atoms.{parameter_at, term, terms, atom, equality}, Case.{term_in_small, atom_in_small, action_in_small}, Schemas.{TermSchema, AtomSchema, ActionSchema, Constant, with_literal}, Conditions.{row, tree, equal_tree, literal, negated_tree, negated_first, negation, label_of, labelled}}, proofs.SmallWords.{same_first, same_variable, same_key, same_position, same_head}}
 use Rattle.stn_pddl.specs.declared.word.Head.TheVariants as head
@@ -66,11 +66,11 @@ small_literal EndEffect true found a = ap (λ l. record (action_in_small a) { en
 module _ (label : Label) (a : ActionSchema) where
   small_atom : (negated : Bool) (word : List ℕ) (rest : Trees) → atom label negated (folded word) (in_small rest) (action_in_small a) ≡ mapped action_in_small (atom label negated word rest a)
   unfolding atom action_in_small
-  small_atom negated word rest = grind (arith, common_steps, mapped-then, small_terms, small_literal)
+  small_atom negated word rest = grind (arith, small_terms, small_literal)
 
   small_equal : (line : ℕ) (rest : Trees) → equal_tree label line (in_small rest) (action_in_small a) ≡ mapped action_in_small (equal_tree label line rest a)
   unfolding equality action_in_small
-  small_equal line rest = grind (arith, common_steps, mapped-either, same_many, mapped-then, small_terms)
+  small_equal line rest = grind (arith, same_many, small_terms)
 
   small_by_head : (negated : Bool) (line : ℕ) (word : List ℕ) (rest : Trees) (k : Head)
       → literal label negated line (folded word) (in_small rest) (action_in_small a) k ≡ mapped action_in_small (literal label negated line word rest a k)
@@ -84,8 +84,7 @@ module _ (label : Label) (a : ActionSchema) where
   unfolding negated_tree in_small
   small_negated line End = refl
   small_negated line (Group at children next) = refl
-  small_negated line (Word at word rest) =
-      ap (literal label true line (folded word) (in_small rest) (action_in_small a)) (same_head word) ∙ small_by_head true line word rest (head_of word)
+  small_negated line (Word at word rest) = cc (same_head word, small_by_head true line word rest (head_of word))
 
   small_first : (line : ℕ) (trees : Trees) → negated_first label line (in_small trees) (action_in_small a) ≡ mapped action_in_small (negated_first label line trees a)
   unfolding in_small
@@ -95,10 +94,10 @@ module _ (label : Label) (a : ActionSchema) where
 
   small_negation : (line : ℕ) (rest : Trees) → negation label line (in_small rest) (action_in_small a) ≡ mapped action_in_small (negation label line rest a)
   unfolding negation
-  small_negation line rest = grind (arith, common_steps, mapped-either, same_many, small_first)
+  small_negation line rest = grind (arith, same_many, small_first)
 
 small_label : (side : Side) (time : Head) (word : List ℕ) → label_of side time (folded word) ≡ label_of side time word
-small_label side head.At word = grind (arith, common_steps, same_first)
+small_label side head.At word = grind (arith, same_first)
 small_label Condition head.Over word = ap (λ t. cond t (Some OverAll) None) (same_first word (codes "all"))
 small_label side other word = refl
 
@@ -129,9 +128,7 @@ module _ (line at : ℕ) (word : List ℕ) (rest : Trees) (a : ActionSchema) whe
       → labelled side time line (in_small (Word at word rest)) (action_in_small a) ≡ mapped action_in_small (labelled side time line (Word at word rest) a)
   unfolding labelled in_small
   small_one side time all None e = rw (small_label side time word, e, labelled) refl
-  small_one side time all (Some label) e =
-      rw (small_label side time word, e, labelled) (mapped-either action_in_small (how_many rest == 1) (how_many (in_small rest) == 1) (row (Plain label) rest a) (Err (Syntax line))
-      (row (Plain label) (in_small rest) (action_in_small a)) (Err (Syntax line)) (ap (λ n. n == 1) (same_many rest)) (all label) refl)
+  small_one side time all (Some label) e = search (rules, small_label, same_many)
 
 mutual
   unfolding row tree labelled in_small

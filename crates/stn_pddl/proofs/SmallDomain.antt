@@ -1,7 +1,7 @@
 -- A domain in small letters has the actions of the domain in small letters.
-use Rattle.std.{proofs.{Common.{◌≡◌, ℕ, cond, ◌&&◌, List, [], ◌∷◌, ◌++◌, map, is_some, Option, Some, None, Result, Ok, Err, ℤ, refl, sym, ap, ◌∙◌, codes}, lemmas.List.map-append}, specs.{List.list_any, Option.option_map}}
+use Rattle.std.{proofs.{Common.{rules, ◌≡◌, ℕ, ◌&&◌, List, [], ◌∷◌, ◌++◌, map, is_some, Option, Some, None, Result, Ok, Err, ℤ, refl, sym, ap, ◌∙◌, codes}, lemmas.List.map-append}, specs.Option.option_map}
 use Rattle.stn_text.specs.Faults.{◌>>=◌}
-use Rattle.stn_pddl.{specs.{declared.{tree.scan.TreeFault.TreeFault, fault.DomainFault.{DomainFault, TheVariants.{Syntax, Twice}}, action.{Side.{Side, TheVariants.{Condition, Effect}}, Form.TheVariants.Timed}, word.{Item.Item, Field.Field, Key.Key, Section.Section}}, Tree.{Names.{folded, is_same_word}, Trees.{Trees, End, Word, Group}, Scan.tree_of, Case.{in_small, tree_in_small}}, Words.{is_name, item_of, key_of, section_of}, Schemas.{ActionSchema, bare_action}, Case.{action_in_small, domain_in_small}, Fields.{Listing, Values, no_values, parameters, parameters_behind_type, constant, duration, value_of, with_value, fields, field_value}, Actions.{timed_value, action_of_lists, action_of_values, named_action, is_taken, action}, Domains.{part, parts, is_title, root, domain_of_tree, domain_of_bytes, domain_of}}, proofs.{tree.Case.tree_of-folded, SmallWords.{same_first, same_both, same_listed, same_name, same_item, same_key_of, same_section, same_time}, SmallActions.{mapped, mapped-then, mapped-either, small_list}}}
+use Rattle.stn_pddl.{specs.{declared.{tree.scan.TreeFault.TreeFault, fault.DomainFault.{DomainFault, TheVariants.Syntax}, action.{Side.{Side, TheVariants.{Condition, Effect}}, Form.TheVariants.Timed}, word.{Item.Item, Field.Field, Key.Key, Section.Section}}, Tree.{Names.{folded, is_same_word}, Trees.{Trees, End, Word, Group}, Scan.tree_of, Case.{in_small, tree_in_small}}, Words.{item_of, key_of, section_of}, Schemas.{ActionSchema, bare_action}, Case.{action_in_small, domain_in_small}, Fields.{Listing, Values, no_values, parameters, parameters_behind_type, constant, duration, value_of, with_value, fields, field_value}, Actions.{timed_value, action_of_lists, action_of_values, named_action, is_taken, action}, Domains.{part, parts, is_title, root, domain_of_tree, domain_of_bytes, domain_of}}, proofs.{tree.Case.tree_of-folded, SmallWords.{same_first, same_both, same_listed, same_name, same_item, same_key_of, same_section, same_time}, SmallActions.{mapped, mapped-then, mapped-either, small_list}}}
 use Rattle.stn_pddl.specs.declared.word.Item.TheVariants as item
 use Rattle.stn_pddl.specs.declared.word.Field.TheVariants as field
 use Rattle.stn_pddl.specs.declared.word.Key.TheVariants as key
@@ -13,10 +13,7 @@ small_parameter : (line : ℕ) (word : List ℕ) (next : Trees) (before : List (
     → parameters_behind_type line (in_small next) (map folded before) ≡ mapped (map folded) (parameters_behind_type line next before)
     → (k : Item) → item_of word ≡ k → parameters (in_small (Word line word next)) (map folded before) ≡ mapped (map folded) (parameters (Word line word next) before)
 unfolding parameters in_small
-small_parameter line word next before more typed item.Parameter e =
-    rw (same_item word, e, parameters) (mapped-either (map folded) (list_any (is_same_word word) before) (list_any (is_same_word (folded word)) (map folded before)) (Err (Twice line)) (parameters next (before ++ word ∷ []))
-    (Err (Twice line)) (parameters (in_small next) (map folded before ++ folded word ∷ [])) (same_listed word before) refl
-    (ap (parameters (in_small next)) (sym (map-append folded before (word ∷ []))) ∙ more (before ++ word ∷ [])))
+small_parameter line word next before more typed item.Parameter e = search (rules, same_item, same_listed, map-append)
 small_parameter line word next before more typed item.Dash e = rw (same_item word, e, parameters) typed
 small_parameter line word next before more typed item.Other e = rw (same_item word, e, parameters) refl
 
@@ -71,9 +68,7 @@ small_key : (line : ℕ) (word : List ℕ) (next : Trees) (before : Values)
     → ((name : Field) → field_value line name (in_small next) (small_values before) ≡ mapped small_values (field_value line name next before))
     → (k : Key) → key_of word ≡ k → fields (in_small (Word line word next)) (small_values before) ≡ mapped small_values (fields (Word line word next) before)
 unfolding fields in_small
-small_key line word next before more (key.Known name) e =
-    rw (same_key_of word, e, fields) (mapped-either small_values (is_some (value_of name before)) (is_some (value_of name (small_values before))) (Err (Twice line)) (field_value line name next before)
-    (Err (Twice line)) (field_value line name (in_small next) (small_values before)) (same_value name before) refl (more name))
+small_key line word next before more (key.Known name) e = search (rules, same_key_of, same_value)
 small_key line word next before more key.Unknown e = rw (same_key_of word, e, fields) refl
 small_key line word next before more key.NoKey e = rw (same_key_of word, e, fields) refl
 
@@ -105,10 +100,7 @@ small_bare name names millis = refl
 small_sides : (values : Values) (a : ActionSchema)
     → (timed_value Condition (option_map small_listing values.condition) (action_in_small a) >>= λ found. timed_value Effect (option_map small_listing values.effect) found)
     ≡ mapped action_in_small (timed_value Condition values.condition a >>= λ found. timed_value Effect values.effect found)
-small_sides values a =
-    mapped-then action_in_small action_in_small (timed_value Condition (option_map small_listing values.condition) (action_in_small a)) (timed_value Condition values.condition a)
-    (λ found. timed_value Effect (option_map small_listing values.effect) found) (λ found. timed_value Effect values.effect found)
-    (small_value Condition values.condition a) (λ found. small_value Effect values.effect found)
+small_sides values a = search (rules, small_value)
 
 -- a number has no letters
 same_result : (found : Result ℤ DomainFault) → found ≡ mapped (λ millis. millis) found
@@ -155,13 +147,7 @@ small_action : (line : ℕ) (rest : Trees) (earlier : List ActionSchema) → act
 unfolding action in_small
 small_action line End earlier = refl
 small_action line (Group at children next) earlier = refl
-small_action line (Word at name rest) earlier =
-    let one : Result ActionSchema DomainFault = cond (is_taken name earlier) (Err (Twice at)) (named_action line name rest) in
-    let other : Result ActionSchema DomainFault = cond (is_taken (folded name) (map action_in_small earlier)) (Err (Twice at)) (named_action line (folded name) (in_small rest)) in
-    mapped-either action_in_small (is_name name) (is_name (folded name)) one (Err (Syntax line)) other (Err (Syntax line)) (same_name name)
-    (mapped-either action_in_small (is_taken name earlier) (is_taken (folded name) (map action_in_small earlier)) (Err (Twice at)) (named_action line name rest)
-    (Err (Twice at)) (named_action line (folded name) (in_small rest)) (same_taken name earlier) refl (small_named line name rest))
-    refl
+small_action line (Word at name rest) earlier = search (rules, same_name, same_taken, small_named)
 
 -- the parts of a domain
 small_part : (line : ℕ) (children : Trees) (before : List ActionSchema) → part line (in_small children) (map action_in_small before) ≡ mapped (map action_in_small) (part line children before)

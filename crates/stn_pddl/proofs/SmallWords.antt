@@ -1,11 +1,11 @@
 -- Words in small letters stand for what the words stand for.
-use Rattle.std.{proofs.{lemmas.{Grind.common_steps, Bool.and_right, List.length-map, Str.Ascii.lowercase-lowercase}, Common.{◌≡◌, ℕ, zero, suc, ◌+◌, ◌<◌, Bool, true, false, cond, ◌&&◌, eqb, List, [], ◌∷◌, map, take, drop, Some, None, refl, ap, ◌∙◌, arith, position, codes}}, specs.{Char.{to_ascii_lowercase, is_ascii_digit}, List.{list_any, prefix_len, position_or_len}, Str.{bytes_eq, all_ascii_digits, Parse.starts_with_minus}}}
+use Rattle.std.{proofs.{lemmas.{List.length-map, Str.Ascii.lowercase-lowercase}, Common.{◌≡◌, ℕ, zero, suc, ◌+◌, ◌<◌, Bool, true, false, cond, ◌&&◌, eqb, List, [], ◌∷◌, map, take, drop, Some, None, refl, ap, ◌∙◌, arith, position, codes}}, specs.{Char.{to_ascii_lowercase, is_ascii_digit}, List.{list_any, prefix_len, position_or_len}, Str.{bytes_eq, all_ascii_digits}}}
 use Rattle.stn_time.specs.TimeOf.{is_numeral, fraction_of, parts_with, time_of}
-use Rattle.stn_pddl.{specs.{Tree.Names.{folded, is_same_word}, Words.{begins_with_byte, is_variable, is_key, is_name, connectives, comparisons, assignments, is_other_logic, head_of, item_of, key_of, skipped, section_of}}, proofs.tree.Case.{small_by, same_test}}
+use Rattle.stn_pddl.{specs.{Tree.Names.{folded, is_same_word}, Words.{begins_with_byte, is_variable, is_key, is_name, connectives, comparisons, assignments, is_other_logic, head_of, item_of, key_of, skipped, section_of}}, proofs.tree.Case.same_test}
 
 folded-folded : (word : List ℕ) → folded (folded word) ≡ folded word
 folded-folded [] = refl
-folded-folded (b ∷ word) = ap (λ c. c ∷ folded (folded word)) (lowercase-lowercase b) ∙ ap (λ l. to_ascii_lowercase b ∷ l) (folded-folded word)
+folded-folded (b ∷ word) = cc (lowercase-lowercase b, folded-folded word)
 
 pub same_first : (a b : List ℕ) → is_same_word (folded a) b ≡ is_same_word a b
 unfolding is_same_word
@@ -26,10 +26,10 @@ same_listed word (other ∷ words) = rw (same_both word other, same_listed word 
 -- the place of a word
 same_prefix : (word : List ℕ) (words : List (List ℕ)) → position_or_len (is_same_word (folded word)) (map folded words) ≡ position_or_len (is_same_word word) words
 same_prefix word [] = refl
-same_prefix word (other ∷ words) = grind (arith, common_steps, same_both, (same_prefix word words))
+same_prefix word (other ∷ words) = grind (arith, same_both, (same_prefix word words))
 
 pub same_position : (word : List ℕ) (words : List (List ℕ)) → position (is_same_word (folded word)) (map folded words) ≡ position (is_same_word word) words
-same_position word words = grind (arith, common_steps, same_prefix, length-map)
+same_position word words = grind (arith, same_prefix, length-map)
 
 same_begins : (b : ℕ) (word : List ℕ) → b < 65 → begins_with_byte b (folded word) ≡ begins_with_byte b word
 same_begins b [] small = refl
@@ -53,7 +53,7 @@ same_logic word = rw (same_any word connectives, same_any word comparisons, same
 
 pub same_head : (word : List ℕ) → head_of (folded word) ≡ head_of word
 unfolding head_of
-same_head word = grind (arith, common_steps, same_first, same_logic, same_name)
+same_head word = grind (arith, same_first, same_logic, same_name)
 
 pub same_item : (word : List ℕ) → item_of (folded word) ≡ item_of word
 unfolding item_of
@@ -61,8 +61,7 @@ same_item word = rw (same_variable word, length-map word to_ascii_lowercase, sam
 
 pub same_key_of : (word : List ℕ) → key_of (folded word) ≡ key_of word
 unfolding key_of
-same_key_of word =
-    rw (same_first word (codes ":parameters"), same_first word (codes ":duration"), same_first word (codes ":condition"), same_first word (codes ":effect"), same_key word) refl
+same_key_of word = simp (same_first, same_key)
 
 pub same_section : (word : List ℕ) → section_of (folded word) ≡ section_of word
 unfolding section_of
@@ -70,10 +69,10 @@ same_section word = rw (same_any word skipped, same_first word (codes ":durative
 
 -- a digit is no letter
 same_digit : (b : ℕ) → is_ascii_digit (to_ascii_lowercase b) ≡ is_ascii_digit b
-same_digit b = grind (arith, common_steps, small_by, and_right)
+same_digit b = grind arith
 
 small_digit : (b : ℕ) → is_ascii_digit b ≡ true → to_ascii_lowercase b ≡ b
-small_digit b is = grind (arith, common_steps, small_by)
+small_digit b is = grind arith
 
 same_digits : (bytes : List ℕ) → all_ascii_digits (folded bytes) ≡ all_ascii_digits bytes
 same_digits [] = refl
@@ -129,11 +128,7 @@ same_fraction (b ∷ digits) =
     by false numeral is = refl
 
 same_parts : (negative : Bool) (bytes : List ℕ) → parts_with negative (folded bytes) ≡ parts_with negative bytes
-same_parts negative bytes = grind (arith, common_steps, same_len, same_front, folded-drop, same_fraction)
-
-same_minus : (word : List ℕ) → starts_with_minus (folded word) ≡ starts_with_minus word
-same_minus [] = refl
-same_minus (b ∷ word) = same_test b 45 (omega arith)
+same_parts negative bytes = grind (arith, same_len, same_front, folded-drop, same_fraction)
 
 same_rest : (minus : Bool) (word : List ℕ) → cond minus (drop 1 (folded word)) (folded word) ≡ folded (cond minus (drop 1 word) word)
 same_rest true word = folded-drop 1 word
@@ -142,4 +137,4 @@ same_rest false word = refl
 -- a time has no letters
 pub same_time : (word : List ℕ) → time_of (folded word) ≡ time_of word
 unfolding time_of
-same_time word = grind (arith, common_steps, same_minus, same_rest, same_parts)
+same_time word = grind (arith, same_rest, same_parts)

@@ -1,5 +1,5 @@
 -- Terms, as the code finds them.
-use Rattle.std.{proofs.{Common.{arith, ◌≡◌, ℕ, Bool, true, false, cond, List, [], ◌∷◌, ◌++◌, Option, Err, refl, ◌∙◌, ap, position}, lemmas.{Grind.common_steps, List.{length-map, map-append}}}, specs.List.{position_or_len, list_any}}
+use Rattle.std.{proofs.{Common.{rules, arith, ◌≡◌, ℕ, Bool, true, false, cond, List, [], ◌∷◌, ◌++◌, Option, Err, refl, ◌∙◌, ap, position}, lemmas.List.{length-map, map-append}}, specs.List.{position_or_len, list_any}}
 use Rattle.stn_pddl.specs.{Tree.{Trees.{Trees, Word}, Names.is_same_word}, declared.{tree.name.Name.Name, fault.DomainFault.{TheVariants.{Twice}}}, Fields.{parameters}, Words.{is_variable, item_of}, Atoms.{term, parameter_at}, Views.{bytes_of_name, words_of}}
 use Rattle.stn_pddl.specs.declared.word.Item.TheVariants as item
 
@@ -7,14 +7,11 @@ position_or_len-map : (test : List ℕ → Bool) (names : List Name) → positio
 position_or_len-map test [] = refl
 position_or_len-map test (name ∷ names) = rw (position_or_len-map test names) refl
 
-position-map : (test : List ℕ → Bool) (names : List Name) → position test (words_of names) ≡ position (λ (name : Name). test (bytes_of_name name)) names
-position-map test names = rw (position_or_len-map test names, length-map) refl
-
 -- a variable is found by its place, or not
 pub term-variable : (names : List Name) (line : ℕ) (word : List ℕ) (found : Option ℕ) → is_variable word ≡ true → found ≡ position (λ (name : Name). is_same_word word (bytes_of_name name)) names
     → term (words_of names) line word ≡ parameter_at line found
 unfolding term
-term-variable names line word found variable is = rw (variable, is) (ap (parameter_at line) (position-map (is_same_word word) names))
+term-variable names line word found variable is = rw (variable, is) (ap (parameter_at line) (search (rules, position_or_len-map, length-map)))
 
 -- a test of words, at names
 pub list_any-names : (test : List ℕ → Bool) (names : List Name) → list_any test (words_of names) ≡ list_any (λ (name : Name). test (bytes_of_name name)) names
@@ -34,4 +31,4 @@ module _ (line : ℕ) (word : List ℕ) (row next : Trees) (names : List Name) (
   -- a parameter that is new
   pub parameter-new : (name : Name) (now : List Name) → bytes_of_name name ≡ word → list_any (λ (name : Name). is_same_word word (bytes_of_name name)) names ≡ false
       → now ≡ names ++ name ∷ [] → parameters next (words_of now) ≡ parameters row (words_of names)
-  parameter-new name now same new pushed = grind (arith, common_steps, at_parameter, list_any-names, map-append)
+  parameter-new name now same new pushed = grind (arith, at_parameter, list_any-names, map-append)

@@ -1,8 +1,8 @@
 //! Whole domains.
 
-ghost use Rattle.std.specs.{Prelude.{◌≡◌, ◌≤◌, [], false, length, pos, IfOk, IfErr, IfSome, MatchOption, Some, None, Ok, Err}, Option.option_map};
+ghost use Rattle.std.specs.{Prelude.{◌≡◌, ◌≤◌, [], false, length, pos, IfOk, IfErr, IfSome, IsErrOf, IsOk, MatchOption, Some, None, Ok, Err}, Option.option_map};
 ghost use Rattle.stn_text.specs.Faults.{Returns, ◌>>=◌ as ◌and_then◌};
-ghost use Rattle.stn_pddl.specs.{Tree.{Cursors.row_at, Scan.most_text}, Faults.is_memory, Causes.IsDomainCause, Domains.{part, parts, is_title, root, domain_of_tree, domain_of, action_named}, Sound.IsSound, Schemas.bare_action, Views.{action_schema, bytes_of_name}, declared.action.Side.TheVariants.{Condition, Effect}, FieldViews.{listing_of, values_of}};
+ghost use Rattle.stn_pddl.specs.{Tree.{Cursors.row_at, Scan.{most_text, tree_of}}, Faults.is_memory, Causes.IsDomainCause, Domains.{part, parts, is_title, root, domain_of_tree, domain_of, action_named}, Sound.IsSound, Schemas.bare_action, Views.{action_schema, bytes_of_name}, declared.action.Side.TheVariants.{Condition, Effect}, FieldViews.{listing_of, values_of}};
 ghost use Rattle.stn_pddl.specs.Actions as rule;
 
 use crate::action::{Action, Form, Side};
@@ -233,7 +233,8 @@ fn read_actions<'a, A: Allocator + Copy>(
     alloc: A,
     text: &'a [u8],
 ) -> Result<Actions<'a, A>, DomainFault>
-    ensures { Returns is_memory (λ actions. actions) result (domain_of text.now) }
+    ensures given { Returns is_memory (λ actions. actions) result (domain_of text.now) }
+    ensures memory { IsErrOf result DomainFault.Memory → IsOk (tree_of text.now) }
 {
     match crate::tree::start(text)?.next_child() {
         Child::End(_) => Err(DomainFault::Syntax(1)),
@@ -244,7 +245,8 @@ fn read_actions<'a, A: Allocator + Copy>(
 
 impl<'a, A: Allocator + Copy> Domain<'a, A> {
     /// Reads a text. The first fault is the answer: `TooLong`; else the first of its bytes, `Syntax` or `TooDeep`; else the first of
-    /// its forms, `Syntax`, `Unsupported`, `Number`, `Twice` or `Variable`. `Memory` may come in place of any other answer.
+    /// its forms, `Syntax`, `Unsupported`, `Number`, `Twice` or `Variable`. Only a fault of a form, and a domain, take memory: `Memory` may
+    /// come in their place.
     #[tactic(auto, using(crate::proofs::Causes::cause_of))]
     pub fn read(alloc: A, text: &'a [u8]) -> Result<Domain<'a, A>, DomainFault>
         // The domain that the text means, or its first fault.
@@ -253,6 +255,7 @@ impl<'a, A: Allocator + Copy> Domain<'a, A> {
 
         // The text is too long, or its bytes have the fault, or it does not begin as a domain does, or the first part with a fault has it.
         ensures cause { IfErr result (IsDomainCause text.now) }
+        ensures memory { IsErrOf result DomainFault.Memory → IsOk (tree_of text.now) }
     {
         let actions = read_actions(alloc, text)?;
         Ok(Domain { text, actions })

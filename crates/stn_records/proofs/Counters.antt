@@ -1,15 +1,15 @@
 -- The greatest counter of a site, in a list in order and in a content, and the next one.
-use Rattle.std.{proofs.{Common.{◌≡◌, ℕ, zero, suc, ◌<◌, ◌≤◌, ◌-◌, ◌⊎◌, true, false, cond, max, List, [], ◌∷◌, length, get_or, take, Less, sym, refl, ap, ◌∙◌, arith, eqb, nat_le, ◌+◌, ◌↔◌, ◌++◌, Option, Some, None, subst, ⊎_elim, Result, Ok, Err, IfOk, IsErr}, lemmas.{List.{length-take, length-take-le, get_or-take}, Bool.{false_from_ne_true, leb-true, leb-false, false≢true, cases_lt, eq-eqb, and_parts, or_cases, Decides.nat_tests}}}, specs.{List.Sorted.{IsNonDecreasingBy, IsPartitionPoint}, FinMap.is_sorted, Map.keys_of, Option.{SomeIff, ok_or}, Cmp.Equal-is, Set.is_member}}
-use Rattle.stn_records.{specs.{Id.{SiteCounter, id_cmp}, Sorted.IsEndOf, ContentLaws.{ids_total, ids_exact}, declared.record.Record.Record, Content.{greatest_counter, next_counter, Content, same_ids, known_ids, is_known, replaced_set, replaced_ids}}, proofs.{Entries.above_at, KnownIds.known_member}}
+use Rattle.std.{proofs.{Common.{rules, ◌≡◌, ℕ, zero, suc, ◌<◌, ◌≤◌, ◌-◌, ◌⊎◌, true, false, cond, max, List, [], ◌∷◌, length, get_or, take, Less, sym, refl, ap, ◌∙◌, arith, eqb, nat_le, ◌+◌, ◌↔◌, ◌++◌, Option, Some, None, ⊎_elim, Result, Ok, Err, IfOk, IsErr}, lemmas.{List.{length-take-le, get_or-take}, Bool.{false_from_ne_true, false≢true, eq-eqb, and_parts, or_cases, Decides.nat_tests}}}, specs.{List.Sorted.{IsNonDecreasingBy, IsPartitionPoint}, FinMap.is_sorted, Map.keys_of, Option.{SomeIff, ok_or}, Cmp.Equal-is, Set.is_member}}
+use Rattle.stn_records.{specs.{Id.{SiteCounter, id_cmp}, Sorted.IsEndOf, ContentLaws.{ids_total, ids_exact}, declared.record.Record.Record, Content.{greatest_counter, next_counter, Content, same_ids, known_ids, is_known, replaced_set}}, proofs.{Entries.above_at, KnownIds.known_member}}
 use Rattle.std.specs.FinMap as fin
 
 -- a lesser id is of a lesser site, or has a lesser counter
 lesser_id : (a b : SiteCounter) → id_cmp a b ≡ Less → (a.site < b.site) ⊎ ((a.site ≡ b.site) × (a.counter < b.counter))
-lesser_id a b h = grind (arith, nat_tests)
+lesser_id a b h = grind arith
 
 -- before the last id up to the site, a lesser one changes nothing
 step_before : (site : ℕ) (id last : SiteCounter) (greatest : ℕ) → (id.site < last.site) ⊎ ((id.site ≡ last.site) × (id.counter < last.counter)) → last.site ≤ site → greatest ≡ cond (eqb last.site site) last.counter 0 → cond (eqb id.site site) (max id.counter greatest) greatest ≡ cond (eqb last.site site) last.counter 0
-step_before site id last greatest lesser within is = grind (arith, nat_tests)
+step_before site id last greatest lesser within is = grind arith
 
 module _ {X : Type 0} (site : ℕ) where
   -- where each id is of a greater site, there is none of the site
@@ -44,11 +44,7 @@ module _ {X : Type 0} (site : ℕ) where
 
   -- where a search for the last entry up to the site ends
   pub ends : (es : List (SiteCounter × X)) (end : ℕ) → end ≤ length es → IsPartitionPoint (λ e. nat_le e.0.site site ≡ true) (λ e. nat_le e.0.site site ≡ false) es end → IsEndOf es site end
-  ends es end within parted = record {
-    in_range = within;
-    before = λ k d low. leb-true _ _ (parted.0 k d (omega arith) low);
-    behind = λ k d low high. leb-false _ _ (parted.1 k d low high);
-  }
+  ends es end within parted = search rules
 
   -- the same, as the entry is read
   pub counter_of_last : (es : List (SiteCounter × X)) → is_sorted id_cmp es ≡ true → (end : ℕ) → IsEndOf es site end → (last : SiteCounter × X) → 0 < length (take end es) → last ≡ get_or (take end es) (length (take end es) - 1) last → cond (eqb last.0.site site) last.0.counter 0 ≡ greatest_counter site (keys_of es)
@@ -56,15 +52,11 @@ module _ {X : Type 0} (site : ℕ) where
   counter_of_last es h (suc end) is last there read =
       let within = is.in_range in
       let long : length (take (suc end) es) ≡ suc end = length-take-le (suc end) es within in
-      let here : last ≡ get_or es end last = read ∙ ap (λ n. get_or (take (suc end) es) n last) (omega arith) ∙ get_or-take (suc end) es end last (omega arith) in
-      ap (λ (e : SiteCounter × X). cond (eqb e.0.site site) e.0.counter 0) here
-      ∙ sym (last_of_site es h end last (omega arith) (λ k d l. is.before k d (omega arith)) (λ k d l m. is.behind k d (omega arith) m))
+      let here : last ≡ get_or es end last = search (rules, get_or-take) in
+      search (rules, last_of_site)
 
   pub counter_of_none : (es : List (SiteCounter × X)) (end : ℕ) → IsEndOf es site end → length (take end es) ≤ 0 → 0 ≡ greatest_counter site (keys_of es)
-  counter_of_none es end is none =
-      let within = is.in_range in
-      let start : end ≡ 0 = omega (arith, length-take end es) in
-      sym (none_of_site es (λ k d l. is.behind k d (omega arith) l))
+  counter_of_none es end is none = search (rules, none_of_site)
 
 -- the greatest counter of two lists
 pub greatest-append : (site : ℕ) (xs ys : List SiteCounter) → greatest_counter site (xs ++ ys) ≡ max (greatest_counter site xs) (greatest_counter site ys)
@@ -94,18 +86,12 @@ next_is_new s site counter is = false_from_ne_true _ (λ known.
 
 -- one more than the greatest counter of the additions and the replaced ids
 pub counter_read : (s : Content) (site : ℕ) (es : List (SiteCounter × Record)) (ts : List (SiteCounter × Unit {0})) → es ≡ fin.entries s.additions → ts ≡ fin.entries (replaced_set s) → (a b m : ℕ) → a ≡ greatest_counter site (keys_of es) → b ≡ greatest_counter site (keys_of ts) → m ≡ max a b → m + 1 ≡ next_counter s site
-counter_read s site es ts p q a b m ga gb gm =
-    let ours = ga ∙ ap (λ l. greatest_counter site (keys_of l)) p in
-    let theirs = gb ∙ ap (λ l. greatest_counter site (keys_of l)) q in
-    let both = greatest-append site (fin.keys s.additions) (replaced_ids s) in
-    omega (arith, both, ours, theirs, gm)
+counter_read s site es ts p q a b m ga gb gm = search (rules, greatest-append)
 
 -- a counter that fits is the next one, and one that doesn't is spent
 pub next_cases : {E : Type 0} (o : Option ℕ) (err : E) (r : Result ℕ E) (m n : ℕ) → m + 1 ≡ n → SomeIff o (m + 1 < 65536) (m + 1) → r ≡ ok_or o err → IfOk r (λ counter. counter ≡ n) × (IsErr r ↔ (65535 < n))
-next_cases {E} None err r m n e h is = let P : Result ℕ E → Type 0 = λ q. IfOk q (λ counter. counter ≡ n) × (IsErr q ↔ (65535 < n)) in
-    subst P (sym is) (tt, (λ _. ⊎_elim (λ l. absurd (h l)) (λ g. omega arith) (cases_lt (m + 1) 65536), λ _. refl))
-next_cases {E} (Some x) err r m n e h is = let P : Result ℕ E → Type 0 = λ q. IfOk q (λ counter. counter ≡ n) × (IsErr q ↔ (65535 < n)) in
-    subst P (sym is) (h.1 ∙ e, (λ f. absurd (false≢true f), λ w. let small = h.0 in absurd (omega arith)))
+next_cases {E} None err r m n e h is = search rules
+next_cases {E} (Some x) err r m n e h is = search rules
 
 pub new_cases : {E : Type 0} (s : Content) (site : ℕ) (r : Result ℕ E) → IfOk r (λ counter. counter ≡ next_counter s site) → IfOk r (λ counter. is_known s (record { site = site; counter = counter }) ≡ false)
 new_cases s site (Ok counter) e = next_is_new s site counter e

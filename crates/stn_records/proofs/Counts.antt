@@ -1,6 +1,6 @@
 -- The count of the ids of four lists in order, by the least first id.
-use Rattle.std.{proofs.{Common.{◌≡◌, suc, ◌+◌, ◌<◌, ◌≤◌, ◌⊎◌, Bool, true, false, cond, not, ◌&&◌, ◌||◌, List, [], ◌∷◌, ◌++◌, length, Option, Some, None, is_some, slice_get, Less, Equal, Greater, is_eq, is_lt, sym, refl, ap, subst, ◌∙◌, inl, inr, ⊎_elim, arith, length-append}, lemmas.{List.length-map, Bool.{false≢true, and_right, not_from_true, and_parts}, Option.same_Some}, Math.Bool.and-or_distrib_right}, specs.{Cmp.{Equal-is, tied_itself, alike_right}, Set.{distinct_count, is_member}, FinMap.{is_sorted, Entries.below_all}, Map.keys_of}}
-use Rattle.stn_records.{specs.{Id.{SiteCounter, id_cmp, lesser_of}, Sorted.{first_key, past_id}, Content.same_ids, ContentLaws.{ids_total, ids_exact, lesser_none}}, proofs.{Entries.{less_is, less_back, greater_back, below_less}, KnownIds.{same_count, one_more, member-append}}}
+use Rattle.std.{proofs.{Common.{rules, ◌≡◌, suc, ◌+◌, ◌<◌, ◌≤◌, ◌⊎◌, Bool, true, false, cond, not, ◌&&◌, ◌||◌, List, [], ◌∷◌, ◌++◌, length, Option, Some, None, is_some, slice_get, Less, Equal, Greater, is_eq, is_lt, sym, refl, ap, subst, ◌∙◌, inl, inr, ⊎_elim, arith}, lemmas.{Bool.{false≢true, and_right, not_from_true, and_parts}, Option.same_Some}, Math.Bool.and-or_distrib_right}, specs.{Cmp.{Equal-is, tied_itself}, Set.{distinct_count, is_member}, FinMap.{is_sorted, Entries.below_all}, Map.keys_of}}
+use Rattle.stn_records.{specs.{Id.{SiteCounter, id_cmp, lesser_of}, Sorted.{first_key, past_id}, Content.same_ids, ContentLaws.{ids_total, ids_exact, lesser_none}}, proofs.{Entries.{less_is, greater_back, below_less}, KnownIds.{same_count, one_more, member-append}}}
 
 -- the id is not above the first id
 abbrev pub NotAbove : SiteCounter → Option SiteCounter → Type 0
@@ -8,15 +8,7 @@ NotAbove id None = Unit {0}
 NotAbove id (Some x) = is_lt (id_cmp x id) ≡ false
 
 not_above_chain : (a x id : SiteCounter) → is_lt (id_cmp a x) ≡ false → is_lt (id_cmp x id) ≡ false → is_lt (id_cmp a id) ≡ false
-not_above_chain a x id p q = elim (id_cmp a id) as (λ r. id_cmp a id ≡ r → is_lt r ≡ false) [
-  | Less ↦ λ e. elim (id_cmp x id) as (λ r. id_cmp x id ≡ r → is_lt r ≡ false → true ≡ false) [
-    | Less ↦ λ f g. g
-    | Equal ↦ λ f g. sym (ap is_lt (alike_right ids_total x id a f ∙ e)) ∙ p
-    | Greater ↦ λ f g. sym (ap is_lt (ids_total.trans a id x e (greater_back ids_total x id f))) ∙ p
-  ] refl q
-  | Equal ↦ λ e. refl
-  | Greater ↦ λ e. refl
-] refl
+not_above_chain a x id p q = search rules
 
 self_not_above : (x : SiteCounter) → is_lt (id_cmp x x) ≡ false
 self_not_above x = ap is_lt (tied_itself ids_total x)
@@ -26,13 +18,7 @@ pub lesser_least : (f g : Option SiteCounter) (id : SiteCounter) → lesser_of f
 lesser_least None None id e = (tt, tt)
 lesser_least None (Some y) id e = (tt, subst (λ x. is_lt (id_cmp y x) ≡ false) (same_Some y id e) (self_not_above y))
 lesser_least (Some x) None id e = (subst (λ y. is_lt (id_cmp x y) ≡ false) (same_Some x id e) (self_not_above x), tt)
-lesser_least (Some x) (Some y) id e =
-    elim (is_lt (id_cmp y x)) as (λ b. is_lt (id_cmp y x) ≡ b → cond b (Some y) (Some x) ≡ Some id → (is_lt (id_cmp x id) ≡ false) × (is_lt (id_cmp y id) ≡ false)) [
-      | true ↦ λ t f. let same = same_Some y id f in
-          (subst (λ z. is_lt (id_cmp x z) ≡ false) same (ap is_lt (less_back ids_total y x (less_is (id_cmp y x) t))), subst (λ z. is_lt (id_cmp y z) ≡ false) same (self_not_above y))
-      | false ↦ λ t f. let same = same_Some x id f in
-          (subst (λ z. is_lt (id_cmp x z) ≡ false) same (self_not_above x), subst (λ z. is_lt (id_cmp y z) ≡ false) same t)
-    ] refl e
+lesser_least (Some x) (Some y) id e = search rules
 
 lesser_member : (f g : Option SiteCounter) (id : SiteCounter) → lesser_of f g ≡ Some id → (f ≡ Some id) ⊎ (g ≡ Some id)
 lesser_member None g id e = inr e
@@ -85,11 +71,6 @@ module _ {X : Type 0} where
       unchanged true false = refl
       unchanged false m = refl
 
-  -- past the id, the list stays in order
-  pub past_sorted : (id : SiteCounter) (es : List (SiteCounter × X)) → is_sorted id_cmp es ≡ true → is_sorted id_cmp (past_id id es) ≡ true
-  past_sorted id [] h = refl
-  past_sorted id (e ∷ es) h = elim (is_eq (id_cmp e.0 id)) as (λ b. is_sorted id_cmp (cond b es (e ∷ es)) ≡ true) [ true ↦ (and_parts _ _ h).1 | false ↦ h ]
-
   -- past an id, the list is no longer, and shorter where it is the first
   pub past_shorter : (id : SiteCounter) (es : List (SiteCounter × X)) → length (past_id id es) ≤ length es
   past_shorter id [] = omega arith
@@ -136,9 +117,6 @@ module _ {X Y : Type 0} (a : List (SiteCounter × X)) (b : List (SiteCounter × 
   -- the least of the first ids
   abbrev pub least_first : Option SiteCounter
   least_first = lesser_of (lesser_of (first_key a) (first_key b)) (lesser_of (first_key c) (first_key d))
-
-  pub keys_length : length (all_keys a b c d) ≡ length a + length b + length c + length d
-  keys_length = omega (arith, length-append (keys_of a ++ keys_of b) (keys_of c ++ keys_of d), length-append (keys_of a) (keys_of b), length-append (keys_of c) (keys_of d), length-map a (λ (e : SiteCounter × X). e.0), length-map b (λ (e : SiteCounter × Y). e.0), length-map c (λ (e : SiteCounter × X). e.0), length-map d (λ (e : SiteCounter × Y). e.0))
 
   -- where there is no first id, nothing is left
   pub none_left : least_first ≡ None → distinct_count same_ids (all_keys a b c d) ≡ 0

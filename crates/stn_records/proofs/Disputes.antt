@@ -1,7 +1,8 @@
 -- The first id in dispute of two lists, by their first entries.
-use Rattle.std.{proofs.{Common.{◌≡◌, Bool, true, false, cond, not, List, [], ◌∷◌, Option, Some, None, find, Less, Equal, Greater, is_lt, is_eq, length, ◌⊎◌, ⊎_elim, arith, sym, refl, ap, ◌∙◌}, lemmas.Bool.{and_parts, and_from}}, specs.{Cmp.{tied_back, tied_itself}, FinMap.{FinMap, is_sorted, get-entries, Entries.below_all}, Map.keys_of}}
+use Rattle.std.proofs.lemmas.Grind.{common_steps}
+use Rattle.std.{proofs.{Common.{rules, ◌≡◌, Bool, true, false, cond, List, [], ◌∷◌, Option, Some, None, find, Less, Equal, Greater, is_lt, is_eq, length, ◌⊎◌, ⊎_elim, arith, sym, refl, ap}, lemmas.Bool.{and_parts, and_from}}, specs.{FinMap.{FinMap, is_sorted, get-entries, Entries.below_all}, Map.keys_of}}
 use Rattle.std.specs.FinMap as fin
-use Rattle.stn_records.{specs.{Id.{SiteCounter, id_cmp}, Maps.{differ, dispute}, Sorted.dispute_of, ContentLaws.ids_total, MapLaws.none_found}, proofs.Entries.{less_is, greater_back, tied_less, below_less, find_below, passed_over}}
+use Rattle.stn_records.{specs.{Id.{SiteCounter, id_cmp}, Maps.{differ, dispute}, Sorted.dispute_of, ContentLaws.ids_total, MapLaws.none_found}, proofs.Entries.{less_is, greater_back, below_less, find_below, passed_over}}
 
 module _ {X : Type 0} (equal : X → X → Bool) where
   -- whether an id has different values in two lists
@@ -25,9 +26,8 @@ module _ {X : Type 0} (equal : X → X → Bool) where
   pub ours_first : (x : SiteCounter × X) (xs : List (SiteCounter × X)) (y : SiteCounter × X) (ys : List (SiteCounter × X)) → is_sorted id_cmp (x ∷ xs) ≡ true → is_sorted id_cmp (y ∷ ys) ≡ true → id_cmp x.0 y.0 ≡ Less → dispute_of equal xs (y ∷ ys) ≡ dispute_of equal (x ∷ xs) (y ∷ ys)
   ours_first x xs y ys g h l =
       let none = find_below ids_total x.0 (y ∷ ys) (and_from _ _ (ap is_lt l) (below_less ids_total x.0 y.0 ys l (and_parts _ _ h).0)) in
-      let agreed : in_dispute (x ∷ xs) (y ∷ ys) x.0 ≡ false = ap (differ equal (fin.find id_cmp x.0 (x ∷ xs))) none ∙ no_difference _ in
-      found_above x.0 (in_dispute xs (y ∷ ys)) (in_dispute (x ∷ xs) (y ∷ ys)) (λ k a. ap (λ v. differ equal v (fin.find id_cmp k (y ∷ ys))) (sym (passed_over ids_total k x xs a))) xs (and_parts _ _ g).0
-      ∙ sym (ap (λ b. cond b (Some x.0) (find (in_dispute (x ∷ xs) (y ∷ ys)) (keys_of xs))) agreed)
+      let agreed : in_dispute (x ∷ xs) (y ∷ ys) x.0 ≡ false = search rules in
+      search (rules, found_above, passed_over, and_parts)
 
   -- the first id of theirs comes first: no id of ours is its
   pub theirs_first : (x : SiteCounter × X) (xs : List (SiteCounter × X)) (y : SiteCounter × X) (ys : List (SiteCounter × X)) → is_sorted id_cmp (x ∷ xs) ≡ true → is_sorted id_cmp (y ∷ ys) ≡ true → id_cmp x.0 y.0 ≡ Greater → dispute_of equal (x ∷ xs) ys ≡ dispute_of equal (x ∷ xs) (y ∷ ys)
@@ -35,17 +35,8 @@ module _ {X : Type 0} (equal : X → X → Bool) where
       let l = greater_back ids_total x.0 y.0 t in
       found_above y.0 (in_dispute (x ∷ xs) ys) (in_dispute (x ∷ xs) (y ∷ ys)) (λ k a. ap (differ equal (fin.find id_cmp k (x ∷ xs))) (sym (passed_over ids_total k y ys a))) (x ∷ xs) (and_from _ _ (ap is_lt l) (below_less ids_total y.0 x.0 xs l (and_parts _ _ g).0))
 
-  -- both have the id: it is in dispute exactly where the values differ
-  at_both : (x : SiteCounter × X) (xs : List (SiteCounter × X)) (y : SiteCounter × X) (ys : List (SiteCounter × X)) → id_cmp x.0 y.0 ≡ Equal → in_dispute (x ∷ xs) (y ∷ ys) x.0 ≡ not (equal x.1 y.1)
-  at_both x xs y ys t =
-      ap (λ v. differ equal v (fin.find id_cmp x.0 (y ∷ ys))) (found_first x.0 x xs (tied_itself ids_total x.0))
-      ∙ ap (differ equal (Some x.1)) (found_first x.0 y ys t)
-
   pub both_agree : (x : SiteCounter × X) (xs : List (SiteCounter × X)) (y : SiteCounter × X) (ys : List (SiteCounter × X)) → is_sorted id_cmp (x ∷ xs) ≡ true → is_sorted id_cmp (y ∷ ys) ≡ true → id_cmp x.0 y.0 ≡ Equal → equal x.1 y.1 ≡ true → dispute_of equal xs ys ≡ dispute_of equal (x ∷ xs) (y ∷ ys)
-  both_agree x xs y ys g h t s =
-      found_above x.0 (in_dispute xs ys) (in_dispute (x ∷ xs) (y ∷ ys)) (λ k a i.
-      differ equal (sym (passed_over ids_total k x xs a) i) (sym (passed_over ids_total k y ys (tied_less ids_total y.0 x.0 k (tied_back ids_total x.0 y.0 t) a)) i)) xs (and_parts _ _ g).0
-      ∙ sym (ap (λ b. cond b (Some x.0) (find (in_dispute (x ∷ xs) (y ∷ ys)) (keys_of xs))) (at_both x xs y ys t ∙ ap not s))
+  both_agree x xs y ys g h t s = grind (arith, common_steps, found_above)
 
   -- where one list is at its end, nothing is in dispute
   no_more : (xs : List (SiteCounter × X)) → dispute_of equal xs [] ≡ None

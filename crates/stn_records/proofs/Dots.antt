@@ -1,5 +1,5 @@
 -- A text in two parts around its first dot.
-use Rattle.std.{proofs.{Common.{◌≡◌, ◌≢◌, ℕ, ◌+◌, ◌<◌, ◌^◌, List, [], ◌∷◌, ◌++◌, length, get_or, take, drop, decimal, All, sym, refl, ap, subst, ◌∙◌, arith, append_assoc, take-append-drop}, lemmas.{List.{drop_more, Elements.{All-head, All-tail, All-nil, All-cons}}, Fmt.decimal_is_IsNumeral}}, specs.Str.Parse.AllDigits}
+use Rattle.std.{proofs.{Common.{◌≡◌, ◌≢◌, ℕ, ◌+◌, ◌<◌, ◌^◌, List, [], ◌∷◌, ◌++◌, length, get_or, take, drop, decimal, All, refl, subst, arith, append_assoc, take-append-drop}, lemmas.{List.{drop_more, Elements.{All-head, All-tail, All-nil, All-cons}}, Fmt.decimal_is_IsNumeral}}, specs.Str.Parse.AllDigits}
 use Rattle.stn_records.specs.Id.{SiteCounter, id_text}
 
 abbrev NotDot : ℕ → Type 0
@@ -33,5 +33,4 @@ text_split id = append_assoc (decimal id.site) (46 ∷ []) (decimal id.counter)
 
 -- a text at its dot
 pub split_at : (text : List ℕ) (place : ℕ) (d : ℕ) → place < length text → get_or text place d ≡ 46 → text ≡ take place text ++ (46 ∷ drop (place + 1) text)
-split_at text place d within is =
-    sym (take-append-drop place text) ∙ ap (λ l. take place text ++ l) (drop_more text place d within ∙ ap (λ byte. byte ∷ drop (place + 1) text) is)
+split_at text place d within is = cc (take-append-drop place text, drop_more text place d within)

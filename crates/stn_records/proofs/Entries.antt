@@ -1,5 +1,5 @@
 -- Lists of entries whose keys rise: what is found in them, and in their merge.
-use Rattle.std.{proofs.{Common.{◌≡◌, ℕ, zero, suc, ◌+◌, ◌<◌, ◌≤◌, Bool, true, false, cond, T, List, [], ◌∷◌, ◌++◌, length, get_or, Option, Some, None, Ordering, Less, Equal, Greater, is_lt, is_eq, sym, refl, ap, ◌∙◌, ⊎_elim, arith, add-one, ◌⊎◌, append_assoc, append-nil}, lemmas.Bool.{false≢true, and_parts, and_from}}, specs.{Option.option_or, List.{insert, IsAllAdjacentAnswer, Sorted.IsSortedBy}, Prelude.{IsTrue, ◌↔◌}, Ordering.{eq_by_cmp, ordering_reverse}, Cmp.{IsTotalOrder, alike_right, tied_back, Equal-is}, FinMap.{FinMap, is_sorted, put, Entries.{below_all, by_order}}}}
+use Rattle.std.{proofs.{Common.{rules, ◌≡◌, ℕ, zero, suc, ◌+◌, ◌<◌, ◌≤◌, Bool, true, false, cond, T, List, [], ◌∷◌, ◌++◌, length, get_or, Option, Some, None, Ordering, Less, Equal, Greater, is_lt, is_eq, sym, refl, ap, ◌∙◌, ⊎_elim, arith, add-one, ◌⊎◌, append_assoc, append-nil}, lemmas.Bool.{false≢true, and_parts, and_from}}, specs.{Option.option_or, List.{insert, IsAllAdjacentAnswer, Sorted.IsSortedBy}, Prelude.{IsTrue, ◌↔◌}, Ordering.{eq_by_cmp, ordering_reverse}, Cmp.{IsTotalOrder, alike_right, Equal-is}, FinMap.{FinMap, is_sorted, put, Entries.{below_all, by_order}}}}
 use Rattle.std.specs.FinMap as fin
 use Rattle.stn_records.specs.{MapLaws.or_after, Sorted.{merge, merge_from}}
 
@@ -27,9 +27,6 @@ module _ {K : Type 0} {R : K → K → Ordering} (o : IsTotalOrder R) where
   pub tied_less : (x y z : K) → R x y ≡ Equal → R y z ≡ Less → R x z ≡ Less
   tied_less x y z e l = o.congr x y z e ∙ l
 
-  pub less_tied : (x y z : K) → R x y ≡ Less → R y z ≡ Equal → R x z ≡ Less
-  less_tied x y z l e = sym (alike_right o y z x e) ∙ l
-
 module _ {K X : Type 0} {R : K → K → Ordering} (o : IsTotalOrder R) where
   pub below_less : (x y : K) (es : List (K × X)) → R x y ≡ Less → below_all R y es ≡ true → below_all R x es ≡ true
   below_less x y [] l h = refl
@@ -39,9 +36,7 @@ module _ {K X : Type 0} {R : K → K → Ordering} (o : IsTotalOrder R) where
 
   pub below_tied : (x y : K) (es : List (K × X)) → R x y ≡ Equal → below_all R y es ≡ true → below_all R x es ≡ true
   below_tied x y [] t h = refl
-  below_tied x y (e ∷ es) t h =
-      let first = less_is (R y e.0) (and_parts _ _ h).0 in
-      and_from _ _ (ap is_lt (tied_less o x y e.0 t first)) (below_tied x y es t (and_parts _ _ h).1)
+  below_tied x y (e ∷ es) t h = search rules
 
   -- nothing is found of a key below each
   pub find_below : (q : K) (es : List (K × X)) → below_all R q es ≡ true → fin.find R q es ≡ None
@@ -71,7 +66,7 @@ module _ {K X : Type 0} {R : K → K → Ordering} (o : IsTotalOrder R) where
   risen (e ∷ f ∷ es) h =
       let first : is_lt (R e.0 f.0) ≡ true = sym (h 0 e (omega arith)) in
       let rest = risen (f ∷ es) (λ k d l. rw add-one (rw add-one at (h (suc k) d (omega arith)))) in
-      and_from _ _ (and_from _ _ first (below_less e.0 f.0 es (less_is _ first) (and_parts _ _ rest).0)) rest
+      search (rules, and_from, below_less, less_is, and_parts)
 
   -- a test of neighbours tells whether the entries are in order
   pub rising_test : (es : List (K × X)) (r : Bool) → IsAllAdjacentAnswer (λ x y b. b ≡ is_lt (R x.0 y.0)) es r → IsTrue r ↔ IsTrue (is_sorted R es)
@@ -97,28 +92,24 @@ module _ {K X : Type 0} {R : K → K → Ordering} (o : IsTotalOrder R) where
   find_at (e ∷ es) h q zero d within t = ap (λ r. cond (is_eq r) (Some e.1) (fin.find R q es)) t
   find_at (e ∷ es) h q (suc at) d within t =
       let above = above_at e.0 es (and_parts _ _ h).0 at d (omega arith) in
-      let behind : R q e.0 ≡ Greater = less_back o e.0 q (less_tied o e.0 (get_or es at d).0 q above (tied_back o q (get_or es at d).0 t)) in
+      let behind : R q e.0 ≡ Greater = search rules in
       ap (λ r. cond (is_eq r) (Some e.1) (fin.find R q es)) behind ∙ find_at es (and_parts _ _ h).1 q at d (omega arith) t
 
   -- where the keys before a place are lesser and those from it on greater, nothing is found
   pub find_gap : (es : List (K × X)) (q : K) (at : ℕ) → ((j : ℕ) (d : K × X) → j < at → R (get_or es j d).0 q ≡ Less) → ((j : ℕ) (d : K × X) → at ≤ j → j < length es → R (get_or es j d).0 q ≡ Greater) → fin.find R q es ≡ None
   find_gap [] q at before behind = refl
   find_gap (e ∷ es) q zero before behind =
-      ap (λ r. cond (is_eq r) (Some e.1) (fin.find R q es)) (greater_back o e.0 q (behind 0 e (omega arith) (omega arith)))
-      ∙ find_gap es q zero (λ j d l. absurd (omega arith)) (λ j d l m. behind (suc j) d (omega arith) (omega arith))
+      cc (greater_back o e.0 q (behind 0 e (omega arith) (omega arith)), find_gap es q zero (λ j d l. absurd (omega arith)) (λ j d l m. behind (suc j) d (omega arith) (omega arith)))
   find_gap (e ∷ es) q (suc at) before behind =
-      ap (λ r. cond (is_eq r) (Some e.1) (fin.find R q es)) (less_back o e.0 q (before 0 e (omega arith)))
-      ∙ find_gap es q at (λ j d l. before (suc j) d (omega arith)) (λ j d l m. behind (suc j) d (omega arith) (omega arith))
+      cc (less_back o e.0 q (before 0 e (omega arith)), find_gap es q at (λ j d l. before (suc j) d (omega arith)) (λ j d l m. behind (suc j) d (omega arith) (omega arith)))
 
   -- and an entry is put there
   pub put_gap : (es : List (K × X)) (q : K) (x : X) (at : ℕ) → at ≤ length es → ((j : ℕ) (d : K × X) → j < at → R (get_or es j d).0 q ≡ Less) → ((j : ℕ) (d : K × X) → at ≤ j → j < length es → R (get_or es j d).0 q ≡ Greater) → insert es at (q, x) ≡ put R q x es
   put_gap [] q x zero within before behind = refl
   put_gap [] q x (suc at) within before behind = absurd (omega arith)
-  put_gap (e ∷ es) q x zero within before behind =
-      sym (ap (λ r. by_order r ((q, x) ∷ e ∷ es) ((e.0, x) ∷ es) (e ∷ put R q x es)) (greater_back o e.0 q (behind 0 e (omega arith) (omega arith))))
+  put_gap (e ∷ es) q x zero within before behind = cc (greater_back o e.0 q (behind 0 e (omega arith) (omega arith)))
   put_gap (e ∷ es) q x (suc at) within before behind =
-      ap (λ l. e ∷ l) (put_gap es q x at (omega arith) (λ j d l. before (suc j) d (omega arith)) (λ j d l m. behind (suc j) d (omega arith) (omega arith)))
-      ∙ sym (ap (λ r. by_order r ((q, x) ∷ e ∷ es) ((e.0, x) ∷ es) (e ∷ put R q x es)) (less_back o e.0 q (before 0 e (omega arith))))
+      cc (put_gap es q x at (omega arith) (λ j d l. before (suc j) d (omega arith)) (λ j d l m. behind (suc j) d (omega arith) (omega arith)), less_back o e.0 q (before 0 e (omega arith)))
 
   -- ---- the merge
   merge_from_below : (k : K) (x : K × X) (rest : List (K × X) → List (K × X)) → R k x.0 ≡ Less → ((ys : List (K × X)) → below_all R k ys ≡ true → below_all R k (rest ys) ≡ true) → (ys : List (K × X)) → below_all R k ys ≡ true → below_all R k (merge_from R x rest ys) ≡ true
@@ -189,5 +180,4 @@ rest_merged R (x ∷ xs) (y ∷ ys) end = ⊎_elim (λ e. absurd (omega arith)) 
 
 -- the merge so far and what both lists have left are the merge
 pub merge_ends : {K X : Type 0} (R : K → K → Ordering) (all more last whole xs ys : List (K × X)) → (length xs ≡ 0) ⊎ (length ys ≡ 0) → all ++ merge R xs ys ≡ whole → more ≡ all ++ xs → last ≡ more ++ ys → last ≡ whole
-merge_ends R all more last whole xs ys end is first second =
-    second ∙ ap (λ l. l ++ ys) first ∙ append_assoc all xs ys ∙ ap (λ l. all ++ l) (rest_merged R xs ys end) ∙ is
+merge_ends R all more last whole xs ys end is first second = cc (append_assoc all xs ys, rest_merged R xs ys end)

@@ -1,20 +1,13 @@
 -- What is found in the entries of a finite map, and what holds of each of them.
-use Rattle.std.{proofs.{Common.{◌≡◌, true, false, cond, List, [], ◌∷◌, Some, is_some, Ordering, is_eq, sym, refl, ap, subst, ◌∙◌, All}, lemmas.{Bool.{false≢true, and_parts}, List.Elements.{All-from_recursion, recursion_from_All}, Option.same_Some}}, specs.{List.AllByRecursion, Ordering.eq_by_cmp, Cmp.{IsTotalOrder, tied_itself, Equal-is}, FinMap.{FinMap, IsAntisymmetric, entries, get, get-entries, find, is_sorted, Entries.below_all}}}
+use Rattle.std.{proofs.{Common.{rules, ◌≡◌, true, false, cond, List, [], ◌∷◌, Some, is_some, Ordering, is_eq, sym, refl, ap, subst, ◌∙◌, All}, lemmas.{Bool.{false≢true, and_parts}, List.Elements.{All-from_recursion, recursion_from_All}, Option.same_Some}}, specs.{List.AllByRecursion, Ordering.eq_by_cmp, Cmp.{IsTotalOrder, tied_itself, Equal-is}, FinMap.{FinMap, IsAntisymmetric, entries, get, get-entries, find, is_sorted}}}
 use Rattle.stn_records.proofs.Entries.{in_order, find_below}
 
 module _ {K X : Type 0} {R : K → K → Ordering} (o : IsTotalOrder R) (exact : IsAntisymmetric R) where
-  found_behind : (q : K) (v : X) (e : K × X) (es : List (K × X)) → below_all R e.0 es ≡ true → find R q es ≡ Some v → find R q (e ∷ es) ≡ Some v
-  found_behind q v e es below found =
-      elim (eq_by_cmp R q e.0) as (λ b. eq_by_cmp R q e.0 ≡ b → cond b (Some e.1) (find R q es) ≡ Some v) [
-        | true ↦ λ t. absurd (false≢true (ap is_some (sym (find_below o e.0 es below) ∙ ap (λ k. find R k es) (sym (exact q e.0 ((Equal-is (R q e.0)).0 t))) ∙ found)))
-        | false ↦ λ t. found
-      ] refl
-
   each_found : (es : List (K × X)) → is_sorted R es ≡ true → (P : K × X → Type 0) → ((q : K) (v : X) → find R q es ≡ Some v → P (q, v)) → AllByRecursion P es
   each_found [] sorted P f = tt
   each_found (e ∷ es) sorted P f = (
     f e.0 e.1 (ap (λ r. cond (is_eq r) (Some e.1) (find R e.0 es)) (tied_itself o e.0)),
-    each_found es (and_parts _ _ sorted).1 P (λ q v found. f q v (found_behind q v e es (and_parts _ _ sorted).0 found)),
+    each_found es (and_parts _ _ sorted).1 P (λ q v found. f q v (search (rules, find_below))),
   )
 
   -- what holds of each key and its value holds of each entry

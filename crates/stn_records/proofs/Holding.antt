@@ -1,5 +1,5 @@
 -- Whether all that one site holds is held by another.
-use Rattle.std.{proofs.{Common.{◌≡◌, ◌↔◌, Bool, true, false, cond, ◌&&◌, ◌≤◌, List, [], ◌∷◌, Option, Some, None, is_some, option_and_then, Less, Equal, Greater, is_lt, is_eq, sym, refl, ap, subst, ◌∙◌, inl, inr, ⊎_elim}, lemmas.{Bool.{false≢true, and_from, and_parts, not-true, le-leb}, List.Sums.{AllPass-from_list_all, list_all-from_AllPass}, Option.{cond_some, same_Some}}}, specs.{Bool.Decides, Prelude.IsTrue, Cmp.tied_back, FinMap.{FinMap, is_sorted, get-entries, Entries.below_all}}}
+use Rattle.std.{proofs.{Common.{rules, ◌≡◌, ◌↔◌, Bool, true, false, cond, ◌&&◌, ◌≤◌, List, [], ◌∷◌, Option, Some, None, is_some, option_and_then, Less, Equal, Greater, is_lt, sym, refl, ap, subst, ◌∙◌, inl, inr, ⊎_elim}, lemmas.{Bool.{false≢true, and_from, and_parts, not-true, le-leb}, List.Sums.{AllPass-from_list_all, list_all-from_AllPass}, Option.{cond_some, same_Some}}}, specs.{Bool.Decides, Prelude.IsTrue, FinMap.{FinMap, is_sorted, get-entries, Entries.below_all}}}
 use Rattle.std.specs.FinMap as fin
 use Rattle.stn_records.{specs.{Id.{SiteCounter, id_cmp}, Maps.HasEntries, Sorted.{is_there, has_entries}, Join.passing, JoinLaws.{first_step, join_is}, Content.{Content, addition, withdrawal, replacement, IsPart, most_known, is_limited, known_count, dispute_contents, join_contents, content_taken}, ContentLaws.{ids_total, ids_exact, contents_join, contents_dispute}}, proofs.{Entries.{less_is, greater_back, below_less, find_below, passed_over}, Gets.{entries_from_get, get_from_entries}}}
 
@@ -15,9 +15,7 @@ module _ {X : Type 0} (same : X → X → Bool) where
   ours_first x y xs ys h l = first_passed x xs (y ∷ ys) (and_from _ _ (ap is_lt l) (below_less ids_total x.0 y.0 ys l (and_parts _ _ h).0))
 
   pub both_first : (x y : SiteCounter × X) (xs ys : List (SiteCounter × X)) → is_sorted id_cmp (y ∷ ys) ≡ true → id_cmp x.0 y.0 ≡ Equal → has_entries same (x ∷ xs) (y ∷ ys) ≡ (same x.1 y.1 && has_entries same xs ys)
-  both_first x y xs ys h t =
-      let below : below_all id_cmp x.0 ys ≡ true = ap (λ k. below_all id_cmp k ys) (ids_exact x.0 y.0 t) ∙ (and_parts _ _ h).0 in
-      λ i. is_there same (cond (is_eq (tied_back ids_total x.0 y.0 t i)) (Some x.1) (fin.find id_cmp y.0 xs)) y.1 && sym (first_passed x xs ys below) i
+  both_first x y xs ys h t = search (rules, first_passed)
 
   pub theirs_first : (x y : SiteCounter × X) (xs ys : List (SiteCounter × X)) → is_sorted id_cmp (x ∷ xs) ≡ true → id_cmp x.0 y.0 ≡ Greater → has_entries same (x ∷ xs) (y ∷ ys) ≡ false
   theirs_first x y xs ys g t =

@@ -1,5 +1,5 @@
 -- How many ids are known, each counted once.
-use Rattle.std.{proofs.{Common.{◌≡◌, suc, ◌≤◌, Bool, true, false, cond, ◌||◌, List, [], ◌∷◌, ◌++◌, length, Option, Some, None, is_some, sym, refl, ap, ◌∙◌, ⊎_elim, arith}, lemmas.{Bool.{false≢true, or_left, or_right, or_cases}, Map.Made.length-le_from_is_member, List.Folds.list_any-append}}, specs.{FinMap.contains_key-keys, Cmp.{IsEquivalence, eq_by_cmp_equiv}, List.{IsDistinct, AllByRecursion}, Set.{distinct_count, unique_keys, is_member}}}
+use Rattle.std.{proofs.{Common.{rules, ◌≡◌, suc, ◌≤◌, Bool, true, false, cond, ◌||◌, List, [], ◌∷◌, ◌++◌, length, Option, Some, None, is_some, sym, refl, ap, ◌∙◌, ⊎_elim}, lemmas.{Bool.{false≢true, or_left, or_right, or_cases}, Map.Made.length-le_from_is_member, List.Folds.list_any-append}}, specs.{FinMap.contains_key-keys, Cmp.{IsEquivalence, eq_by_cmp_equiv}, List.{IsDistinct, AllByRecursion}, Set.{distinct_count, unique_keys, is_member}}}
 use Rattle.stn_records.{specs.{Content.{Content, Item, addition, HasItem, same_ids, known_ids, known_count, is_known, replaced_set, replaced_ids}, ContentLaws.ids_total, Id.SiteCounter}, proofs.Replaced.replaced_fewer}
 use Rattle.std.specs.FinMap as fin
 
@@ -41,10 +41,7 @@ fewer xs ys h = length-le_from_is_member laws (unique_keys same_ids xs) (unique_
 
 -- lists with the same ids have as many
 pub same_count : (xs ys : List SiteCounter) → ((q : SiteCounter) → is_member same_ids xs q ≡ is_member same_ids ys q) → distinct_count same_ids xs ≡ distinct_count same_ids ys
-same_count xs ys h =
-    let up = fewer xs ys (λ q m. sym (h q) ∙ m) in
-    let down = fewer ys xs (λ q m. h q ∙ m) in
-    omega arith
+same_count xs ys h = search (rules, fewer)
 
 -- an id more that is not among the others
 pub one_more : (x : SiteCounter) (xs : List SiteCounter) → is_member same_ids xs x ≡ false → distinct_count same_ids (x ∷ xs) ≡ suc (distinct_count same_ids xs)

@@ -1,5 +1,5 @@
 -- How many ids a content knows after a change, and how many two know together.
-use Rattle.std.{proofs.{Common.{◌≡◌, ◌+◌, ◌<◌, ◌≤◌, Bool, true, false, cond, ◌||◌, List, [], ◌∷◌, ◌++◌, length, Option, Some, None, is_some, is_eq, sym, refl, ap, ◌∙◌, arith, length-append}, lemmas.{Bool.{false≢true, and_parts, or_left, or_right}, Map.{Made.distinct_count-le, Entries.length-keys_of}}}, specs.{FinMap.{contains_key-keys, is_sorted, get-empty, get-insert, Entries.below_all}, Map.keys_of, Option.option_or, List.{IsDistinct, AllByRecursion}, Set.{distinct_count, unique_keys, is_member}}}
+use Rattle.std.{proofs.{Common.{rules, ◌≡◌, ◌+◌, ◌<◌, ◌≤◌, Bool, true, false, cond, ◌||◌, List, [], ◌∷◌, ◌++◌, length, Option, Some, None, is_some, is_eq, sym, refl, ap, ◌∙◌, arith, length-append}, lemmas.{Bool.{false≢true, and_parts, or_left, or_right}, Map.{Made.distinct_count-le, Entries.length-keys_of}}}, specs.{FinMap.{contains_key-keys, is_sorted, get-empty, get-insert, Entries.below_all}, Map.keys_of, Option.option_or, List.{IsDistinct, AllByRecursion}, Set.{distinct_count, unique_keys, is_member}}}
 use Rattle.stn_net.specs.Difference.{Difference}
 use Rattle.stn_records.{specs.{Content.{most_known, Content, Item, addition, withdrawal, replacement, HasItem, same_ids, known_ids, known_count, known_in_either, is_known, is_replaced, replaced_set, replaced_ids, dispute_contents, joined_contents, part_of, plain, with_record, with_tombstone, with_amendment, no_content, AllAmend}, ContentLaws.{ids_total, ids_exact}, Id.{SiteCounter, id_cmp}, declared.record.Record.Record, MapLaws.get-union}, proofs.{Entries.{less_is, in_order}, Proper.retained_value, OneItem.gone, KnownIds.{fewer, same_count, one_more, member-append, known_member, known_fewer, keys_within, there_is}, Replaced.{or_swap, inserted_key, replaced_by_withdrawal, replaced_in_join, replaced_withdrawn, replaced_amended, replaced_of_nothing}}}
 use Rattle.std.specs.FinMap as fin
@@ -15,14 +15,10 @@ keys_distinct (e ∷ es) h = (keys_apart e.0 es (and_parts _ _ h).0, keys_distin
 
 -- there are at most as many additions and replaced ids as known ids
 pub additions_within : (s : Content) → length (fin.entries s.additions) ≤ known_count s
-additions_within s =
-    let within = keys_within (fin.keys s.additions) (known_ids s) (keys_distinct (fin.entries s.additions) (in_order s.additions)) (λ q m. member-append (fin.keys s.additions) (replaced_ids s) q ∙ or_left _ _ m) in
-    omega (arith, length-keys_of (fin.entries s.additions), within)
+additions_within s = search (rules, keys_within, keys_distinct, in_order, member-append, length-keys_of)
 
 pub replaced_within : (s : Content) → length (fin.entries (replaced_set s)) ≤ known_count s
-replaced_within s =
-    let within = keys_within (replaced_ids s) (known_ids s) (keys_distinct (fin.entries (replaced_set s)) (in_order (replaced_set s))) (λ q m. member-append (fin.keys s.additions) (replaced_ids s) q ∙ or_right _ _ m) in
-    omega (arith, length-keys_of (fin.entries (replaced_set s)), within)
+replaced_within s = search (rules, keys_within, keys_distinct, in_order, member-append, length-keys_of)
 
 -- and there are at most as many entries of amendments, since each belongs to a record
 pub replacements_within : (s : Content) → AllAmend s → length (fin.entries s.replacements) ≤ known_count s
@@ -46,9 +42,7 @@ tombstones_within s =
 
 -- and no more ids are known than both parts have entries
 pub known_within : (s : Content) → known_count s ≤ length (fin.entries s.additions) + length (fin.entries (replaced_set s))
-known_within s =
-    let within = distinct_count-le same_ids (known_ids s) in
-    omega (arith, within, length-append (fin.keys s.additions) (replaced_ids s), length-keys_of (fin.entries s.additions), length-keys_of (fin.entries (replaced_set s)))
+known_within s = search (rules, distinct_count-le, length-append, length-keys_of)
 
 -- what the join of two contents knows is what they know together
 pub together : (s t : Content) → dispute_contents s t ≡ None → known_count (joined_contents s t) ≡ known_in_either s t
@@ -75,18 +69,12 @@ with_member s id r q = ap (λ o. is_some o || is_replaced s q) (get-insert ids_t
 
 tombed_member : (s : Content) (id : SiteCounter) (q : SiteCounter) → is_known (with_tombstone s id) q ≡ (same_ids q id || is_known s q)
 tombed_member s id q =
-    ap (λ set. fin.contains_key s.additions q || fin.contains_key set q) (sym (replaced_withdrawn s id))
-    ∙ ap (λ b. fin.contains_key s.additions q || b) (inserted_key (replaced_set s) id q)
-    ∙ or_swap (fin.contains_key s.additions q) (same_ids q id) (is_replaced s q)
+    cc (replaced_withdrawn s id, inserted_key (replaced_set s) id q, or_swap (fin.contains_key s.additions q) (same_ids q id) (is_replaced s q))
 
 -- an amendment is known by both its ids
 amended_member : (s : Content) (id old : SiteCounter) (bound : Difference) → ((z : SiteCounter) → fin.get s.replacements id ≡ Some z → z ≡ old) → (q : SiteCounter) → is_known (with_amendment s id old bound) q ≡ (same_ids q id || (same_ids q old || is_known s q))
 amended_member s id old bound agrees q =
-    ap (λ set. fin.contains_key (fin.insert s.additions id (plain bound)) q || fin.contains_key set q) (sym (replaced_amended s id old bound agrees))
-    ∙ ap (λ b. fin.contains_key (fin.insert s.additions id (plain bound)) q || b) (inserted_key (replaced_set s) old q)
-    ∙ or_swap (fin.contains_key (fin.insert s.additions id (plain bound)) q) (same_ids q old) (is_replaced s q)
-    ∙ ap (λ b. same_ids q old || b) (with_member s id (plain bound) q)
-    ∙ or_swap (same_ids q old) (same_ids q id) (is_known s q)
+    cc (replaced_amended s id old bound agrees, inserted_key (replaced_set s) old q, or_swap (fin.contains_key (fin.insert s.additions id (plain bound)) q) (same_ids q old) (is_replaced s q), with_member s id (plain bound) q, or_swap (same_ids q old) (same_ids q id) (is_known s q))
 
 -- an id more counts where it is not among the others
 counted : (x : SiteCounter) (xs : List SiteCounter) (b : Bool) → is_member same_ids xs x ≡ b → distinct_count same_ids (x ∷ xs) ≡ distinct_count same_ids xs + cond b 0 1
@@ -99,7 +87,7 @@ amended_count s id old bound agrees apart =
     let both = same_count (known_ids (with_amendment s id old bound)) (id ∷ old ∷ known_ids s) (λ q. known_member (with_amendment s id old bound) q ∙ amended_member s id old bound agrees q ∙ ap (λ m. same_ids q id || (same_ids q old || m)) (sym (known_member s q))) in
     let first = counted id (old ∷ known_ids s) (is_known s id) (ap (λ b. b || is_member same_ids (known_ids s) id) apart ∙ known_member s id) in
     let second = counted old (known_ids s) (is_known s old) (known_member s old) in
-    both ∙ first ∙ ap (λ n. n + cond (is_known s id) 0 1) second
+    cc
 
 -- a content with one id more, known or not
 module _ (s t : Content) (id : SiteCounter) (more : (q : SiteCounter) → is_known t q ≡ (same_ids q id || is_known s q)) where
@@ -107,14 +95,8 @@ module _ (s t : Content) (id : SiteCounter) (more : (q : SiteCounter) → is_kno
   cons_count = same_count (id ∷ known_ids s) (known_ids t) (λ q. ap (λ m. same_ids q id || m) (known_member s q) ∙ sym (more q) ∙ sym (known_member t q))
 
   known_more : (b : Bool) → is_known s id ≡ b → (b ≡ false → known_count s < most_known) → known_count s ≤ most_known → known_count t ≤ most_known
-  known_more true k room most =
-      let member : is_member same_ids (known_ids s) id ≡ true = known_member s id ∙ k in
-      let same : distinct_count same_ids (id ∷ known_ids s) ≡ known_count s = ap (λ m. length (cond m (unique_keys same_ids (known_ids s)) (id ∷ unique_keys same_ids (known_ids s)))) member in
-      omega (arith, cons_count, same)
-  known_more false k room most =
-      let one = one_more id (known_ids s) (known_member s id ∙ k) in
-      let left = room refl in
-      omega (arith, cons_count, one, left)
+  known_more true k room most = search (rules, known_member, cons_count)
+  known_more false k room most = search (rules, cons_count)
 
 pub record_limited : (s : Content) (id : SiteCounter) (r : Record) → (is_known s id ≡ false → known_count s < most_known) → known_count s ≤ most_known → known_count (with_record s id r) ≤ most_known
 record_limited s id r room most = known_more s (with_record s id r) id (with_member s id r) (is_known s id) refl room most
@@ -140,16 +122,4 @@ empty_limited = let none = fewer (known_ids no_content) [] (λ q m. absurd (fals
 
 -- two contents know together no more ids than all four parts have entries
 pub known_together : (s t : Content) → known_in_either s t ≤ (length (fin.entries s.additions) + length (fin.entries (replaced_set s))) + (length (fin.entries t.additions) + length (fin.entries (replaced_set t)))
-known_together s t =
-    let within = distinct_count-le same_ids (known_ids s ++ known_ids t) in
-    omega (
-      arith,
-      within,
-      length-append (known_ids s) (known_ids t),
-      length-append (fin.keys s.additions) (replaced_ids s),
-      length-append (fin.keys t.additions) (replaced_ids t),
-      length-keys_of (fin.entries s.additions),
-      length-keys_of (fin.entries (replaced_set s)),
-      length-keys_of (fin.entries t.additions),
-      length-keys_of (fin.entries (replaced_set t)),
-    )
+known_together s t = search (rules, distinct_count-le, length-append, length-keys_of)

@@ -1,14 +1,12 @@
 -- Contents that are made of lists of entries.
-use Rattle.std.{proofs.{Common.{◌≡◌, ◌↔◌, ℕ, ◌<◌, length, Bool, true, false, not, ◌&&◌, eqb, List, get_or, Some, sym, refl, ap, ◌∙◌, All}, lemmas.{Bool.{false≢true, Decides.{Decides-eqb, Decides-and, Decides-like}}, List.Elements.All-same}}, specs.{Bool.Decides, FinMap.{get-entries, is_sorted, same_entries_map}, Cmp.tied_itself}}
+use Rattle.std.{proofs.{Common.{rules, ◌≡◌, ◌↔◌, ℕ, ◌<◌, length, Bool, true, false, not, ◌&&◌, eqb, List, get_or, Some, sym, refl, ap, ◌∙◌, All}, lemmas.{Bool.false≢true, List.Elements.All-same}}, specs.{Bool.Decides, FinMap.{get-entries, is_sorted, same_entries_map}, Cmp.tied_itself}}
 use Rattle.std.specs.FinMap as fin
 use Rattle.stn_records.{specs.{Id.{SiteCounter, id_cmp}, declared.record.{Record.Record, Mark.TheVariants.Plain}, Content.{RecordMap, Content, AllAmend, IsAmendment}, ContentLaws.{ids_total, ids_exact}}, proofs.{Gets.{entries_from_get, get_from_entries}, Entries.{in_order, find_at}}}
 
 -- the entry at a place is what its id has
 pub entry_at : (m : RecordMap) (es : List (SiteCounter × Record)) (place : ℕ) (e : SiteCounter × Record) → es ≡ fin.entries m → place < length es → e ≡ get_or es place e → fin.get m e.0 ≡ Some e.1
 entry_at m es place e is within read =
-    get-entries m e.0 ∙ ap (fin.find id_cmp e.0) (sym is)
-    ∙ find_at ids_total es (ap (is_sorted id_cmp) is ∙ in_order m) e.0 place e within (ap (λ (f : SiteCounter × Record). id_cmp e.0 f.0) (sym read) ∙ tied_itself ids_total e.0)
-    ∙ ap (λ (f : SiteCounter × Record). Some f.1) (sym read)
+    cc (get-entries m e.0, find_at ids_total es (ap (is_sorted id_cmp) is ∙ in_order m) e.0 place e within (ap (λ (f : SiteCounter × Record). id_cmp e.0 f.0) (sym read) ∙ tied_itself ids_total e.0))
 
 -- contents with the same three parts are one
 pub same_content : (s t : Content) → s.additions ≡ t.additions → s.tombstones ≡ t.tombstones → s.replacements ≡ t.replacements → s ≡ t
@@ -26,10 +24,7 @@ entries_of_amends s es is amends = All-same (λ e. IsAmendment s.additions e.0 e
 
 -- two ids are one where both their numbers are
 numbers_decide : (a b : SiteCounter) → Decides (eqb a.site b.site && eqb a.counter b.counter) (a ≡ b)
-numbers_decide a b = Decides-like _
-    (λ p. λ i. record { site = p.0 i; counter = p.1 i })
-    (λ e. (ap (λ (i : SiteCounter). i.site) e, ap (λ (i : SiteCounter). i.counter) e))
-    (Decides-and _ _ (Decides-eqb a.site b.site) (Decides-eqb a.counter b.counter))
+numbers_decide a b = search rules
 
 -- whether an id of a Plain record and an old id make an amendment
 pub amendment_told : (m : RecordMap) (id old : SiteCounter) (held : Record) → fin.get m id ≡ Some held → held.mark ≡ Plain → (b : Bool) → b ≡ not (eqb id.site old.site && eqb id.counter old.counter) → (b ≡ true) ↔ IsAmendment m id old

@@ -1,5 +1,5 @@
 -- What each call leaves.
-use Rattle.std.{proofs.{Common.{◌≡◌, ◌≢◌, ℕ, ◌+◌, ◌<◌, ◌≤◌, ◌↔◌, Bool, true, false, cond, List, length, Some, None, is_some, option_and_then, Equal, sym, refl, ap, subst, ◌∙◌, inl, inr, ⊎_elim, arith, Result, Ok, Err, OnOk, OnErr, IsTrue, le_trans, nat_le}, lemmas.Bool.{false≢true, cases_lt, leb-true, le-leb, or_right}}, specs.{FinMap.{get-empty, get-retain_keys}, Set.is_member}}
+use Rattle.std.{proofs.{Common.{rules, ◌≡◌, ◌≢◌, ℕ, ◌+◌, ◌<◌, ◌≤◌, ◌↔◌, Bool, true, false, cond, List, length, Some, None, is_some, option_and_then, Equal, sym, refl, ap, subst, ◌∙◌, inl, inr, ⊎_elim, arith, Result, Ok, Err, OnOk, OnErr, IsTrue, le_trans, nat_le}, lemmas.Bool.{false≢true, cases_lt, leb-true, or_right}}, specs.{FinMap.{get-empty, get-retain_keys}, Set.is_member}}
 use Rattle.std.specs.FinMap as fin
 use Rattle.stn_net.specs.Difference.{Difference}
 use Rattle.stn_records.{specs.{Id.{SiteCounter, id_cmp, same_ids}, Record.{IsProper, IsProperRecord}, declared.record.Record.Record, MapLaws.{get-union, either_value}, Join.passing, ContentLaws.{ids_total, ids_exact, contents_undisputed}, Content.{most_known, dispute_contents, content_taken, is_limited, IsSound, IsAmendment, AllAmend, part_of, RecordMap, Content, addition, known_count, known_in_either, is_known, is_replaced, replaced_set, joined_contents, no_content, plain, with_record, with_tombstone, with_amendment}}, proofs.{OneItem.{gone, inserted_value, inserted_here, kept_value}, Replaced.{items_back, replaced_by_withdrawal}, Proper.{empty_fits, insert_fits, union_fits, retain_fits, retained_value}, Limits.{known_within, together, record_limited, tombstone_limited, part_limited, empty_limited}}}
@@ -93,10 +93,7 @@ not_full s es ts p q few = omega (arith, known_within s, ap length p, ap length 
 
 -- where a test says that two contents don't know too much together
 pub not_too_much : (s t : Content) (b : Bool) → (IsTrue b ↔ (most_known < known_in_either s t)) → b ≡ false → known_in_either s t ≤ most_known
-not_too_much s t b tells f = elim (cases_lt most_known (known_in_either s t)) [
-  | inl many ↦ absurd (false≢true (sym f ∙ tells.1 many))
-  | inr few ↦ few
-]
+not_too_much s t b tells f = search rules
 
 -- a join that knows too much is refused
 pub too_many : (s t : Content) → dispute_contents s t ≡ None → most_known < known_in_either s t → content_taken s t ≡ None
@@ -110,7 +107,4 @@ too_many s t none many =
 
 -- and one within the limit is what a take leaves
 pub taken_is : (s t all : Content) → dispute_contents s t ≡ None → known_in_either s t ≤ most_known → all ≡ joined_contents s t → content_taken s t ≡ Some all
-taken_is s t all none few is =
-    let within : known_count (joined_contents s t) ≤ most_known = omega (arith, together s t none, few) in
-    ap (option_and_then (passing is_limited)) (contents_undisputed s t none)
-    ∙ ap (λ b. cond b (Some (joined_contents s t)) None) (le-leb (known_count (joined_contents s t)) most_known within) ∙ ap Some (sym is)
+taken_is s t all none few is = search (rules, together)

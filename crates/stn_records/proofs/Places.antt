@@ -1,5 +1,5 @@
 -- What a search for an id finds, and what an edit at that place does.
-use Rattle.std.{proofs.{Common.{◌≡◌, ◌<◌, Bool, Equal, ℕ, zero, suc, is_eq, is_ok, ⊎_elim, true, false, cond, List, [], ◌∷◌, length, get_or, Option, Some, None, Result, Ok, Err, IfOk, IfErr, filter, sym, refl, ap, subst, ◌∙◌, arith, ◌||◌, All}, lemmas.{Float.T_from_true, List.{get_or_default, Sorted.{searchable_from_sorted, list_any-IsPermutation}, Elements.{All-same, filter_agree}}, Bool.{cases_lt, or_right}}}, specs.{List.{insert, Sorted.{IsSearchInRange, IsBinarySearchResult, IsSorted, IsPermutation}}, Cmp.tied_back, Prelude.IsTrue, Option.option_or, Set.is_member, FinMap.{FinMap, is_sorted, put, entries-from_sorted, get-from_sorted, get-entries, entries-insert, same_entries_map, same_map, get-retain_keys, empty_of_len, len-entries, Entries.{is_sorted-where_key, find-where_key}}}}
+use Rattle.std.{proofs.{Common.{rules, ◌≡◌, ◌<◌, Bool, Equal, ℕ, zero, suc, is_eq, is_ok, true, false, cond, List, [], ◌∷◌, length, get_or, Option, Some, None, Result, Ok, Err, IfOk, IfErr, filter, sym, refl, ap, subst, ◌∙◌, arith, ◌||◌, All}, lemmas.{Float.T_from_true, List.{get_or_default, Sorted.{searchable_from_sorted, list_any-IsPermutation}, Elements.{All-same, filter_agree}}, Bool.{cases_lt, or_right}}}, specs.{List.{insert, Sorted.{IsSearchInRange, IsBinarySearchResult, IsSorted, IsPermutation}}, Cmp.tied_back, Prelude.IsTrue, Option.option_or, Set.is_member, FinMap.{FinMap, is_sorted, put, entries-from_sorted, get-from_sorted, get-entries, entries-insert, same_entries_map, same_map, get-retain_keys, empty_of_len, len-entries, Entries.{is_sorted-where_key, find-where_key}}}}
 use Rattle.std.specs.FinMap as fin
 use Rattle.stn_records.{specs.{Id.{SiteCounter, id_cmp}, Sorted.{IsPlaceOf, IsGapFor, merge}, Maps.{union, AgreesAt, AllFit}, MapLaws.get-union, Content.same_ids, ContentLaws.{ids_total, ids_exact}}, proofs.{OneItem.again, Gets.get_from_entries, Entries.{T_true, in_order, less_back, greater_back, neighbours_rise, find_at, find_gap, put_gap, sorted-merge, find-merge}}}
 
@@ -110,10 +110,7 @@ pub id_searched : (ids : List SiteCounter) (id : SiteCounter) → IsSorted id_cm
 id_searched ids id sorted (Ok at) in_range equal = sym (member_at ids id at in_range (equal id))
 id_searched ids id sorted (Err at) in_range parted =
     let both = parted (searchable_from_sorted ids_total (λ x. x) ids id sorted) in
-    sym (no_member ids id (λ k l. ⊎_elim
-    (λ low. ap is_eq (less_back ids_total (get_or ids k id) id (both.0 k id (omega arith) low)))
-    (λ high. ap is_eq (greater_back ids_total (get_or ids k id) id (both.1 k id high l)))
-    (cases_lt k at)))
+    search (rules, no_member, less_back, greater_back, cases_lt)
 
 -- sorted ids are the same ids, as they are read
 pub same_wanted : {X : Type 0} (es : List (SiteCounter × X)) (wanted copy sorted ids : List SiteCounter) → copy ≡ wanted → IsPermutation copy sorted → ids ≡ sorted → filter (λ e. is_member same_ids ids e.0) es ≡ filter (λ e. is_member same_ids wanted e.0) es

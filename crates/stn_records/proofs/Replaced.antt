@@ -1,5 +1,5 @@
 -- An id that is replaced is withdrawn, or some record replaces it.
-use Rattle.std.{proofs.{Common.{◌≡◌, ◌⊎◌, inl, inr, ⊎_elim, Bool, true, false, cond, ◌||◌, List, [], ◌∷◌, map, ℕ, ◌+◌, ◌<◌, get_or, drop, Option, Some, None, is_some, length, sym, refl, ap, subst, ◌∙◌, All}, lemmas.{Bool.{false≢true, or_left, or_right, or_cases, Decides.same_from_decides}, List.{drop_more, Elements.{All-head, All-tail}}, Option.same_Some}, Math.Bool.or_assoc}, specs.{Ordering.eq_by_cmp, FinMap.{get-insert, get-entries}, Set.is_member, Option.option_or}}
+use Rattle.std.{proofs.{Common.{rules, ◌≡◌, ◌⊎◌, inl, inr, ⊎_elim, Bool, true, false, cond, ◌||◌, List, [], ◌∷◌, map, ℕ, ◌+◌, ◌<◌, get_or, drop, Option, Some, None, is_some, length, sym, refl, ap, subst, ◌∙◌, All}, lemmas.{Bool.{false≢true, or_left, or_right, or_cases, Decides.same_from_decides}, List.{drop_more, Elements.{All-head, All-tail}}, Option.same_Some}, Math.Bool.or_assoc}, specs.{Ordering.eq_by_cmp, FinMap.{get-insert, get-entries}, Set.is_member, Option.option_or}}
 use Rattle.std.specs.FinMap as fin
 use Rattle.stn_records.{specs.{Id.{SiteCounter, id_cmp, same_ids}, Maps.union, MapLaws.get-union, Content.{Content, Item, IdSet, ReplacementMap, withdrawal, replacement, HasItem, dispute_contents, joined_contents, is_replaced, replaced_set, with_ids, with_tombstone, with_amendment}, ContentLaws.{ids_total, ids_exact, ids_decide, contents_join, contents_undisputed}}, proofs.{Gets.entries_from_get, Places.nothing_listed, OneItem.{gone, inserted_value, inserted_here, kept_value}}}
 use Rattle.stn_net.specs.Difference.{Difference}
@@ -102,19 +102,11 @@ or_swap false b c = refl
 
 -- to put in an id before or after others is the same
 pub put_before : (t : IdSet) (ids : List SiteCounter) (id : SiteCounter) → fin.insert (with_ids t ids) id tt ≡ with_ids (fin.insert t id tt) ids
-put_before t ids id = same_sets _ _ (λ q.
-    inserted_key (with_ids t ids) id q
-    ∙ ap (λ b. same_ids q id || b) (with_ids_member t ids q)
-    ∙ or_swap (same_ids q id) (is_member same_ids ids q) (fin.contains_key t q)
-    ∙ ap (λ b. is_member same_ids ids q || b) (sym (inserted_key t id q))
-    ∙ sym (with_ids_member (fin.insert t id tt) ids q))
+put_before t ids id = search (rules, same_sets, inserted_key, with_ids_member)
 
 -- the first entry of the rest may be put in first
 pub put_next : (all new : IdSet) (es : List (SiteCounter × SiteCounter)) (i : ℕ) (e : SiteCounter × SiteCounter) → i < length es → new ≡ fin.insert all (get_or es i e).1 tt → with_ids new (map (λ e. e.1) (drop (i + 1) es)) ≡ with_ids all (map (λ e. e.1) (drop i es))
-put_next all new es i e within is =
-    ap (λ set. with_ids set (map (λ e. e.1) (drop (i + 1) es))) is
-    ∙ sym (put_before all (map (λ e. e.1) (drop (i + 1) es)) (get_or es i e).1)
-    ∙ ap (λ (l : List (SiteCounter × SiteCounter)). with_ids all (map (λ e. e.1) l)) (sym (drop_more es i e within))
+put_next all new es i e within is = search (rules, put_before, drop_more)
 
 -- with one more id withdrawn
 pub replaced_withdrawn : (s : Content) (id : SiteCounter) → fin.insert (replaced_set s) id tt ≡ replaced_set (with_tombstone s id)
@@ -141,20 +133,18 @@ replaced_amended s id old bound agrees = same_sets _ _ (λ q. inserted_key (repl
 
 -- without entries the withdrawn ids alone are replaced
 pub replaced_of_nothing : (t : IdSet) → (let none : ReplacementMap = fin.empty in with_ids t (fin.values none) ≡ t)
-replaced_of_nothing t = ap (λ es. with_ids t (map (λ (e : SiteCounter × SiteCounter). e.1) es)) (sym (nothing_listed SiteCounter))
+replaced_of_nothing t = cc (nothing_listed SiteCounter)
 
 -- the set of replaced ids that is kept beside the three parts stays theirs
 pub kept_by_nothing : (t w : IdSet) (r : ReplacementMap) → t ≡ fin.empty → r ≡ fin.empty → w ≡ fin.empty → w ≡ with_ids t (fin.values r)
 kept_by_nothing t w r p q is = is ∙ sym (replaced_of_nothing fin.empty) ∙ (λ i. with_ids (sym p i) (fin.values (sym q i)))
 
 pub kept_by_withdrawal : (t w new more : IdSet) (r : ReplacementMap) (id : SiteCounter) → w ≡ with_ids t (fin.values r) → new ≡ fin.insert t id tt → more ≡ fin.insert w id tt → more ≡ with_ids new (fin.values r)
-kept_by_withdrawal t w new more r id kept p q = q ∙ ap (λ set. fin.insert set id tt) kept ∙ put_before t (fin.values r) id ∙ ap (λ set. with_ids set (fin.values r)) (sym p)
+kept_by_withdrawal t w new more r id kept p q = cc (put_before t (fin.values r) id)
 
 pub kept_by_amendment : (s : Content) (w more : IdSet) (new : ReplacementMap) (id old : SiteCounter) (bound : Difference) → w ≡ replaced_set s → fin.get s.replacements id ≡ None → new ≡ fin.insert s.replacements id old → more ≡ fin.insert w old tt → more ≡ with_ids s.tombstones (fin.values new)
 kept_by_amendment s w more new id old bound kept none p q =
-    q ∙ ap (λ set. fin.insert set old tt) kept
-    ∙ replaced_amended s id old bound (λ z e. absurd (false≢true (ap is_some (sym none ∙ e))))
-    ∙ ap (λ m. with_ids s.tombstones (fin.values m)) (sym p)
+    cc (replaced_amended s id old bound (λ z e. absurd (false≢true (ap is_some (sym none ∙ e)))))
 
 pub kept_by_union : (s t : Content) (w v tombstones all : IdSet) (replacements : ReplacementMap) → w ≡ replaced_set s → v ≡ replaced_set t → dispute_contents s t ≡ None → tombstones ≡ union s.tombstones t.tombstones → replacements ≡ union s.replacements t.replacements → all ≡ union w v → all ≡ with_ids tombstones (fin.values replacements)
 kept_by_union s t w v tombstones all replacements ours theirs none p q is =

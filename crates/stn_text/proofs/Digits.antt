@@ -1,5 +1,5 @@
 -- Digits read one after the other.
-use Rattle.std.{proofs.{Common.{◌≡◌, ℕ, true, false, ◌&&◌, List, length, Some, None, ap, ◌∙◌, ◌<◌, ◌^◌, decimal, arith}, lemmas.{Bool.{cond-true, cond-false, and_left, and_right, and_from, Decides.nat_tests}, Fmt.{digits_decimal, digits_value-decimal, length-decimal-le, decimal_nonempty}, Str.Parse.{IsNumeralModel, numerals_by_value, tells_all_ascii_digits}}}, specs.{Prelude.{nat_le, nat_lt}, Str.{all_ascii_digits, Parse.digits_value}}}
+use Rattle.std.{proofs.{Common.{rules, ◌≡◌, ℕ, true, false, ◌&&◌, List, length, Some, None, ◌<◌, ◌^◌, decimal, arith}, lemmas.{Bool.{cond-true, cond-false, and_left, and_right, and_from, Decides.nat_tests}, Fmt.{digits_decimal, digits_value-decimal, length-decimal-le, decimal_nonempty}, Str.Parse.{IsNumeralModel, numerals_by_value, tells_all_ascii_digits}}}, specs.{Prelude.{nat_le, nat_lt}, Str.{all_ascii_digits, Parse.digits_value}}}
 use Rattle.stn_text.specs.Numbers.{number_of}
 
 -- the two tests of digits agree
@@ -27,4 +27,4 @@ number_of-decimal n small =
     let wide : n < 2 ^ 64 = omega arith in
     let some = decimal_nonempty n wide in
     let short = length-decimal-le 5 n (omega arith) (omega arith) wide in
-    number_of-digits (decimal n) (grind (arith, nat_tests)) (digits_decimal own n wide) ∙ ap (λ m. Some m) (digits_value-decimal own n wide)
+    search (rules, number_of-digits, nat_tests, digits_decimal, own, digits_value-decimal)

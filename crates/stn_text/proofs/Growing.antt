@@ -24,5 +24,4 @@ pub lines_grown : {X : Type 0} (f : X → List ℕ) (xs : List X) (place : ℕ) 
 lines_grown f xs place x front old new within is was grown =
     grown ∙ ap (λ text. text ++ f x) was ∙ append_assoc front (flat_map f (take place xs)) (f x)
     ∙ ap (λ more. front ++ more)
-    (sym (ap (flat_map f) (take_more xs place x within ∙ ap (λ y. take place xs ++ y ∷ []) (sym is))
-    ∙ flat_map-append f (take place xs) (x ∷ []) ∙ ap (λ last. flat_map f (take place xs) ++ last) (append-nil (f x))))
+    (cc (take_more xs place x within, flat_map-append f (take place xs) (x ∷ []), append-nil (f x)))

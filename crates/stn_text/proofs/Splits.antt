@@ -1,24 +1,14 @@
 -- The first line of a text and the first word of a line.
-use Rattle.std.{proofs.{Common.{◌≡◌, ℕ, suc, ◌+◌, ◌<◌, ◌≤◌, Bool, true, false, cond, not, ltb, List, [], ◌∷◌, ◌++◌, length, take, drop, take-append-drop, Some, None, refl, sym, ap, ◌∙◌, arith, position}, lemmas.{Bool.{eqb-true, ltb-true, Decides.nat_tests}, Option.cond_some, List.{drop_more, Quantifiers.position-Some, Sums.fails_before_first, Splits.{length-slice_split, slice_split_none, slice_split-cons_yes, slice_split_first}}}, Math.Numerals.one-add}, specs.{List.{slice_split, position_or_len}, Prelude.filter}}
+use Rattle.std.{proofs.{Common.{rules, ◌≡◌, ℕ, ◌+◌, ◌<◌, Bool, true, false, List, [], ◌∷◌, ◌++◌, length, take, drop, take-append-drop, Some, None, refl, ap, arith, position}, lemmas.{Bool.eqb-true, List.{drop_more, Quantifiers.position-Some, Sums.fails_before_first, Splits.{length-slice_split, slice_split_none, slice_split-cons_yes, slice_split_first}}}}, specs.{List.slice_split, Prelude.filter}}
 use Rattle.stn_text.specs.Lines.{is_line_end, is_gap, without_empty_last, is_word, lines_of, words_of, begins_with_gap}
-
--- where a byte passes, `position` is the length of what stands before it
-pub position_found : (p : ℕ → Bool) (xs : List ℕ) (end : ℕ) → position p xs ≡ Some end → (position_or_len p xs < length xs) × (end ≡ position_or_len p xs)
-position_found p xs end e =
-    let found = cond_some (ltb (position_or_len p xs) (length xs)) (position_or_len p xs) end e in
-    (ltb-true _ _ found.0, sym found.1)
 
 -- where no byte passes, the text is one part
 pub split_whole : (p : ℕ → Bool) (xs : List ℕ) → position p xs ≡ None → slice_split p xs ≡ xs ∷ []
-split_whole p xs e =
-    let past : length xs ≤ position_or_len p xs = grind (arith, nat_tests) in
-    slice_split_none p xs (λ k d h. fails_before_first p xs k d (omega arith))
+split_whole p xs e = search (rules, slice_split_none, fails_before_first)
 
 -- the first part ends at the place where a byte passes
 split_found : (p : ℕ → Bool) (xs : List ℕ) (end : ℕ) → position p xs ≡ Some end → slice_split p xs ≡ take end xs ∷ slice_split p (drop (end + 1) xs)
-split_found p xs end e =
-    let at = position_found p xs end e in
-    rw at.1 (slice_split_first p xs 0 at.0)
+split_found p xs end e = search (rules, slice_split_first)
 
 without_empty_last-cons : (part : List ℕ) (parts : List (List ℕ)) → 0 < length parts → without_empty_last (part ∷ parts) ≡ part ∷ without_empty_last parts
 without_empty_last-cons part [] some = absurd (omega arith)
@@ -28,9 +18,7 @@ without_empty_last-cons (x ∷ xs) (first ∷ parts) some = refl
 -- a text whose first LF stands at `end`
 pub lines_of-found : (text : List ℕ) (end : ℕ) → position is_line_end text ≡ Some end → lines_of text ≡ take end text ∷ lines_of (drop (end + 1) text)
 unfolding lines_of
-lines_of-found text end e =
-    ap without_empty_last (split_found is_line_end text end e)
-    ∙ without_empty_last-cons (take end text) _ (omega (arith, length-slice_split is_line_end (drop (end + 1) text)))
+lines_of-found text end e = search (rules, split_found, without_empty_last-cons, length-slice_split)
 
 -- a text without LF is its one line
 pub lines_of-whole : (text : List ℕ) → 0 < length text → position is_line_end text ≡ None → lines_of text ≡ text ∷ lines_of []
@@ -53,10 +41,7 @@ words_of-none (x ∷ xs) none = absurd (omega arith)
 pub words_of-found : (line : List ℕ) (end : ℕ) → begins_with_gap line ≡ false → position is_gap line ≡ Some end → words_of line ≡ take end line ∷ words_of (drop (end + 1) line)
 unfolding words_of
 words_of-found [] end b e = absurd (cc)
-words_of-found (x ∷ xs) end b e =
-    let at = position_found is_gap (x ∷ xs) end e in
-    let long : end ≡ suc (position_or_len is_gap xs) = at.1 ∙ ap (λ t. cond (not t) (1 + position_or_len is_gap xs) 0) b ∙ one-add (position_or_len is_gap xs) in
-    ap (filter is_word) (split_found is_gap (x ∷ xs) end e) ∙ rw long refl
+words_of-found (x ∷ xs) end b e = search (rules, split_found)
 
 -- a line that is one word
 pub words_of-whole : (line : List ℕ) → 0 < length line → position is_gap line ≡ None → words_of line ≡ line ∷ words_of []
@@ -68,4 +53,4 @@ words_of-whole (x ∷ xs) some e = ap (filter is_word) (split_whole is_gap (x �
 pub cut_found : (text : List ℕ) (end : ℕ) → position is_line_end text ≡ Some end → text ≡ take end text ++ 10 ∷ drop (end + 1) text
 cut_found text end e =
     let at = position-Some is_line_end text end 0 e in
-    sym (take-append-drop end text) ∙ ap (λ t. take end text ++ t) (drop_more text end 0 at.0 ∙ ap (λ b. b ∷ drop (end + 1) text) (eqb-true _ _ at.1))
+    search (rules, take-append-drop, drop_more, eqb-true)

@@ -1,5 +1,5 @@
 -- The parts of a text: that they are found, and that there is one set of them at most.
-use Rattle.std.{proofs.{lemmas.{Grind.common_steps, Str.Parse.digit_from_value, Bool.{false≢true, false_from_ne_true, cond_both, ne_eqb, eqb-true, Decides.nat_tests}, Int.ints, List.{take-append-drop, length-take, Sums.{take_while-cons, prefix_len-le-length}}, Option.{cond_some, none-some, same_Some}}, Common.{◌≡◌, ℕ, ◌<◌, ◌≤◌, Bool, true, false, cond, ◌&&◌, List, [], ◌∷◌, ◌++◌, length, take, drop, ℤ, Option, Some, None, Result, Ok, Err, refl, sym, ap, ◌∙◌, subst, ◌↔◌, arith, eqb}}, specs.{Char.{is_ascii_digit, digit_value}, Int.IsInRange, Fmt.sign_text, List.prefix_len, Str.{all_ascii_digits, Parse.{AllDigits, IsNumeral, starts_with_minus}}, Option.option_map}}
+use Rattle.std.{proofs.{lemmas.{Grind.common_steps, Str.Parse.digit_from_value, Bool.{false≢true, cond_both, Decides.nat_tests}, List.{take-append-drop, Sums.{take_while-cons, prefix_len-le-length}}, Option.{none-some, same_Some}}, Common.{rules, ◌≡◌, ℕ, ◌<◌, ◌≤◌, Bool, true, false, cond, List, [], ◌∷◌, ◌++◌, length, take, drop, ℤ, Option, Some, None, Result, Ok, Err, refl, sym, ap, ◌∙◌, subst, ◌↔◌, arith, eqb}}, specs.{Char.{is_ascii_digit, digit_value}, Int.IsInRange, Fmt.sign_text, List.prefix_len, Str.{all_ascii_digits, Parse.{AllDigits, IsNumeral, starts_with_minus}}, Option.option_map}}
 use Rattle.stn_text.proofs.Digits.{own}
 use Rattle.stn_time.specs.{Text.{Parts, these_parts, point_text, HasParts, IsTimeForm, is_fine, millis_of, SpellsTime, IsTooFine, IsOutOfRange}, TimeOf.{is_numeral, fraction_of, parts_with, parts_of, time_of_found, time_of, is_within_horizon}, Time.IsWithinHorizon, declared.reading.TimeFault.{TimeFault, TheVariants.{Malformed, TooFine, OutOfRange}}}
 
@@ -8,7 +8,7 @@ pub is_ascii_digit-from_value : (c : ℕ) → digit_value c < 10 → is_ascii_di
 is_ascii_digit-from_value c h = let r : IsInRange 48 57 c = digit_from_value c h in grind (arith, nat_tests)
 
 pub digit_value-from_digit : (c : ℕ) → is_ascii_digit c ≡ true → digit_value c < 10
-digit_value-from_digit c h = grind (arith, nat_tests)
+digit_value-from_digit c h = grind arith
 
 -- the digits in front are those before the first byte that is none
 prefix_len-append : (whole tail : List ℕ) → AllDigits 10 whole → prefix_len is_ascii_digit tail ≡ 0 → prefix_len is_ascii_digit (whole ++ tail) ≡ length whole
@@ -24,11 +24,6 @@ AllDigits-front [] = tt
 AllDigits-front (c ∷ cs) = rw (take_while-cons is_ascii_digit c cs)
     (cond_both (is_ascii_digit c) _ _ (AllDigits 10) (λ digit. (digit_value-from_digit c digit, AllDigits-front cs)) (λ other. tt))
 
--- after the whole digits stands no digit
-prefix_len-point : (fraction : List ℕ) → prefix_len is_ascii_digit (point_text fraction) ≡ 0
-prefix_len-point [] = refl
-prefix_len-point (c ∷ cs) = refl
-
 -- a point and digits are the fraction that they spell
 fraction_of-point : (fraction : List ℕ) → AllDigits 10 fraction → fraction_of (point_text fraction) ≡ Some fraction
 fraction_of-point [] h = refl
@@ -42,16 +37,11 @@ point-numeral (digit ∷ digits) h = (own.to (digit ∷ digits) h, refl)
 -- a fraction that is found is spelled by a point and its digits, or by nothing
 point-fraction_of : (bytes fraction : List ℕ) → fraction_of bytes ≡ Some fraction → AllDigits 10 fraction × (bytes ≡ point_text fraction)
 point-fraction_of [] fraction e = let none : [] ≡ fraction = same_Some _ _ e in subst (λ (ds : List ℕ). AllDigits 10 ds × ([] ≡ point_text ds)) none (tt, refl)
-point-fraction_of (c ∷ cs) fraction e =
-    let found = cond_some (eqb c 46 && is_numeral cs) cs fraction e in
-    let point : c ≡ 46 = grind (arith, nat_tests, found.0) in
-    let numeral : is_numeral cs ≡ true = grind (arith, nat_tests, found.0) in
-    let shown = point-numeral cs numeral in
-    subst (λ (ds : List ℕ). AllDigits 10 ds × (c ∷ cs ≡ point_text ds)) found.1 (shown.0, ap (λ x. x ∷ cs) point ∙ shown.1)
+point-fraction_of (c ∷ cs) fraction e = search (rules, point-numeral)
 
 -- the parts of digits followed by a point and digits
 parts_with-text : (negative : Bool) (whole fraction : List ℕ) → IsNumeral 10 whole → AllDigits 10 fraction → parts_with negative (whole ++ point_text fraction) ≡ Some (these_parts negative whole fraction)
-parts_with-text negative whole fraction numeral digits = grind (arith, common_steps, prefix_len-append, prefix_len-point, fraction_of-point, ne_eqb)
+parts_with-text negative whole fraction numeral digits = grind (arith, common_steps, prefix_len-append, fraction_of-point)
 
 -- what parts that were found after the sign say of the bytes there
 record HasBytes (negative : Bool) (bytes : List ℕ) (parts : Parts) : Type 0 where
@@ -63,12 +53,7 @@ record HasBytes (negative : Bool) (bytes : List ℕ) (parts : Parts) : Type 0 wh
 bytes-found : (negative : Bool) (bytes : List ℕ) (end : ℕ) (b : Bool) (o : Option (List ℕ)) (parts : Parts) → end ≤ length bytes → AllDigits 10 (take end bytes) → eqb end 0 ≡ b → fraction_of (drop end bytes) ≡ o → cond b None (option_map (λ (fraction : List ℕ). these_parts negative (take end bytes) fraction) o) ≡ Some parts → HasBytes negative bytes parts
 bytes-found negative bytes end true o parts within digits none found e = absurd (none-some _ e)
 bytes-found negative bytes end false None parts within digits some found e = absurd (none-some _ e)
-bytes-found negative bytes end false (Some fraction) parts within digits some found e =
-    let shown = point-fraction_of (drop end bytes) fraction found in
-    let nonzero : 0 < end = grind (arith, nat_tests) in
-    let numeral : 0 < length (take end bytes) = rw (length-take end bytes) (omega arith) in
-    let whole : bytes ≡ take end bytes ++ point_text fraction = sym (take-append-drop end bytes) ∙ ap (λ ds. take end bytes ++ ds) shown.1 in
-    subst (λ (p : Parts). HasBytes negative bytes p) (same_Some _ _ e) (record { sign = refl; whole = (numeral, digits); fraction = shown.0; bytes_are = whole })
+bytes-found negative bytes end false (Some fraction) parts within digits some found e = search (rules, point-fraction_of, take-append-drop)
 
 -- parts that are found have the text
 bytes-parts_with : (negative : Bool) (bytes : List ℕ) (parts : Parts) → parts_with negative bytes ≡ Some parts → HasBytes negative bytes parts
@@ -86,16 +71,8 @@ parts_of-signed false (c ∷ cs) fraction numeral digits =
 pub parts_of-form : (text : List ℕ) (parts : Parts) → HasParts text parts → parts_of text ≡ Some parts
 parts_of-form text parts form = ap parts_of form.spelling ∙ parts_of-signed parts.negative parts.whole parts.fraction form.whole form.fraction
 
-minus-text : (text : List ℕ) → starts_with_minus text ≡ true → text ≡ 45 ∷ drop 1 text
-minus-text [] h = absurd (false≢true h)
-minus-text (c ∷ cs) h = ap (λ x. x ∷ cs) (eqb-true c 45 h)
-
 form-signed : (text : List ℕ) (b : Bool) (parts : Parts) → starts_with_minus text ≡ b → HasBytes b (cond b (drop 1 text) text) parts → HasParts text parts
-form-signed text true parts minus h = record {
-  whole = h.whole;
-  fraction = h.fraction;
-  spelling = rw h.sign (minus-text text minus ∙ ap (λ bytes. 45 ∷ bytes) h.bytes_are);
-}
+form-signed text true parts minus h = search rules
 form-signed text false parts minus h = record { whole = h.whole; fraction = h.fraction; spelling = rw h.sign h.bytes_are }
 
 -- a text in which parts are found has the form, with these parts
@@ -111,10 +88,10 @@ pub same_millis : (text : List ℕ) (m n : ℤ) → SpellsTime text m → Spells
 same_millis text m n a b = a.number ∙ (ap millis_of (same_parts text a.parts b.parts a.form b.form) ∙ sym b.number)
 
 within-is : (t : ℤ) → is_within_horizon t ≡ true → IsWithinHorizon t
-within-is t h = grind (arith, ints)
+within-is t h = grind arith
 
 is-within : (t : ℤ) → IsWithinHorizon t → is_within_horizon t ≡ true
-is-within t h = grind (arith, ints)
+is-within t h = grind arith
 
 -- the meaning of each answer
 abbrev pub Means : List ℕ → Result ℤ TimeFault → Type 0
@@ -147,7 +124,7 @@ time_of-means text = means-found text (parts_of text) refl
 
 -- each meaning has its answer
 pub time_of-spells : (text : List ℕ) (t : ℤ) → SpellsTime text t → IsWithinHorizon t → time_of text ≡ Ok t
-time_of-spells text t h w = grind (arith, common_steps, parts_of-form, is-within, time_of-found)
+time_of-spells text t h w = grind (arith, parts_of-form, time_of-found)
 
 pub time_of-malformed : (text : List ℕ) → ¬ IsTimeForm text → time_of text ≡ Err Malformed
 time_of-malformed text h = time_of-found text _ refl ∙ malformed-found text (parts_of text) refl h
@@ -157,10 +134,10 @@ time_of-malformed text h = time_of-found text _ refl ∙ malformed-found text (p
     malformed-found text (Some parts) e h = absurd (h (parts, form-parts_of text parts e))
 
 pub time_of-too_fine : (text : List ℕ) → IsTooFine text → time_of text ≡ Err TooFine
-time_of-too_fine text h = grind (arith, common_steps, parts_of-form, time_of-found)
+time_of-too_fine text h = grind (arith, parts_of-form, time_of-found)
 
 pub time_of-out_of_range : (text : List ℕ) → IsOutOfRange text → time_of text ≡ Err OutOfRange
-time_of-out_of_range text h = grind (arith, common_steps, parts_of-form, false_from_ne_true, within-is, time_of-found)
+time_of-out_of_range text h = grind (arith, parts_of-form, time_of-found)
 
 -- what the clauses of `read` say of an answer that is the definition's
 pub read-time : (text : List ℕ) (answer : Result ℤ TimeFault) → answer ≡ time_of text → (t : ℤ) → (answer ≡ Ok t) ↔ (SpellsTime text t × IsWithinHorizon t)

@@ -1,10 +1,10 @@
 -- The printed form of a number of milliseconds spells that number.
-use Rattle.std.{proofs.{lemmas.{Grind.common_steps, List.{length-map, append_assoc}, Bool.{eqb-true, cond_both, Decides.nat_tests}, Fmt.{decimal_digit, decimal-digits_of}, Int.Digits.{digits_value_is, all_below_base_digits_of, length-digits_of_step, number_digits_of}}, Common.{◌≡◌, ℕ, ◌+◌, ◌*◌, ◌/◌, ◌%◌, ◌^◌, ◌<◌, false, cond, List, [], ◌∷◌, ◌++◌, map, length, ℤ, pos, negsuc, neg_ℤ, Ok, refl, sym, ap, ◌∙◌, arith, ltb, Result, Err, is_ok, OnOk, codes}}, specs.{Prelude.unsigned_abs, Char.digit_value, Int.{is_negative, Digits.{AllBelowBase, digits_of, number_from_digits}}, Fmt.{decimal, sign_text}, Str.Parse.{AllDigits, IsNumeral, digits_value}}}
+use Rattle.std.{proofs.{lemmas.{Grind.common_steps, List.{length-map, append_assoc}, Bool.Decides.nat_tests, Fmt.{decimal_digit, decimal-digits_of}, Int.Digits.{digits_value_is, all_below_base_digits_of, length-digits_of_step, number_digits_of}}, Common.{◌≡◌, ℕ, ◌+◌, ◌*◌, ◌/◌, ◌%◌, ◌^◌, ◌<◌, false, cond, List, [], ◌∷◌, ◌++◌, map, ℤ, pos, negsuc, neg_ℤ, Ok, refl, sym, ap, ◌∙◌, arith, ltb, Result, Err, is_ok, OnOk, codes}}, specs.{Prelude.unsigned_abs, Char.digit_value, Int.{is_negative, Digits.AllBelowBase}, Fmt.{decimal, sign_text}, Str.Parse.{AllDigits, IsNumeral, digits_value}}}
 use Rattle.stn_time.{specs.{Text.{whole_text, three_digits, printed, these_parts, SpellsTime, thousandths_of}, TimeOf.time_of, Time.IsWithinHorizon}, proofs.Forms.time_of-spells}
 
 -- the value of a digit's byte
 digit_value-byte : (d : ℕ) → d < 10 → digit_value (48 + d) ≡ d
-digit_value-byte d h = grind (arith, nat_tests)
+digit_value-byte d h = grind arith
 
 bytes-digits : (ds : List ℕ) → AllBelowBase 10 ds → AllDigits 10 (map (λ digit. 48 + digit) ds)
 bytes-digits [] h = tt
@@ -14,21 +14,14 @@ values-bytes : (ds : List ℕ) → AllBelowBase 10 ds → map digit_value (map (
 values-bytes [] h = refl
 values-bytes (d ∷ ds) h = rw (digit_value-byte d h.0) (ap (λ rest. d ∷ rest) (values-bytes ds h.1))
 
-whole-positive : (n : ℕ) → 0 < n → IsNumeral 10 (map (λ digit. 48 + digit) (digits_of 10 n)) × (digits_value 10 (map (λ digit. 48 + digit) (digits_of 10 n)) ≡ n)
-whole-positive n h =
-    let ds = digits_of 10 n in
-    let below = all_below_base_digits_of 10 n (omega arith) in
-    let step = length-digits_of_step 10 n (omega arith) h in
-    let some : 0 < length (map (λ digit. 48 + digit) ds) = simp length-map (omega arith) in
-    ((some, bytes-digits ds below), digits_value_is 10 (map (λ digit. 48 + digit) ds) ∙ (ap (number_from_digits 10) (values-bytes ds below) ∙ number_digits_of 10 n (omega arith)))
-
 -- the whole seconds are a numeral of their number
 pub whole_text-value : (n : ℕ) → IsNumeral 10 (whole_text n) × (digits_value 10 (whole_text n) ≡ n)
-whole_text-value n = grind (arith, common_steps, cond_both, eqb-true, whole-positive)
+whole_text-value n =
+    grind (arith, common_steps, all_below_base_digits_of, length-digits_of_step, length-map, bytes-digits, digits_value_is, values-bytes, number_digits_of)
 
 -- three digits are digits, and their value is the number
 pub three_digits-value : (n : ℕ) → n < 1000 → AllDigits 10 (three_digits n) × (thousandths_of (three_digits n) ≡ n)
-three_digits-value n h = grind (arith, common_steps, digit_value-byte)
+three_digits-value n h = grind (arith, digit_value-byte)
 
 -- a sign and a size are the number
 signed-size : (millis : ℤ) → millis ≡ cond (is_negative millis) (neg_ℤ (pos (unsigned_abs millis))) (pos (unsigned_abs millis))
@@ -56,10 +49,10 @@ time_of-printed millis within = time_of-spells (printed millis) millis (spells-p
 
 -- the whole seconds as the formatter of integers writes them
 pub decimal-whole_text : (n : ℕ) → n < 2 ^ 64 → decimal n ≡ whole_text n
-decimal-whole_text n small = grind (arith, common_steps, cond_both, eqb-true, decimal_digit, decimal-digits_of)
+decimal-whole_text n small = grind (arith, decimal_digit, decimal-digits_of)
 
 -- three pieces appended one after another are the printed form
 pub appends-printed : {E : Type 0} (r : Result (Unit {0}) E) (millis : ℤ) (old sign whole rest one two three : List ℕ) → sign ≡ sign_text (is_negative millis) → whole ≡ decimal (unsigned_abs millis / 1000) → unsigned_abs millis / 1000 < 2 ^ 64 → rest ≡ codes "." ++ three_digits (unsigned_abs millis % 1000) → one ≡ old ++ sign → two ≡ one ++ whole → three ≡ cond (is_ok r) (two ++ rest) two → OnOk r (three ≡ old ++ printed millis)
 unfolding printed
-appends-printed (Ok _) millis old sign whole rest one two three e f small g h i j = grind (arith, common_steps, decimal-whole_text, append_assoc)
+appends-printed (Ok _) millis old sign whole rest one two three e f small g h i j = grind (arith, decimal-whole_text, append_assoc)
 appends-printed (Err _) millis old sign whole rest one two three e f small g h i j = tt

@@ -1,18 +1,11 @@
 -- The numbers that digits write, as the code adds them up.
-use Rattle.std.{proofs.{lemmas.{Grind.common_steps, Str.Parse.digit_at, Int.{ints, Digits.digits_value_more}, Bool.Decides.nat_tests}, Common.{◌≡◌, ℕ, suc, ◌+◌, ◌-◌, ◌*◌, ◌<◌, min, Bool, true, false, cond, ◌&&◌, List, [], ◌∷◌, length, get_or, take, ℤ, pos, neg_ℤ, refl, arith, eqb}}, specs.{Char.{is_ascii_digit, digit_value}, Int.IsInRange, List.prefix_len, Str.{all_ascii_digits, Parse.{AllDigits, digits_value}}}}
+use Rattle.std.{proofs.{lemmas.Int.ints, Common.{◌≡◌, ℕ, suc, ◌+◌, ◌-◌, ◌*◌, ◌<◌, min, Bool, true, false, cond, ◌&&◌, List, [], ◌∷◌, length, ℤ, pos, neg_ℤ, refl, arith, eqb}}, specs.{Char.is_ascii_digit, List.prefix_len, Str.all_ascii_digits}}
 use Rattle.stn_time.specs.{Near.IsNear, TimeOf.is_numeral, declared.reading.TheConstants.BEYOND}
-
-pub digit_value-range : (c : ℕ) → IsInRange 48 57 c → digit_value c ≡ c - 48
-digit_value-range c h = grind (arith, nat_tests)
-
--- a sum that saturates on the way is the saturated sum
-pub seconds-more : (ds : List ℕ) (i s : ℕ) → AllDigits 10 ds → i < length ds → s ≡ min BEYOND (digits_value 10 (take i ds)) → min (10 * s + (get_or ds i 0 - 48)) BEYOND ≡ min BEYOND (digits_value 10 (take (i + 1) ds))
-seconds-more ds i s digits within e = grind (arith, common_steps, digits_value_more, digit_value-range, digit_at)
 
 -- the digits reach to the end exactly where there is nothing else
 all-step : (p n : ℕ) (b rest : Bool) → eqb p n ≡ rest → eqb (cond b (1 + p) 0) (suc n) ≡ (b && rest)
-all-step p n true rest e = grind (arith, nat_tests)
-all-step p n false rest e = grind (arith, nat_tests)
+all-step p n true rest e = grind arith
+all-step p n false rest e = grind arith
 
 pub all_ascii_digits-prefix : (bytes : List ℕ) → eqb (prefix_len is_ascii_digit bytes) (length bytes) ≡ all_ascii_digits bytes
 all_ascii_digits-prefix [] = refl

@@ -1,5 +1,5 @@
 -- What the text of a plan gives: its steps, or the first fault with its cause.
-use Rattle.std.{proofs.{Common.{◌≡◌, ◌<◌, ℕ, ℤ, pos, negsuc, ◌≤ℤ◌, Bool, true, false, cond, nat_lt, ◌≤◌, ◌||◌, length, List, [], ◌∷◌, ◌++◌, Option, Some, None, IfSome, Result, Ok, Err, IsOk, refl, ap, rules}, lemmas.{Bool.{or_parts, ltb-true, ltb-false, le-ltb, lt-ltb}, List.Elements.{All-nil, All-cons, All-append}, Result.{MatchResult-at_ok, MatchResult-at_err, MatchResult-weaker}}}, specs.{Int.is_negative, List.All, Option.{option_to_list, option_map_or}, Result.MatchResult}}
+use Rattle.std.{proofs.{Common.{◌≡◌, ◌<◌, ℕ, ℤ, pos, negsuc, ◌≤ℤ◌, Bool, true, false, cond, nat_lt, ◌≤◌, ◌||◌, length, List, [], ◌∷◌, ◌++◌, Option, Some, None, IfSome, Result, Ok, Err, IsOk, refl, ap, rules}, lemmas.{Bool.{or_parts, ltb-true, ltb-false}, List.Elements.{All-nil, All-cons, All-append}, Result.{MatchResult-at_ok, MatchResult-at_err, MatchResult-weaker}}}, specs.{Int.is_negative, List.All, Option.{option_to_list, option_map_or}, Result.MatchResult}}
 use Rattle.stn_time.specs.{declared.reading.TimeFault.TimeFault, TimeOf.time_of}
 use Rattle.stn_text.{specs.Faults.{◌>>=◌, Fails}, proofs.Readings.both_give}
 use Rattle.stn_lift.specs.{declared.plan.{bytes.Mark.TheVariants.{Colon, Open, Close, OpenSquare, CloseSquare}, fault.PlanFault.{PlanFault, TheVariants.{TooLong, Negative, TooManySteps, Memory}}}, Plan.{Tokens.{Lexeme, Word, Sign, tokens_of}, Lines.lines_of, Faults.{NamesLine, IsFirstLineFault, IsPlanCause}, Steps.{PlannedStep, Form, IsTimely, IsPlan, args_of, duration_form, form_of, or_number, time_at, duration_of, step_at, timed_step, step_of, line_step, most_text, most_steps, steps_of, limited, plan_of, is_plan_memory}}}
@@ -121,18 +121,12 @@ module _ (text : List ℕ) where
   -- a text that is short enough, and whose lines give few enough steps, gives these
   pub plan_of-Ok : (steps : List PlannedStep) → length text ≤ most_text → length steps ≤ most_steps → steps_of (lines_of text) ≡ Ok steps → plan_of text ≡ Ok steps
   unfolding plan_of limited
-  plan_of-Ok steps short few found =
-      let fits : nat_lt most_text (length text) ≡ false = le-ltb most_text (length text) short in
-      let limits : nat_lt most_steps (length steps) ≡ false = le-ltb most_steps (length steps) few in
-      rw (fits, found, limits) refl
+  plan_of-Ok steps short few found = search rules
 
   -- one that gives more steps is refused
   pub plan_of-many : (steps : List PlannedStep) → length text ≤ most_text → most_steps < length steps → steps_of (lines_of text) ≡ Ok steps → plan_of text ≡ Err TooManySteps
   unfolding plan_of limited
-  plan_of-many steps short many found =
-      let fits : nat_lt most_text (length text) ≡ false = le-ltb most_text (length text) short in
-      let limits : nat_lt most_steps (length steps) ≡ true = lt-ltb most_steps (length steps) many in
-      rw (fits, found, limits) refl
+  plan_of-many steps short many found = search rules
 
   cause_in_line : (fault : PlanFault) → length text ≤ most_text → IsFirstLineFault (lines_of text) fault → IsPlanCause text fault
   cause_in_line TooLong short first = absurd first.its_number

@@ -1,5 +1,5 @@
 -- The tokens of what is left of a line.
-use Rattle.std.{proofs.Common.{◌≡◌, ℕ, suc, ◌+◌, Bool, true, false, List, [], ◌∷◌, take, drop, refl, ap, arith}, specs.List.prefix_len}
+use Rattle.std.{proofs.Common.{rules, ◌≡◌, ℕ, suc, ◌+◌, Bool, true, false, List, [], ◌∷◌, take, drop, refl, ap, arith}, specs.List.prefix_len}
 use Rattle.stn_lift.specs.{declared.plan.bytes.Kind.Kind, Plan.{Bytes.kind_of, Tokens.{Word, is_word_letter, is_word_byte, begins_word, tokens_with_letter, tokens_with_byte, tokens_of}}}
 use Rattle.stn_lift.specs.declared.plan.bytes.Kind.TheVariants as kind
 
@@ -33,10 +33,8 @@ unfolding begins_word
 tokens_of-step true b c bytes e f more =
     let count : 1 + prefix_len is_word_byte bytes ≡ suc (prefix_len is_word_byte bytes) = omega arith in
     let word : begins_word (c ∷ bytes) ≡ true = f in
-    rw (tokens_of-letter b (c ∷ bytes) e, word, more refl, count) refl
-tokens_of-step false b c bytes e f more =
-    let word : begins_word (c ∷ bytes) ≡ false = f in
-    rw (tokens_of-letter b (c ∷ bytes) e, word) refl
+    search (rules, tokens_of-letter)
+tokens_of-step false b c bytes e f more = search (rules, tokens_of-letter)
 
 -- the letters at the front are one word
 tokens_of-run : (b : ℕ) (bytes : List ℕ) → is_word_byte b ≡ true
@@ -48,6 +46,4 @@ tokens_of-run b (c ∷ bytes) e = tokens_of-step (is_word_byte c) b c bytes e re
 -- the word that a byte of a word begins, and the tokens after it
 pub tokens_of-letters : (rest : List ℕ) (b : ℕ) (bytes : List ℕ) → rest ≡ b ∷ bytes → is_word_byte b ≡ true
     → tokens_of rest ≡ Word (take (prefix_len is_word_byte rest) rest) ∷ tokens_of (drop (prefix_len is_word_byte rest) rest)
-tokens_of-letters rest b bytes r e =
-    let count : prefix_len is_word_byte (b ∷ bytes) ≡ suc (prefix_len is_word_byte bytes) = rw e (omega arith) in
-    rw (r, count) (tokens_of-run b bytes e)
+tokens_of-letters rest b bytes r e = search (rules, tokens_of-run)

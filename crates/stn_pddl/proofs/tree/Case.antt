@@ -1,35 +1,21 @@
 -- A text in small letters has the tree of the text, with its words in small letters.
-use Rattle.std.{proofs.{Common.{◌≡◌, ℕ, ◌+◌, ◌<◌, ◌≤◌, Bool, true, false, cond, eqb, leb, nat_lt, List, [], ◌∷◌, length, map, Result, Ok, Err, refl, sym, ap, ◌∙◌, arith}, lemmas.{Bool.{cond_both, ltb-true, ltb-false, Decides.nat_tests}, List.length-map}}, specs.Char.to_ascii_lowercase}
+use Rattle.std.{proofs.{Common.{rules, ◌≡◌, ℕ, ◌+◌, ◌<◌, ◌≤◌, Bool, true, false, cond, eqb, nat_lt, List, [], ◌∷◌, length, map, Result, Ok, Err, refl, sym, ap, ◌∙◌, arith}, lemmas.List.length-map}, specs.Char.to_ascii_lowercase}
 use Rattle.stn_text.specs.Faults.{◌>>=◌}
 use Rattle.stn_pddl.specs.{declared.tree.{bytes.Kind.{Kind, TheVariants.{Blank, Open, Close, Letter, Stray}}, scan.{TreeFault.{TreeFault, TheVariants.TooLong}, Place.{Place, TheVariants.Before}}}, Tree.{Bytes.{kind_of, kind_in, comment_after, line_after}, Names.folded, Scan.{most_text, place_after, scanned, tree_of}, Case.{in_small, tree_in_small}, Trees.{Trees, End, Word, Group, Rows, before_byte, is_letter, begins_word, rows_from}}}
 
 -- the small letter for a byte, and what a byte is: no capital letter, or one
 pub small_by : (P : ℕ → Type 0) (b : ℕ) → P b → (65 ≤ b → b ≤ 90 → P (b + 32)) → P (to_ascii_lowercase b)
-small_by P b same capital = cond_both (nat_lt b 65) b _ P (λ low. same) (λ high. cond_both (nat_lt b 91) (b + 32) b P
-    (λ small. let above = ltb-false b 65 high in let below = ltb-true b 91 small in capital (omega arith) (omega arith))
-    (λ past. same))
+small_by P b same capital = search rules
 
 letter : (b : ℕ) → 65 ≤ b → b ≤ 122 → kind_of b ≡ Letter
 unfolding kind_of
-letter b low high =
-    let above : leb 9 b ≡ true = grind (arith, nat_tests) in
-    let no_space : leb b 13 ≡ false = grind (arith, nat_tests) in
-    let no_blank : eqb b 32 ≡ false = grind (arith, nat_tests) in
-    let no_comment : eqb b 59 ≡ false = grind (arith, nat_tests) in
-    let no_open : eqb b 40 ≡ false = grind (arith, nat_tests) in
-    let no_close : eqb b 41 ≡ false = grind (arith, nat_tests) in
-    let visible : leb 33 b ≡ true = grind (arith, nat_tests) in
-    let printing : leb b 126 ≡ true = grind (arith, nat_tests) in
-    rw (above, no_space, no_blank, no_comment, no_open, no_close, visible, printing) refl
+letter b low high = search rules
 
 same_kind : (b : ℕ) → kind_of (to_ascii_lowercase b) ≡ kind_of b
 same_kind b = small_by (λ n. kind_of n ≡ kind_of b) b refl (λ low high. letter (b + 32) (omega arith) (omega arith) ∙ sym (letter b low (omega arith)))
 
 pub same_test : (b n : ℕ) → n < 65 → eqb (to_ascii_lowercase b) n ≡ eqb b n
-same_test b n small = small_by (λ m. eqb m n ≡ eqb b n) b refl (λ low high.
-    let first : eqb (b + 32) n ≡ false = grind (arith, nat_tests) in
-    let second : eqb b n ≡ false = grind (arith, nat_tests) in
-    first ∙ sym second)
+same_test b n small = search rules
 
 same_kind_in : (comment : Bool) (b : ℕ) → kind_in comment (to_ascii_lowercase b) ≡ kind_in comment b
 same_kind_in true b = refl

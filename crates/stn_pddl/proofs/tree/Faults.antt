@@ -1,5 +1,5 @@
 -- The faults of a text, and what a text without one is.
-use Rattle.std.{proofs.{Common.{◌≡◌, ℕ, ◌+◌, ◌-◌, ◌<◌, ◌≤◌, Bool, true, false, cond, nat_lt, List, [], ◌∷◌, length, Result, Ok, Err, refl, ap, subst, arith}, lemmas.{Bool.{ltb-true, Decides.nat_tests}, Result.{MatchResult-at_err, MatchResult-weaker}}}, specs.Result.MatchResult}
+use Rattle.std.{proofs.{Common.{◌≡◌, ℕ, ◌+◌, ◌-◌, ◌<◌, ◌≤◌, Bool, true, false, cond, nat_lt, List, [], ◌∷◌, length, Result, Ok, Err, refl, ap, subst, arith}, lemmas.{Bool.ltb-true, Result.{MatchResult-at_err, MatchResult-weaker}}}, specs.Result.MatchResult}
 use Rattle.stn_pddl.{specs.{declared.tree.{bytes.Kind.{Kind, TheVariants.{Blank, Open, Close, Letter}}, scan.{TreeFault.{TreeFault, TheVariants.{TooLong, TooDeep}}, Place.{Place, TheVariants.{Before, Inside, After}}}}, Tree.{Bytes.{kind_in, comment_after, line_after}, Trees.{Trees, rows_from}, Scan.{most_text, place_after, scanned, tree_of, IsOneList}, FirstFault.IsOnLine}}, proofs.tree.Scanned.one-list}
 use Rattle.stn_text.{specs.Faults.{◌>>=◌}, proofs.Readings.{bind_ok, both_give, either_gives}}
 
@@ -46,7 +46,7 @@ module _ (text : List ℕ) where
 
   -- a text that is short enough has the faults of its bytes
   short_test : length text ≤ most_text → nat_lt most_text (length text) ≡ false
-  short_test short = grind (arith, nat_tests)
+  short_test short = grind arith
 
   pub tree_of-scanned : (fault : TreeFault) → length text ≤ most_text → scanned false 1 Before text ≡ Err fault → tree_of text ≡ Err fault
   unfolding tree_of

@@ -1,5 +1,5 @@
 -- The first fault of a text lies at the first byte after which no text can go on, or at its end.
-use Rattle.std.proofs.{Common.{◌≡◌, ℕ, zero, suc, ◌+◌, ◌-◌, ◌≤◌, Bool, true, false, cond, nat_lt, List, [], ◌∷◌, ◌++◌, length, fold, Result, Ok, Err, IsOk, refl, sym, ap, ◌∙◌, arith}, lemmas.Bool.Decides.nat_tests}
+use Rattle.std.proofs.{Common.{rules, ◌≡◌, ℕ, zero, suc, ◌+◌, ◌-◌, ◌≤◌, Bool, true, false, cond, nat_lt, List, [], ◌∷◌, ◌++◌, length, fold, Result, Ok, Err, IsOk, refl, sym, ap, ◌∙◌, arith}, lemmas.Bool.Decides.nat_tests}
 use Rattle.stn_pddl.{specs.{declared.tree.{scan.{TreeFault.{TreeFault, TheVariants.Syntax}, Place.{Place, TheVariants.{Before, Inside, After}}}}, Tree.{Bytes.{kind_of, kind_in, comment_after, line_after}, Scan.{most_text, place_after, ends_at, scanned, tree_of}, FirstFault.{IsOnLine, IsFirstFault, at_byte, at_end}}}, proofs.tree.{Scanned.{scanned-next, scanned-fault}, Faults.{place_after-line, tree_of-refused, tree_of-scanned}}}
 use Rattle.stn_text.specs.Faults.{◌>>=◌}
 
@@ -52,11 +52,7 @@ data IsFirstFrom (comment : Bool) (line : ℕ) (place : Place) (text : List ℕ)
 -- what comes after a byte without a fault
 module _ (comment : Bool) (line b : ℕ) (place next : Place) (is : place_after (kind_in comment b) line place ≡ Ok next) (bytes : List ℕ) (fault : TreeFault) where
   further : IsFirstFrom (comment_after comment b) (line_after line b) next bytes fault → IsFirstFrom comment line place (b ∷ bytes) fault
-  further (byte_from front byte rest whole found) = byte_from (b ∷ front) byte rest (ap (λ l. b ∷ l) whole) (record {
-    before = (found.before.0, rw (scanned-next comment line b place next (front ++ found.before.0) is) found.before.1);
-    its_line = found.its_line;
-    always = λ more. scanned-next comment line b place next (front ++ byte ∷ more) is ∙ found.always more;
-  })
+  further (byte_from front byte rest whole found) = byte_from (b ∷ front) byte rest (ap (λ l. b ∷ l) whole) (search (rules, scanned-next))
   further (end_from ends same) = end_from (ends.0, rw (scanned-next comment line b place next (bytes ++ ends.0) is) ends.1) same
 
 first_from : (comment : Bool) (line : ℕ) (place : Place) (text : List ℕ) (fault : TreeFault) → scanned comment line place text ≡ Err fault

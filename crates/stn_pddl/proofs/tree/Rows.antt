@@ -1,5 +1,5 @@
 -- The rows before a byte of each kind.
-use Rattle.std.proofs.{lemmas.{Grind.common_steps, List.{drop_all, drop_more}, Bool.Decides.nat_tests}, Common.{◌≡◌, ◌≢◌, ℕ, suc, ◌+◌, ◌<◌, ◌≤◌, Bool, true, false, cond, eqb, List, [], ◌∷◌, length, get_or, take, drop, refl, sym, ◌∙◌, ap, arith, add-one, drop-cons, ◌⊎◌, inl, inr}}
+use Rattle.std.proofs.{lemmas.{List.{drop_all, drop_more}, Bool.Decides.nat_tests}, Common.{◌≡◌, ◌≢◌, ℕ, suc, ◌+◌, ◌<◌, ◌≤◌, Bool, true, false, cond, eqb, List, [], ◌∷◌, length, get_or, take, drop, refl, sym, ◌∙◌, ap, arith, add-one, drop-cons, ◌⊎◌, inl, inr}}
 use Rattle.stn_pddl.specs.{declared.tree.bytes.Kind.{Kind, TheVariants.{Blank, Open, Close, Letter, Stray}}, Tree.{Bytes.{kind_of, kind_in, comment_after, line_after}, Trees.{Word, Group, End, Rows, behind_row, before_open, before_close, before_letter, is_letter, begins_word, word_len, rows_from}}}
 
 -- no line feed and no semicolon is a token
@@ -24,16 +24,16 @@ module _ (line b : ℕ) (bytes : List ℕ) where
   pub rows-open : (comment : Bool) → kind_in comment b ≡ Open → rows_from comment line (b ∷ bytes) ≡ before_open line (rows_from false line bytes)
   unfolding rows_from
   rows-open true is = cc
-  rows-open false is = grind (arith, common_steps, comment_after-token, line_after-token)
+  rows-open false is = grind (arith, comment_after-token, line_after-token)
 
   pub rows-close : (comment : Bool) → kind_in comment b ≡ Close → rows_from comment line (b ∷ bytes) ≡ before_close (rows_from false line bytes)
   unfolding rows_from
   rows-close true is = cc
-  rows-close false is = grind (arith, common_steps, comment_after-token, line_after-token)
+  rows-close false is = grind (arith, comment_after-token, line_after-token)
 
   pub rows-letter : kind_of b ≡ Letter → rows_from false line (b ∷ bytes) ≡ before_letter line b (begins_word bytes) (rows_from false line bytes)
   unfolding rows_from
-  rows-letter is = grind (arith, common_steps, comment_after-token, line_after-token)
+  rows-letter is = grind (arith, comment_after-token, line_after-token)
 
   pub rows-blank : (comment : Bool) → kind_in comment b ≡ Blank → rows_from comment line (b ∷ bytes) ≡ rows_from (comment_after comment b) (line_after line b) bytes
   unfolding rows_from
@@ -84,7 +84,7 @@ word-on line b bytes false is goes_on = rw (word_len-none bytes is) refl
 
 pub rows-word : (line : ℕ) (bytes : List ℕ) → begins_word bytes ≡ true → rows_from false line bytes ≡ before_word line (take (word_len bytes) bytes) (rows_from false line (drop (word_len bytes) bytes))
 rows-word line [] begins = absurd (begins-none begins)
-rows-word line (b ∷ bytes) begins = grind (arith, common_steps, begins-letter, word_len-letter, rows-letter, word-on, (rows-word line bytes))
+rows-word line (b ∷ bytes) begins = grind (arith, begins-letter, word_len-letter, rows-letter, word-on, (rows-word line bytes))
 
 pub word_len-positive : (bytes : List ℕ) → begins_word bytes ≡ true → 0 < word_len bytes
 word_len-positive [] begins = absurd (begins-none begins)
@@ -98,7 +98,7 @@ split-word line n bytes word rest begins len front back = rw (rows-word line byt
 module _ (line i : ℕ) (bytes rest : List ℕ) (rows : Rows) (comment : Bool) (within : i < length bytes) (left : rest ≡ drop (i + 1) bytes) (same : rows_from comment line (drop i bytes) ≡ rows) where
   -- the same, with the byte at i in front
   here : rows ≡ rows_from comment line (get_or bytes i 0 ∷ rest)
-  here = sym same ∙ ap (rows_from comment line) (drop_more bytes i 0 within ∙ ap (λ bs. get_or bytes i 0 ∷ bs) (sym left))
+  here = cc (drop_more bytes i 0 within)
 
   pub opened : kind_in comment (get_or bytes i 0) ≡ Open
       → (rows.row ≡ Group line (rows_from false line rest).row (behind_row (rows_from false line rest)).row) × (behind_row (behind_row (rows_from false line rest)) ≡ behind_row rows)

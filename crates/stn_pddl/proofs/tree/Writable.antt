@@ -1,5 +1,5 @@
 -- Each tree of a text can be written.
-use Rattle.std.proofs.{Common.{◌≡◌, ℕ, suc, ◌+◌, ◌-◌, ◌<◌, ◌≤◌, Bool, true, false, cond, ◌==◌, nat_lt, List, [], ◌∷◌, Result, Ok, Err, refl, ap, subst, ◌∙◌, arith}, lemmas.Bool.{ltb-true, ltb-false}}
+use Rattle.std.proofs.{Common.{rules, ◌≡◌, ℕ, suc, ◌+◌, ◌-◌, ◌<◌, ◌≤◌, Bool, true, false, cond, ◌==◌, nat_lt, List, [], ◌∷◌, Result, Ok, Err, refl, ap, subst, ◌∙◌, arith}, lemmas.Bool.{ltb-true, ltb-false}}
 use Rattle.stn_text.specs.Faults.{◌>>=◌}
 use Rattle.stn_pddl.{specs.{declared.tree.{bytes.Kind.{Kind, TheVariants.{Blank, Open, Close, Letter, Stray}}, scan.{TreeFault.{TreeFault, TheVariants.{Syntax, TooDeep}}, Place.{Place, TheVariants.{Before, Inside, After}}}}, Tree.{Bytes.{kind_of, kind_in, comment_after, line_after}, Scan.{place_after, scanned, tree_of}, Written.{end_line, IsWord, IsWritable}, Trees.{Trees, End, Word, Group, Rows, before_byte, begins_word, word_len, rows_from}}}, proofs.tree.{Rows.{letter-outside, letter-begins, word_len-letter}, Faults.tree_of-rows}}
 
@@ -131,6 +131,4 @@ rows-writable (b ∷ bytes) comment line place end is =
 
 pub tree_of-writable : (text : List ℕ) (row : Trees) → tree_of text ≡ Ok row → IsWritable 32 1 row
 unfolding AreWritable depth_of
-tree_of-writable text row is =
-    let found = tree_of-rows text row is in
-    subst (IsWritable 32 1) found.2 (rows-writable text false 1 Before found.0 found.1).0
+tree_of-writable text row is = search (rules, tree_of-rows, rows-writable)

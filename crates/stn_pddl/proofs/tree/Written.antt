@@ -1,7 +1,7 @@
 -- A row of trees that is written reads as that row.
 use Rattle.std.proofs.{lemmas.{Grind.common_steps, Bool.Decides.nat_tests}, Common.{◌≡◌, ◌≢◌, ℕ, zero, suc, ◌+◌, ◌-◌, ◌<◌, ◌≤◌, Bool, true, false, cond, nat_lt, List, [], ◌∷◌, ◌++◌, length, replicate, Result, Ok, Err, refl, ap, ◌∙◌, append_assoc, arith}}
 use Rattle.stn_text.specs.Bytes.{line_feed}
-use Rattle.stn_pddl.{specs.{declared.tree.{bytes.Kind.{Kind, TheVariants.{Blank, Letter}}, scan.{TreeFault.{TreeFault, TheVariants.TooDeep}, Place.{Place, TheVariants.{Before, Inside, After}}}}, Tree.{Bytes.{kind_of, comment_after, line_after}, Scan.{most_text, place_after, scanned, tree_of}, Written.{end_line, written, IsWord, IsWritable}, Trees.{Trees, End, Word, Group, Rows, before_open, is_letter, begins_word, word_len, rows_from}}}, proofs.tree.{Rows.{comment_after-token, line_after-token, rows-open, rows-close, rows-blank, before_word, rows-word}, Scanned.scanned-next, Faults.tree_of-Ok}}
+use Rattle.stn_pddl.{specs.{declared.tree.{bytes.Kind.{Kind, TheVariants.{Blank, Letter}}, scan.{TreeFault.{TreeFault, TheVariants.TooDeep}, Place.{Place, TheVariants.{Before, Inside, After}}}}, Tree.{Bytes.{kind_of, comment_after, line_after}, Scan.{most_text, place_after, scanned, tree_of}, Written.{end_line, written, IsWritable}, Trees.{Trees, End, Word, Group, Rows, before_open, is_letter, begins_word, word_len, rows_from}}}, proofs.tree.{Rows.{comment_after-token, line_after-token, rows-open, rows-close, rows-blank, rows-word}, Scanned.scanned-next, Faults.tree_of-Ok}}
 
 -- a row, and one around
 abbrev with_row : Trees → Rows → Rows
@@ -17,8 +17,7 @@ next_line at count = omega arith
 rows-feeds : (count at : ℕ) (bytes : List ℕ) → rows_from false at (feeds count ++ bytes) ≡ rows_from false (at + count) bytes
 unfolding feeds comment_after line_after kind_of
 rows-feeds zero at bytes = ap (λ line. rows_from false line bytes) (let same : at ≡ at + 0 = omega arith in same)
-rows-feeds (suc count) at bytes =
-    rows-blank at 10 (feeds count ++ bytes) false refl ∙ rows-feeds count (at + 1) bytes ∙ ap (λ line. rows_from false line bytes) (next_line at count)
+rows-feeds (suc count) at bytes = cc (rows-blank at 10 (feeds count ++ bytes) false refl, rows-feeds count (at + 1) bytes, next_line at count)
 
 scanned-feeds : (count at : ℕ) (place : Place) (bytes : List ℕ) → scanned false at place (feeds count ++ bytes) ≡ scanned false (at + count) place bytes
 unfolding feeds comment_after line_after kind_of place_after
@@ -56,9 +55,6 @@ unfolding begins_word
 begins-space [] bytes is = cc
 begins-space (b ∷ word) bytes is = is
 
-rows-written_word : (line : ℕ) (word bytes : List ℕ) → IsWord word → rows_from false line (word ++ 32 ∷ bytes) ≡ before_word line word (rows_from false line bytes)
-rows-written_word line word bytes is = grind (arith, common_steps, word_len-space, rows-word, begins-space, before_word, rows-space)
-
 letter-inside : (line b depth : ℕ) → kind_of b ≡ Letter → place_after (kind_of b) line (Inside depth) ≡ Ok (Inside depth)
 unfolding place_after
 letter-inside line b depth letter = rw letter refl
@@ -68,18 +64,14 @@ scanned-letters line depth [] bytes is = refl
 scanned-letters line depth (b ∷ word) bytes is =
     let both = letter-of b word is in
     let token : kind_of b ≢ Blank = λ e. let letter = both.0 in cc in
-    scanned-next false line b (Inside depth) (Inside depth) (word ++ bytes) (letter-inside line b depth both.0)
-    ∙ ap (λ comment. scanned comment (line_after line b) (Inside depth) (word ++ bytes)) (comment_after-token b token)
-    ∙ ap (λ at. scanned false at (Inside depth) (word ++ bytes)) (line_after-token line b token)
-    ∙ scanned-letters line depth word bytes both.1
+    cc (scanned-next false line b (Inside depth) (Inside depth) (word ++ bytes) (letter-inside line b depth both.0), comment_after-token b token, line_after-token line b token, scanned-letters line depth word bytes both.1)
 
 -- how a tree is written before what comes after it
 word-then : (feed word next tail : List ℕ) → (feed ++ (word ++ 32 ∷ next)) ++ tail ≡ feed ++ (word ++ 32 ∷ (next ++ tail))
 word-then feed word next tail = append_assoc feed (word ++ 32 ∷ next) tail ∙ ap (λ l. feed ++ l) (append_assoc word (32 ∷ next) tail)
 
 group-then : (feed children next tail : List ℕ) → (feed ++ (40 ∷ (children ++ (41 ∷ next)))) ++ tail ≡ feed ++ (40 ∷ (children ++ (41 ∷ (next ++ tail))))
-group-then feed children next tail =
-    append_assoc feed (40 ∷ (children ++ (41 ∷ next))) tail ∙ ap (λ l. feed ++ (40 ∷ l)) (append_assoc children (41 ∷ next) tail)
+group-then feed children next tail = simp append_assoc
 
 -- the line that is reached by line feeds
 reached : (at line : ℕ) → at ≤ line → at + (line - at) ≡ line
@@ -94,16 +86,13 @@ pub rows-written : (depth at : ℕ) (row : Trees) (tail : List ℕ) → IsWritab
     → rows_from false at (written at row ++ 41 ∷ tail) ≡ with_row row (rows_from false (end_line at row) tail)
 unfolding written end_line IsWritable kind_of feeds
 rows-written depth at End tail is = rows-close at 41 tail false refl
-rows-written depth at (Word line word next) tail is = grind (arith, common_steps, word-then, feeds, rows-feeds, reached, rows-written_word, before_word, (rows-written depth line next tail is.2))
+rows-written depth at (Word line word next) tail is =
+    grind (arith, common_steps, word-then, rows-feeds, (rows-written depth line next tail is.2), word_len-space, rows-word, begins-space, rows-space)
 rows-written depth at (Group line children next) tail is =
     let last = end_line line children in
     let behind : List ℕ = written last next ++ 41 ∷ tail in
     let inside : List ℕ = written line children ++ 41 ∷ behind in
-    ap (rows_from false at) (group-then (feeds (line - at)) (written line children) (written last next) (41 ∷ tail))
-    ∙ rows-feeds (line - at) at (40 ∷ inside)
-    ∙ ap (λ n. rows_from false n (40 ∷ inside)) (reached at line is.0)
-    ∙ rows-group line inside
-    ∙ ap (before_open line) (rows-written (depth - 1) line children behind is.2 ∙ ap (with_row children) (rows-written depth last next tail is.3))
+    cc (group-then (feeds (line - at)) (written line children) (written last next) (41 ∷ tail), rows-feeds (line - at) at (40 ∷ inside), reached at line is.0, rows-group line inside, rows-written (depth - 1) line children behind is.2, rows-written depth last next tail is.3)
 
 -- a bracket opens, or closes
 opened : (line depth : ℕ) (bytes : List ℕ) → depth < 32 → scanned false line (Inside depth) (40 ∷ bytes) ≡ scanned false line (Inside (depth + 1)) bytes
@@ -127,17 +116,11 @@ scanned-written : (room depth at : ℕ) (row : Trees) (tail : List ℕ) → IsWr
 unfolding written end_line IsWritable feeds
 scanned-written room depth at End tail is some few = refl
 scanned-written room depth at (Word line word next) tail is some few =
-    ap (scanned false at (Inside depth)) (word-then (feeds (line - at)) word (written line next) tail)
-    ∙ scanned-feeds (line - at) at (Inside depth) (word ++ 32 ∷ (written line next ++ tail))
-    ∙ ap (λ n. scanned false n (Inside depth) (word ++ 32 ∷ (written line next ++ tail))) (reached at line is.0)
-    ∙ scanned-letters line depth word (32 ∷ (written line next ++ tail)) is.1.1
-    ∙ scanned-space line (Inside depth) (written line next ++ tail)
-    ∙ scanned-written room depth line next tail is.2 some few
+    cc (word-then (feeds (line - at)) word (written line next) tail, scanned-feeds (line - at) at (Inside depth) (word ++ 32 ∷ (written line next ++ tail)), reached at line is.0, scanned-letters line depth word (32 ∷ (written line next ++ tail)) is.1.1, scanned-space line (Inside depth) (written line next ++ tail), scanned-written room depth line next tail is.2 some few)
 scanned-written room depth at (Group line children next) tail is some few =
     let last = end_line line children in
     let behind : List ℕ = written last next ++ tail in
     let inside : List ℕ = written line children ++ 41 ∷ behind in
-    let positive : 0 < room = is.1 in
     ap (scanned false at (Inside depth)) (group-then (feeds (line - at)) (written line children) (written last next) tail)
     ∙ scanned-feeds (line - at) at (Inside depth) (40 ∷ inside)
     ∙ ap (λ n. scanned false n (Inside depth) (40 ∷ inside)) (reached at line is.0)

@@ -1,15 +1,11 @@
 use Rattle.std.proofs.{Common.{◌≡◌, ◌≤◌, ◌∙◌, length, map, Ok, sym, ap, arith, rules}, lemmas.{List.length-map, Result.err_from_is_err_and}}
-use Rattle.stn_text.specs.Faults.{Fails}
 use Rattle.stn_net.specs.Event.{most_steps}
 use Rattle.stn_pddl.specs.{Tree.Scan.most_text, Domains.domain_of}
-use Rattle.stn_lift.{specs.{Plan.Steps.plan_of, Activities.{activities, is_lift_memory}, PlanSource.{files, IsBase}, Timelines.{IsWholeTimeline, numbered_bounds}, Views.numbers_of}, proofs.{LiftedBase.{few_found, is_whole, base_lifted}, Steps.cause_of, Texts.texts_lifted, base.lift.{Given.Over, Goals.{In_ok-timeline, In_ok-from_slice-2}}}}
+use Rattle.stn_lift.{specs.{Plan.Steps.plan_of, Activities.activities, PlanSource.{files, IsBase}, Timelines.{IsWholeTimeline, numbered_bounds}, Views.numbers_of}, proofs.{LiftedBase.{few_found, is_whole, base_lifted}, Steps.cause_of, Texts.texts_lifted, base.lift.{Given.Over, Goals.{In_ok-timeline, In_ok-from_slice-2}}}}
 use Rattle.stn_lift.proofs.base.lift.Goals as goal
 
 pub returns-in_err-timeline-clause-cause : goal.returns-in_err-timeline-clause-cause
-returns-in_err-timeline-clause-cause g c =
-    let returned = err_from_is_err_and c.from_residual.result c.from_residual.ensures.1 in
-    let fails : Fails is_lift_memory c.in_err-timeline.field-0.0 (activities c.args.domain.now.actions 0 c.args.plan.now.steps) = rw (← c.steps.ensures.steps) c.in_err-timeline.ensures.fault in
-    rw (returned.1, returned.2) (cause_of c.args.domain.now.actions c.args.plan.now.steps c.in_err-timeline.field-0.0 fails)
+returns-in_err-timeline-clause-cause g c = search (rules, err_from_is_err_and, cause_of)
 
 -- the steps that were found, and how few they are
 found : (g : Over) (c : In_ok-timeline g)
@@ -19,7 +15,7 @@ found g c =
     let actions = c.args.domain.now.actions in
     let planned = c.args.plan.now.steps in
     let is : activities actions 0 planned ≡ Ok made.0 = rw c.steps.ensures.steps at made.1 in
-    (is, few_found actions planned made.0 is (rw (← c.steps.ensures.steps, length-map) c.steps.ensures.few))
+    search (rules, few_found, length-map)
 
 whole : (g : Over) (c : In_ok-timeline g)
     → IsWholeTimeline c.in_ok-timeline.timeline.durations.items c.in_ok-timeline.timeline.times.items (map numbers_of c.in_ok-timeline.timeline.footprints.items)
@@ -31,7 +27,7 @@ pub bounds-requires : goal.bounds-requires
 bounds-requires g c = whole g (goal.at.bounds-requires g c).In_ok-timeline
 
 pub overflow_cast-result : goal.overflow_cast-result
-overflow_cast-result g c = omega (arith, c.len.ensures, (whole g (goal.at.overflow_cast-result g c).In_ok-timeline).few)
+overflow_cast-result g c = omega (arith, (whole g (goal.at.overflow_cast-result g c).In_ok-timeline).few)
 
 -- they make a base of the two texts
 based : (g : Over) (c : In_ok-from_slice-2 g)
@@ -46,10 +42,10 @@ based g c =
     let planned = c.args.plan.now.steps in
     let (is, small) = found g (goal.at.In_ok-from_slice-2 g c).In_ok-timeline in
     let domain_is : domain_of domain ≡ Ok actions = rw c.in_ok-from_slice.ensures.items c.text.ensures.given in
-    let plan_is : plan_of plan ≡ Ok planned = rw (c.in_ok-from_slice-2.ensures.items, c.text-2.ensures.text) c.steps.ensures.given in
+    let plan_is : plan_of plan ≡ Ok planned = search rules in
     let short_domain : length domain ≤ most_text = rw c.in_ok-from_slice.ensures.items c.text.ensures.short in
-    let short_plan : length plan ≤ most_text = rw c.in_ok-from_slice-2.ensures.items c.text-2.ensures.short in
-    base_lifted made.0 timeline.durations.items timeline.times.items (map numbers_of timeline.footprints.items) made.2 domain plan actions planned domain_is plan_is is small short_domain short_plan
+    let short_plan : length plan ≤ most_text = search rules in
+    search (rules, base_lifted)
 
 pub invariant_of-result : goal.invariant_of-result
 invariant_of-result g c =

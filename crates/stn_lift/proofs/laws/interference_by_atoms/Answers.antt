@@ -1,12 +1,11 @@
-use Rattle.std.proofs.{Common.Decides, lemmas.Bool.Decides.Decides-or}
-use Rattle.stn_lift.{specs.Footprints.{Footprint, GroundAtom, is_same_atom, share, touches, DoesTouch}, proofs.Sharing.{share-Decides, is_same_atom-Decides}}
+use Rattle.std.proofs.{Common.{rules, Decides}, lemmas.Bool.Decides.Decides-or}
+use Rattle.stn_lift.{specs.Footprints.{Footprint, GroundAtom, is_same_atom, touches, DoesTouch}, proofs.Sharing.{share-Decides, is_same_atom-Decides}}
 use Rattle.stn_lift.proofs.laws.interference_by_atoms.Goals as goal
 
 touches-Decides : (one other : Footprint GroundAtom) → Decides (touches is_same_atom one other) (DoesTouch one other)
 touches-Decides one other =
     let shares = share-Decides is_same_atom is_same_atom-Decides in
-    Decides-or (share is_same_atom one.needs other.adds) _ (shares one.needs other.adds)
-    (Decides-or (share is_same_atom one.needs other.deletes) (share is_same_atom one.adds other.deletes) (shares one.needs other.deletes) (shares one.adds other.deletes))
+    search rules
 
 pub returns : goal.returns
 returns c = λ one other.

@@ -1,4 +1,4 @@
-use Rattle.std.proofs.{Common.{◌≡◌, ℕ, List, ◌+◌, ◌-◌, arith, sym, inl, inr, refl, take, drop, length}, lemmas.List.{take_all, length-drop}}
+use Rattle.std.proofs.{Common.{rules, ◌≡◌, ℕ, List, ◌+◌, ◌-◌, arith, sym, inl, inr, refl, take, drop, length}, lemmas.List.{take_all, length-drop}}
 use Rattle.stn_text.proofs.Splits.{cut_found, lines_of-found, lines_of-whole}
 use Rattle.stn_text.proofs.lines.first_line.Goals as goal
 
@@ -18,8 +18,7 @@ returns-in-Some-clause-bytes c =
     inl (rw (behind c.args.text.now (c.in-Some.end + 1)) (cut_found c.args.text.now c.in-Some.end (sym c.in-Some.ensures)))
 
 pub returns-in-Some-clause-shorter : goal.returns-in-Some-clause-shorter
-returns-in-Some-clause-shorter c =
-    rw (behind c.args.text.now (c.in-Some.end + 1)) (omega (arith, length-drop (c.in-Some.end + 1) c.args.text.now))
+returns-in-Some-clause-shorter c = search rules
 
 pub returns-in-None-clause-bytes : goal.returns-in-None-clause-bytes
 returns-in-None-clause-bytes c = inr (refl, refl)

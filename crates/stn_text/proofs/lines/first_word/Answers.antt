@@ -1,4 +1,4 @@
-use Rattle.std.proofs.{Common.{arith, sym, ◌∙◌}, lemmas.Grind.common_steps}
+use Rattle.std.proofs.{Common.{rules, arith, sym, ◌∙◌}, lemmas.Grind.common_steps}
 use Rattle.stn_text.proofs.Splits.{words_of-none, words_of-found, words_of-whole}
 use Rattle.stn_text.proofs.lines.first_word.Goals as goal
 
@@ -7,9 +7,7 @@ returns-then-is_empty-clause-words c =
     sym c.without_gaps-rest.ensures.words ∙ words_of-none c.without_gaps-rest.result.now (grind (arith, common_steps))
 
 pub returns-in-Some-clause-words : goal.returns-in-Some-clause-words
-returns-in-Some-clause-words c =
-    let found = words_of-found c.without_gaps-rest.result.now c.in-Some.end c.without_gaps-rest.ensures.begins (sym c.in-Some.ensures) in
-    sym c.without_gaps-rest.ensures.words ∙ grind (arith, common_steps, found)
+returns-in-Some-clause-words c = search (rules, words_of-found, common_steps)
 
 pub returns-in-None-clause-words : goal.returns-in-None-clause-words
 returns-in-None-clause-words c =

@@ -1,6 +1,10 @@
-use Rattle.std.proofs.{Common.{◌≡◌, ◌<◌, ◌++◌, ◌∷◌, map, length, take, get_or, sym, ap, subst, ◌∙◌, []}, lemmas.List.{get_or-map, length-map}}
+use Rattle.std.proofs.Common.{append_assoc}
+use Rattle.std.proofs.lemmas.List.{map-append}
+use Rattle.std.proofs.lemmas.List.{take_more}
+use Rattle.std.proofs.lemmas.Grind.{common_steps}
+use Rattle.std.proofs.{Common.{rules, ◌≡◌, ◌<◌, ◌++◌, ◌∷◌, map, length, take, get_or, sym, subst, []}, lemmas.List.{get_or-map, length-map}}
 use Rattle.stn_pddl.specs.{Sound.IsSoundAtom, Views.{atom_schema, atoms_schema}}
-use Rattle.stn_lift.{specs.{Plan.Views.word_of, Footprints.ground, Numbering.AreNumbersOf}, proofs.NumberLists.{kept_along, numbers_kept, numbers_push, grounded_more, all_said}}
+use Rattle.stn_lift.{specs.{Plan.Views.word_of, Footprints.ground, Numbering.AreNumbersOf}, proofs.NumberLists.{kept_along, numbers_kept, numbers_push, all_said}}
 use Rattle.stn_lift.proofs.atoms.Atoms.append_numbers.Goals as goal
 
 pub number_atom-requires : goal.number_atom-requires
@@ -18,11 +22,11 @@ loop-atom-preserved g c =
     let new = c.number_atom.new.self in
     let items = c.loop-atom.numbers.items in
     let mapped : place < length atoms = rw length-map c.loop-atom-test.true in
-    let here : atom ≡ get_or atoms place atom = ap atom_schema c.atom-item.is ∙ sym (get_or-map atom_schema c.args.atoms.now place c.atom-item.result atom c.loop-atom-test.true) in
+    let here : atom ≡ get_or atoms place atom = search (rules, get_or-map) in
     record {
       kept = kept_along c.args.self.now old new c.loop-atom.invariant.kept c.in_ok-number.ensures.kept;
       numbers = λ before are. rw c.in_ok-push.ensures.items
-          (subst (AreNumbersOf new (items ++ c.in_ok-number.number ∷ [])) (grounded_more args before atoms place atom mapped here)
+          (subst (AreNumbersOf new (items ++ c.in_ok-number.number ∷ [])) (search (rules, common_steps, take_more, map-append, append_assoc))
           (numbers_push new items (before ++ map (ground args) (take place atoms)) c.in_ok-number.number (ground args atom)
           (numbers_kept old new c.in_ok-number.ensures.kept items (before ++ map (ground args) (take place atoms)) (c.loop-atom.invariant.numbers before are)) c.in_ok-number.ensures.number));
     }

@@ -1,4 +1,4 @@
-use Rattle.std.proofs.{Common.{map, sym, subst, []}, lemmas.List.map-append}
+use Rattle.std.proofs.{Common.{rules, map, sym, subst, []}, lemmas.List.map-append}
 use Rattle.stn_pddl.specs.Views.{atoms_schema}
 use Rattle.stn_lift.{specs.{Plan.Views.word_of, Footprints.ground, Numbering.AreNumbersOf}, proofs.NumberLists.{kept_along, numbers_none, numbers_moved}}
 use Rattle.stn_lift.proofs.atoms.Atoms.numbers.Goals as goal
@@ -9,7 +9,7 @@ returns-clause-numbers g c =
     let none = subst (λ ns. AreNumbersOf c.args.self.now ns []) (sym c.new-numbers.ensures.items) (numbers_none c.args.self.now) in
     let first = c.in_ok-append_numbers.ensures.numbers [] none in
     let all = c.in_ok-append_numbers-2.ensures.numbers (map (ground args) (atoms_schema c.args.atoms.now)) first in
-    rw map-append (numbers_moved c.append_numbers-2.new.self c.append_numbers-2.new.numbers.items c.sorted.result _ c.sorted.ensures all)
+    search (rules, map-append, numbers_moved)
 
 pub returns-clause-kept : goal.returns-clause-kept
 returns-clause-kept g c =

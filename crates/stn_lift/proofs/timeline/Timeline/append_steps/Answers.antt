@@ -1,4 +1,4 @@
-use Rattle.std.proofs.{Common.{◌≡◌, ◌+◌, ◌<◌, ◌≤◌, ◌++◌, ◌∷◌, ◌∙◌, map, length, get_or, drop, sym, ap, []}, lemmas.{List.{get_or-map, length-map, drop_all}, Result.err_from_is_err_and}}
+use Rattle.std.proofs.{Common.{rules, ◌≡◌, ◌+◌, ◌<◌, ◌≤◌, ◌++◌, ◌∷◌, ◌∙◌, map, length, get_or, drop, ap, []}, lemmas.{List.{get_or-map, length-map, drop_all}, Result.err_from_is_err_and}}
 use Rattle.stn_pddl.specs.Views.{action_schema}
 use Rattle.stn_lift.{specs.{Plan.Views.planned_step, Activities.{activity, activities}}, proofs.TimelineFacts.{behind, behind_all, fails_at, found_at, all_lifted}}
 use Rattle.stn_lift.proofs.timeline.Timeline.append_steps.Goals as goal
@@ -9,14 +9,9 @@ returns-in_err-action g c =
     let step = planned_step c.step-item.result in
     let place = c.loop-step.step-index in
     let mapped : place < length all = rw length-map c.loop-step-test.true in
-    let here : step ≡ get_or all place step = ap planned_step c.step-item.is ∙ sym (get_or-map planned_step c.args.steps.now place c.step-item.result step c.loop-step-test.true) in
+    let here : step ≡ get_or all place step = search (rules, get_or-map) in
     let returned = err_from_is_err_and c.from_residual.result c.from_residual.ensures.1 in
-    record {
-      made = rw returned.1 tt;
-      fault = rw (returned.1, returned.2)
-          (fails_at c.args.domain.now.actions all place c.loop-step.invariant.found step mapped here c.loop-step.invariant.whole (c.loop-step.number + 1) c.in_err-action.field-0.0
-          (ap (λ n. n + 1) c.loop-step.invariant.number) c.in_err-action.ensures.given);
-    }
+    search (rules, fails_at)
 
 pub loop-step-preserved : goal.loop-step-preserved
 loop-step-preserved g c =
@@ -25,7 +20,7 @@ loop-step-preserved g c =
     let place = c.loop-step.step-index in
     let one = activity step (action_schema c.in_ok-action.action.now) in
     let mapped : place < length all = rw length-map c.loop-step-test.true in
-    let here : step ≡ get_or all place step = ap planned_step c.step-item.is ∙ sym (get_or-map planned_step c.args.steps.now place c.step-item.result step c.loop-step-test.true) in
+    let here : step ≡ get_or all place step = search (rules, get_or-map) in
     record {
       number = ap (λ n. n + 1) c.loop-step.invariant.number;
       found = c.loop-step.invariant.found ++ one ∷ [];

@@ -5,7 +5,7 @@ use Rattle.stn_records.proofs.records.Records.add.Goals as goal
 
 -- the record is new
 none : (g : _) (c : goal.In_ok-add-in-None g) → fin.get c.args.self.now.additions c.args.id ≡ None
-none g c = ap (λ (s : Content). fin.get s.additions c.args.id) (sym c.self.view_is) ∙ ap (λ m. fin.get m c.args.id) (sym c.additions.ensures) ∙ sym c.get.ensures ∙ c.in-None.is
+none g c = cc
 
 pub invariant_of-self-in-None : goal.invariant_of-self-in-None
 invariant_of-self-in-None g c =

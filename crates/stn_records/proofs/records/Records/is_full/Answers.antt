@@ -10,5 +10,4 @@ returns-else-added-replaced-ge-MOST_KNOWN-clause-full g c =
 
 -- the ids are counted
 pub returns-then-added-replaced-ge-MOST_KNOWN-clause-full : goal.returns-then-added-replaced-ge-MOST_KNOWN-clause-full
-returns-then-added-replaced-ge-MOST_KNOWN-clause-full g c =
-    ((λ many. let all = leb-true most_known c.known.result many in omega (arith, c.known.ensures.count, c.known.ensures.most)), (λ full. le-leb most_known c.known.result (omega (arith, c.known.ensures.count, full))))
+returns-then-added-replaced-ge-MOST_KNOWN-clause-full g c = omega (arith, leb-true, le-leb)

@@ -24,4 +24,4 @@ pub overflow_add-result : goal.overflow_add-result
 overflow_add-result g c =
     let a = ap length (c.entries-added.ensures.value ∙ ap (λ (s : Content). fin.entries s.additions) c.self.view_is) in
     let b = ap length (c.entries-replaced.ensures.value ∙ ap fin.entries (c.self.invariant ∙ ap replaced_set c.self.view_is)) in
-    omega (arith, known_within c.args.self.now, a, b, c.known.ensures, c.newly_known.ensures.most, c.newly_known-2.ensures.most, c.entries-added.type_inv.1, c.entries-replaced.type_inv.1)
+    omega (arith, known_within)

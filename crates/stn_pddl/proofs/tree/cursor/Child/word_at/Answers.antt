@@ -1,4 +1,4 @@
-use Rattle.std.proofs.Common.{◌<◌, arith}
+use Rattle.std.proofs.Common.{arith}
 use Rattle.stn_pddl.{specs.Tree.{Trees.word_len, Cursors.{rows_at, left_at}}, proofs.tree.Rows.{split-word, word_len-positive}}
 use Rattle.stn_pddl.proofs.tree.cursor.Child.word_at.Goals as goal
 
@@ -9,6 +9,4 @@ returns-clause-first c =
 
 pub returns-clause-shorter : goal.returns-clause-shorter
 unfolding left_at
-returns-clause-shorter c =
-    let some : 0 < word_len c.args.bytes.now = word_len-positive c.args.bytes.now c.requires.letter in
-    omega (arith, c.word_len.ensures.len, c.split_at.ensures.back_len)
+returns-clause-shorter c = omega (arith, word_len-positive)

@@ -1,4 +1,4 @@
-use Rattle.std.proofs.{Common.{◌∙◌, ◌+◌, get_or, arith, refl, sym}, lemmas.List.take_rest}
+use Rattle.std.proofs.{Common.{rules, ◌∙◌, ◌+◌, arith, sym}, lemmas.List.take_rest}
 use Rattle.stn_pddl.{specs.Tree.Cursors.rows_at, proofs.tree.Rows.{opened, closed, passed, begins-at, line_after-most, at-end}}
 use Rattle.stn_pddl.proofs.tree.cursor.Cursor.next_child.Goals as goal
 
@@ -19,11 +19,7 @@ word_at-requires-clause-letter c =
     begins-at c.loop-index.index _ _ c.loop-index.comment c.loop-index-test.true (take_rest c.args.self.rest.now c.loop-index.index) (sym c.kind_in.ensures ∙ c.in-Letter.is)
 
 pub loop-index-preserved : goal.loop-index-preserved
-loop-index-preserved c = record {
-  in_range = omega (arith, line_after-most c.loop-index.line (get_or c.args.self.rest.now c.loop-index.index 0));
-  same_rows = rw (c.comment_after-comment.ensures, c.line_after-line.ensures)
-      (passed _ c.loop-index.index _ _ _ c.loop-index.comment c.loop-index-test.true refl c.loop-index.invariant.same_rows _ c.kind_in.ensures c.in-Blank.is);
-}
+loop-index-preserved c = search (rules, line_after-most, passed)
 
 pub returns-clause-first : goal.returns-clause-first
 unfolding rows_at
