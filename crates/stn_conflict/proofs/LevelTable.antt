@@ -64,12 +64,6 @@ abbrev raise : Option ℕ → ℤ
 raise None = pos 1
 raise (Some k) = pos 0
 
-raise_none : (o : Option ℕ) → o ≡ None → raise o ≡ pos 1
-raise_none o e = ap raise e
-
-raise_some : (o : Option ℕ) (k : ℕ) → o ≡ Some k → raise o ≡ pos 0
-raise_some o k e = ap raise e
-
 -- the tightest differences from the start, one more at each event without a level
 abbrev raised : List ℤ → (ℕ → Option ℕ) → ℕ → ℤ
 raised far levels x = times_of far x +ℤ raise (levels x)
@@ -90,14 +84,14 @@ raised_kept bounds start levels closed link m n there near far =
     let reaches = link_reaches bounds start link m n there near far in
     elim (some_or_none (levels (arc_of bounds link).to)) [
       | inr (k, e) ↦ elim (some_or_none (levels (arc_of bounds link).from)) [
-        | inl f ↦ omega (arith, ints, raise_some _ k e, raise_none _ f)
-        | inr (i, f) ↦ omega (arith, ints, raise_some _ k e, raise_some _ i f)
+        | inl f ↦ omega (arith, ints, ap raise e, ap raise f)
+        | inr (i, f) ↦ omega (arith, ints, ap raise e, ap raise f)
       ]
       | inl e ↦ elim (some_or_none (levels (arc_of bounds link).from)) [
-        | inl f ↦ omega (arith, ints, raise_none _ e, raise_none _ f)
+        | inl f ↦ omega (arith, ints, ap raise e, ap raise f)
         | inr (i, f) ↦
             let loose : ¬ IsTight bounds start link = λ tight. let (k, k_at, k_le) = closed.on link tight i f in cc in
-            omega (arith, ints, raise_none _ e, raise_some _ i f, room_of_link bounds start link m n there near far loose)
+            omega (arith, ints, ap raise e, ap raise f, room_of_link bounds start link m n there near far loose)
       ]
     ]
 
@@ -128,5 +122,5 @@ level_of_event bounds far start levels exact closed x x_within =
           let most = exact.tightest x x_within in
           let self = tightest_self bounds start _ (exact.tightest start exact.start_named) in
           let passed = most.bound _ (raised_schedule bounds far start levels exact closed) in
-          absurd (omega (arith, ints, raise_none _ none, raise_some _ 0 closed.zero_at_start))
+          absurd (omega (arith, ints, ap raise none, ap raise closed.zero_at_start))
     ]

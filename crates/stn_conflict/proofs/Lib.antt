@@ -12,6 +12,7 @@ pub mod Known
 pub mod Relaxing
 pub mod Lowering
 pub mod Sweeps
+pub mod Trying
 pub mod Searches
 pub mod Found
 pub mod Turned

@@ -1,5 +1,5 @@
 -- How links lower estimates.
-use Rattle.std.{proofs.{Common.{◌≡◌, ◌≢◌, inl, inr, ℕ, ◌+◌, ◌-◌, ◌<◌, Bool, true, false, List, length, set, refl, sym, ap, ◌∙◌, arith}, lemmas.{Int.ints, Bool.{cases_eq, false≢true}, List.{get_or-set_same, get_or-set_other, length-set}}}, specs.Prelude.{ℤ, pos, ◌+ℤ◌, ◌≤ℤ◌, ◌<ℤ◌, All}}
+use Rattle.std.{proofs.{Common.{◌≡◌, ◌≢◌, inl, inr, ℕ, ◌+◌, ◌-◌, ◌<◌, Bool, true, false, List, length, set, refl, sym, ap, ◌∙◌, arith}, lemmas.{Int.{ints, by_lt_z}, Bool.{cases_eq, false≢true}, List.{get_or-set_same, get_or-set_other, length-set}}}, specs.Prelude.{ℤ, pos, ◌+ℤ◌, ◌≤ℤ◌, ◌<ℤ◌}}
 use Rattle.stn_net.specs.{Difference.Difference, Schedule.times_of}
 use Rattle.stn_conflict.specs.{declared.links.Link.Link, Arcs.arc_of, Relaxation.{AreRelaxed, Freshens, HasFallen, IsFloor, IsListed, IsRelaxed, IsRelaxedBut, Lowers, is_fresh}}
 
@@ -37,12 +37,15 @@ module _ (bounds : List Difference) (start : ℕ) (old mid new : List ℤ) (firs
         other.others x other_same (one.others x one_same stale);
   }
 
-  -- what fell before or after fell in all
-  pub fallen_on : (event : ℕ) → HasFallen old mid event → HasFallen old new event
-  fallen_on event fell = record { there = omega (arith, fell.there, next.long); less = (let a = fell.less in let b = next.fall event in omega (arith, ints)) }
-
-  pub fallen_since : (event : ℕ) → HasFallen mid new event → HasFallen old new event
-  fallen_since event fell = record { there = fell.there; less = (let a = fell.less in let b = first.fall event in omega (arith, ints)) }
+-- an estimate that is fresh only if it fell fell
+pub fallen_fresh : (bounds : List Difference) (start : ℕ) (old new : List ℤ) (fresh : List Bool) (x : ℕ) → Lowers bounds start old new → x < length new
+    → (times_of new x ≡ times_of old x → is_fresh fresh x ≡ false) → is_fresh fresh x ≡ true → HasFallen old new x
+fallen_fresh bounds start old new fresh x lowers there stale is = record {
+  there = there;
+  less = by_lt_z (times_of new x) (times_of old x) (λ less. less) (λ most.
+      let fall = lowers.fall x in
+      absurd (false≢true (sym (stale (omega (arith, ints))) ∙ is)));
+}
 
 -- a link that was relaxed is so still, if the estimate of the event at which it begins did not fall
 pub still_relaxed : (bounds : List Difference) (start : ℕ) (link : Link) (old : List ℤ) (old_fresh : List Bool) (new : List ℤ) (new_fresh : List Bool)

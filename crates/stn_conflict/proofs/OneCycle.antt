@@ -12,12 +12,8 @@ pub rank_tells : (one other : Link) → rank one ≡ rank other → one ≡ othe
 rank_tells one other e = tells one.side other.side refl refl
   where
     tells : (s t : Side) → one.side ≡ s → other.side ≡ t → one ≡ other
-    tells Upper Upper p q =
-        let same : one.place ≡ other.place = omega (arith, e, ap side_rank p, ap side_rank q) in
-        link_same one.place other.place one.side other.side same (p ∙ sym q)
-    tells Lower Lower p q =
-        let same : one.place ≡ other.place = omega (arith, e, ap side_rank p, ap side_rank q) in
-        link_same one.place other.place one.side other.side same (p ∙ sym q)
+    tells Upper Upper p q = link_same one.place other.place one.side other.side (omega (arith, e, ap side_rank p, ap side_rank q)) (p ∙ sym q)
+    tells Lower Lower p q = link_same one.place other.place one.side other.side (omega (arith, e, ap side_rank p, ap side_rank q)) (p ∙ sym q)
     tells Upper Lower p q = absurd (omega (arith, e, ap side_rank p, ap side_rank q))
     tells Lower Upper p q = absurd (omega (arith, e, ap side_rank p, ap side_rank q))
 

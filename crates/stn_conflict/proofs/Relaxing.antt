@@ -1,7 +1,7 @@
-use Rattle.std.{proofs.{Common.{◌≡◌, ◌≢◌, inl, inr, ℕ, Bool, true, false, ◌||◌, lt-ltb, le-ltb, ◌+◌, ◌<◌, ◌≤◌, List, [], ◌∷◌, ◌++◌, length, get_or, set, take, replicate, sym, subst, ap, refl, ◌∙◌, arith}, lemmas.{Int.ints, Bool.{cases_eq, cases_lt, false≢true, or_left, or_right}, List.{take-take, get_or-set_same, get_or-set_other, get_or-replicate, get_or-take, get_or_default, get_or_push, length-take, length-append, length-set, length-replicate, Elements.{All-from_get_or, All-take, All-append, All-push}}}}, specs.Prelude.{ℤ, pos, ◌+ℤ◌, ◌-ℤ◌, ◌≤ℤ◌, ◌<ℤ◌, nat_lt, int_lt, IsTrue, All}}
-use Rattle.stn_time.{specs.Time.{horizon, IsWithinHorizon}, proofs.Each.All-left}
+use Rattle.std.{proofs.{Common.{◌≡◌, ◌≢◌, inl, inr, ℕ, Bool, true, false, ◌||◌, lt-ltb, le-ltb, ◌+◌, ◌<◌, ◌≤◌, List, [], ◌∷◌, ◌++◌, length, get_or, set, take, replicate, sym, subst, ap, refl, ◌∙◌, arith}, lemmas.{Int.ints, Bool.{cases_eq, cases_lt, false≢true, or_left, or_right}, List.{take-take, get_or-set_same, get_or-set_other, get_or-replicate, get_or-take, get_or_default, get_or_push, length-take, length-append, length-set, length-replicate, Elements.{All-from_get_or, All-take, All-append, All-push}}}}, specs.Prelude.{ℤ, pos, ◌+ℤ◌, ◌-ℤ◌, ◌≤ℤ◌, nat_lt, int_lt, IsTrue, All}}
+use Rattle.stn_time.{specs.Time.{horizon}, proofs.Each.All-left}
 use Rattle.stn_net.{specs.{Difference.{Difference, NamesEvents}, Schedule.{Meets, IsSchedule, HasSchedule, times_of}, Horizon.horizon_bounds}, proofs.Widest.horizon_times}
-use Rattle.stn_conflict.{specs.{declared.links.{Link.Link, Side.{Side, TheVariants.{Upper, Lower}}}, Arcs.{Arc, arc, arc_of, bound_at}, Relaxation.{NamesAmong, IsNetwork, AreEstimates, AreDistances, AreLimited, AreRelaxed, IsFloor, IsListed, IsRelaxed, IsRelaxedBut, IsPossibleGap, is_fresh}}, proofs.{Lowering.{fell_elsewhere, stale_before}, Tightness.{arc_longer, schedule_before, link_kept, link_reaches, link_among}, Known.known_first, LevelTable.meets_moved}}
+use Rattle.stn_conflict.{specs.{declared.links.{Link.Link, Side.{Side, TheVariants.{Upper, Lower}}}, Arcs.{Arc, arc, arc_of, bound_at}, Relaxation.{NamesAmong, IsNetwork, AreEstimates, AreDistances, AreLimited, AreRelaxed, IsArcBetween, IsFloor, IsListed, IsRelaxed, IsRelaxedBut, IsPossibleGap, is_fresh}}, proofs.{Lowering.{fell_elsewhere, stale_before}, Tightness.{arc_longer, schedule_before, link_kept, link_reaches, link_among}, Known.known_first, LevelTable.meets_moved}}
 
 -- the events of the plan are so many and the origin
 pub among_events : (bounds : List Difference) (events count : ℕ) → count ≡ events + 1 → All (NamesEvents events) bounds → All (NamesAmong count) bounds
@@ -59,12 +59,11 @@ listed_more less more bounds link most listed = elim (cases_lt link.place less) 
   | inr past ↦ or_right _ _ (subst (λ b. (b || int_lt (arc_of bounds link).weight horizon) ≡ true) (le-ltb link.place less past) listed)
 ]
 
--- where nothing fell, each link is relaxed
-pub all_met : (whole : ℕ) (bounds : List Difference) (events : ℕ) (old new : List ℤ) (fresh : List Bool) → events ≤ whole → IsNetwork events bounds → All (NamesAmong (events + 1)) bounds
-    → IsRelaxedBut whole bounds new fresh → ((x : ℕ) → x < events + 1 → times_of new x ≡ times_of old x → is_fresh fresh x ≡ false) → new ≡ old
-    → AreRelaxed bounds (times_of new)
-all_met whole bounds events old new fresh kept network named relaxed stale same = all_relaxed events bounds (times_of new) network (λ link there listed.
-    relaxed link there (listed_more events whole bounds link kept listed) (stale (arc_of bounds link).from (link_among bounds (events + 1) link named there).0 (ap (λ l. times_of l (arc_of bounds link).from) same)))
+-- where no estimate is fresh, each link is relaxed
+pub all_met : (whole : ℕ) (bounds : List Difference) (events : ℕ) (far : List ℤ) (fresh : List Bool) → events ≤ whole → IsNetwork events bounds → All (NamesAmong (events + 1)) bounds
+    → IsRelaxedBut whole bounds far fresh → ((x : ℕ) → x < events + 1 → is_fresh fresh x ≡ false) → AreRelaxed bounds (times_of far)
+all_met whole bounds events far fresh kept network named relaxed stale = all_relaxed events bounds (times_of far) network (λ link there listed.
+    relaxed link there (listed_more events whole bounds link kept listed) (stale (arc_of bounds link).from (link_among bounds (events + 1) link named there).0))
 
 -- bounds of a plan and more bounds after them
 pub network_of : (events : ℕ) (base extra : List Difference) → take events base ≡ horizon_bounds events → All (NamesEvents events) base → All (NamesEvents events) extra → IsNetwork events (base ++ extra)
@@ -142,25 +141,6 @@ below_way bounds start far link low named there h =
     let met = h.met link there in
     omega (arith, ints)
 
--- an estimate of the start below 0 refuses each floor
-pub refused_at_start : (bounds : List Difference) (start : ℕ) (far : List ℤ) (link : Link) (low : ℕ → ℤ) → All (NamesAmong (length far)) bounds → times_of far start ≡ pos 0
-    → link.place < length bounds → (arc_of bounds link).to ≡ start
-    → (times_of far (arc_of bounds link).from +ℤ (arc_of bounds link).weight) <ℤ times_of far (arc_of bounds link).to → ¬ IsFloor bounds start far low
-refused_at_start bounds start far link low named own there same less h =
-    let below = below_way bounds start far link low named there h in
-    let zero = h.own in
-    let now = ap low same in
-    let at = ap (times_of far) same in
-    omega (arith, ints)
-
--- and so does one beyond the horizon
-pub refused_beyond : (bounds : List Difference) (start : ℕ) (far : List ℤ) (link : Link) (way : ℤ) (low : ℕ → ℤ) → All (NamesAmong (length far)) bounds → link.place < length bounds
-    → (times_of far (arc_of bounds link).from +ℤ (arc_of bounds link).weight) ≤ℤ way → way ≤ℤ horizon → ¬ IsWithinHorizon way → ¬ IsFloor bounds start far low
-refused_beyond bounds start far link way low named there least most beyond h =
-    let below = below_way bounds start far link low named there h in
-    let lowest = h.within (arc_of bounds link).to (link_among bounds (length far) link named there).1 in
-    beyond (omega (arith, ints), most)
-
 -- where each link is relaxed, the estimates, moved so that the origin stands at 0, are a schedule
 pub relaxed_schedule : (bounds : List Difference) (far : List ℤ) → AreRelaxed bounds (times_of far)
     → IsSchedule bounds (λ x. times_of far x -ℤ times_of far 0)
@@ -186,19 +166,12 @@ settled bounds start far h relaxed =
     )
 
 -- one link further back
-pub back_over : (bounds : List Difference) (count start here from to : ℕ) (weight sum : ℤ) (link : Link) → All (NamesAmong count) bounds → link.place < length bounds
-    → from ≡ (arc_of bounds link).from → to ≡ (arc_of bounds link).to → weight ≡ (arc_of bounds link).weight → to ≡ here
-    → ((low : ℕ → ℤ) → AreRelaxed bounds low → (low start -ℤ low here) ≤ℤ sum)
-    → (from < count) × ((low : ℕ → ℤ) → AreRelaxed bounds low → (low start -ℤ low from) ≤ℤ (sum +ℤ weight))
-back_over bounds count start here from to weight sum link named there is_from is_to is_weight same kept = (
-  rw is_from (link_among bounds count link named there).0,
-  λ low met.
-      let step = met link there in
-      let so_far = kept low met in
-      let begin = ap low is_from in
-      let end = ap low (sym is_to ∙ same) in
-      omega (arith, ints),
-)
+pub back_over : (bounds : List Difference) (start here from : ℕ) (weight sum : ℤ) → IsArcBetween bounds from here weight
+    → ((low : ℕ → ℤ) → AreRelaxed bounds low → (low start -ℤ low here) ≤ℤ sum) → (low : ℕ → ℤ) → AreRelaxed bounds low → (low start -ℤ low from) ≤ℤ (sum +ℤ weight)
+back_over bounds start here from weight sum (link, there, is) kept low met =
+    let step : low here ≤ℤ (low from +ℤ weight) = rw is at (met link there) in
+    let so_far = kept low met in
+    omega (arith, ints)
 
 -- where all estimates are fresh, nothing is claimed
 pub all_fresh : (whole : ℕ) (bounds : List Difference) (far : List ℤ) (fresh : List Bool) (count : ℕ) → fresh ≡ replicate count true → All (NamesAmong count) bounds

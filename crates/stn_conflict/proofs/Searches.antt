@@ -1,5 +1,5 @@
 -- How a search goes on.
-use Rattle.std.{proofs.{Common.{◌≡◌, ℕ, ◌+◌, ◌≤◌, List, Option, Some, None, Result, Ok, Err, length, refl, sym, subst, ap, ◌∙◌, arith}, lemmas.Bool.false≢true}, specs.{Prelude.{ℤ, All, IfSome, IfNone, OnOk, is_ok, is_err, true}, Option.option_or}}
+use Rattle.std.{proofs.{Common.{◌≡◌, ℕ, ◌+◌, ◌≤◌, List, Result, Ok, Err, length, refl, sym, subst, ap, ◌∙◌, arith}, lemmas.Bool.false≢true}, specs.{Prelude.{ℤ, All, OnOk, is_ok, is_err, true}}}
 use Rattle.stn_net.specs.{Difference.Difference, Schedule.{HasSchedule, times_of}}
 use Rattle.stn_conflict.{specs.{declared.relaxation.Search.Search, Relaxation.{AreDistances, AreRelaxed, HasTables, IsBegun, IsFloor, IsNetwork, IsSearch, Lowers, NamesAmong, Searched}}, proofs.Relaxing.{floor_of, settled}}
 
@@ -60,14 +60,3 @@ module _ {A : Type 0} where
 pub unrefused : {T E : Type 0} (r : Result T E) (P : Type 0) → (is_err r ≡ true → ⊥) → OnOk r P → P
 unrefused (Ok x) P not h = h
 unrefused (Err e) P not h = absurd (not refl)
-
--- what holds of either holds of the first of two that is there
-pub some_or : {X : Type 0} (P : X → Type 0) (one other : Option X) → IfSome one P → IfSome other P → IfSome (option_or one other) P
-some_or P (Some x) other p q = p
-some_or P None other p q = q
-
--- what holds where neither is there
-pub none_or : {X : Type 0} (P Q R : Type 0) (one other : Option X) → IfNone one P → IfNone other Q → (P → Q → R) → IfNone (option_or one other) R
-none_or P Q R (Some x) other p q so = tt
-none_or P Q R None (Some x) p q so = tt
-none_or P Q R None None p q so = so p q

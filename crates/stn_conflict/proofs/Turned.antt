@@ -1,7 +1,7 @@
-use Rattle.std.{proofs.{Common.{◌≡◌, ℕ, Bool, true, false, ◌||◌, ◌<◌, ◌≤◌, List, ◌++◌, length, map, take, refl, subst, sym, ap, ◌∙◌, arith}, Math.IntN.neg_ℤ-neg_ℤ, lemmas.{Int.ints, List.{get_or-map, get_or-take, map-append, take-map, length-map, length-take, Elements.All-map}}}, specs.Prelude.{ℤ, neg_ℤ, ◌+ℤ◌, ◌≤ℤ◌, nat_lt, int_lt, IsTrue, All}}
+use Rattle.std.{proofs.{Common.{◌≡◌, ℕ, Bool, ◌||◌, ◌<◌, List, ◌++◌, length, map, take, refl, subst, sym, ap, ◌∙◌, arith}, Math.IntN.neg_ℤ-neg_ℤ, lemmas.{Int.ints, List.{get_or-map, get_or-take, map-append, take-map, length-map, length-take, Elements.All-map}}}, specs.Prelude.{ℤ, neg_ℤ, ◌+ℤ◌, ◌≤ℤ◌, nat_lt, int_lt, IsTrue, All}}
 use Rattle.stn_time.specs.Time.{horizon}
 use Rattle.stn_net.specs.{Difference.{Difference, NamesEvents}, Schedule.{Meets, IsSchedule, HasSchedule}, Matrix.Tightest.IsTightest}
-use Rattle.stn_conflict.specs.{declared.{arcs.Direction.{Direction, TheVariants.{Forward, Backward}}, links.{Link.Link, Side.{Side, TheVariants.{Upper, Lower}}}}, Arcs.{arc, bound_at}, Directions.{turned, faced, facing}, Distances.{AreDistancesFrom, AreDistancesTo}, Relaxation.{AreLimited, IsNetwork, NamesAmong}, Search.{across, other_side}}
+use Rattle.stn_conflict.specs.{declared.{arcs.Direction.{Direction, TheVariants.{Forward, Backward}}, links.{Side.{Side, TheVariants.{Upper, Lower}}}}, Arcs.{arc, bound_at}, Directions.{turned, faced, facing}, Distances.{AreDistancesFrom, AreDistancesTo}, Relaxation.{AreLimited, IsNetwork, NamesAmong}, Search.{across, other_side}}
 
 -- the times with their signs changed
 abbrev opposite : (ℕ → ℤ) → ℕ → ℤ
@@ -26,10 +26,6 @@ schedule_turned bounds time s = record {
       (omega (arith, ints), omega (arith, ints)));
 }
 
--- where the bounds have a schedule, the turned bounds have one
-pub has_turned : (bounds : List Difference) → HasSchedule bounds → HasSchedule (map turned bounds)
-has_turned bounds (time, s) = (opposite time, schedule_turned bounds time s)
-
 -- times that do what the turned bounds limit do what the bounds do, with their signs changed
 limited_of_turned : (whole : ℕ) (bounds : List Difference) (time : ℕ → ℤ) → AreLimited whole (map turned bounds) time → AreLimited whole bounds (opposite time)
 limited_of_turned whole bounds time met = λ link there listed.
@@ -48,13 +44,6 @@ limited_of_turned whole bounds time met = λ link there listed.
     across_kept b Lower first listed so =
         let met = so listed in
         omega (arith, ints)
-
--- turned bounds are about the same events, and keep them as near to each other
-pub network_turned : (events : ℕ) (bounds : List Difference) → IsNetwork events bounds → IsNetwork events (map turned bounds)
-network_turned events bounds n = record {
-  named = All-map (NamesEvents events) turned bounds (λ k d below. let ends = n.named k d below in record { from = ends.from; to = ends.to });
-  apart = λ time s x y xs ys. (let near = n.apart (opposite time) (limited_of_turned events bounds time s) y x ys xs in omega (arith, ints));
-}
 
 -- the tightest difference of two events over turned bounds is that from the second to the first
 pub tightest_of_turned : (bounds : List Difference) (x y : ℕ) (m : ℤ) → IsTightest (map turned bounds) x y m → IsTightest bounds y x m
@@ -121,9 +110,12 @@ named_facing Backward count bounds named = All-map (NamesAmong count) turned bou
 -- a network turned round is one
 pub network_facing : (direction : Direction) (events : ℕ) (bounds : List Difference) → IsNetwork events bounds → IsNetwork events (facing direction bounds)
 network_facing Forward events bounds network = network
-network_facing Backward events bounds network = network_turned events bounds network
+network_facing Backward events bounds n = record {
+  named = All-map (NamesEvents events) turned bounds (λ k d below. let ends = n.named k d below in record { from = ends.from; to = ends.to });
+  apart = λ time s x y xs ys. (let near = n.apart (opposite time) (limited_of_turned events bounds time s) y x ys xs in omega (arith, ints));
+}
 
 -- and has a schedule where the network has one
 pub has_facing : (direction : Direction) (bounds : List Difference) → HasSchedule bounds → HasSchedule (facing direction bounds)
 has_facing Forward bounds has = has
-has_facing Backward bounds has = has_turned bounds has
+has_facing Backward bounds (time, s) = (opposite time, schedule_turned bounds time s)

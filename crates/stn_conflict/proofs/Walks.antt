@@ -154,22 +154,16 @@ walk_begins bounds start levels there none = record {
     zero_alone : (x i : ℕ) → level_at (set levels start (Some 0)) x ≡ Some i → i ≡ 0
     zero_alone x i at = some_same _ i 0 at (ap (level_at (set levels start (Some 0))) (is_start x i at) ∙ here)
 
--- a walk ends where each event that it reached is followed
-walk_ends : (bounds : List Difference) (start seen : ℕ) (levels : ℕ → Option ℕ) (reached : List ℕ) → IsWalk bounds start seen levels reached → length reached ≤ seen → IsClosed bounds start levels
-walk_ends bounds start seen levels reached w all = record {
-  zero_at_start = w.zero_at_start;
-  only = w.only;
-  back = w.back;
-  on = λ link tight i from.
-      let (k, below, is) = w.every _ i from in
-      w.followed k i (omega arith) (ap levels is ∙ from) link tight (sym is);
-}
-
--- and then each event has its level
+-- where each event that a walk reached is followed, each has its level
 pub levels_of_walk : (bounds : List Difference) (far : List ℤ) (start seen : ℕ) (levels : List (Option ℕ)) (reached : List ℕ) → AreDistances bounds start far → length levels ≡ length far
     → length reached ≤ count_by is_some levels → IsWalk bounds start seen (level_at levels) reached → length reached ≤ seen → AreLevels bounds start (length far) levels
 levels_of_walk bounds far start seen levels reached exact whole counted w all =
-    let closed = walk_ends bounds start seen (level_at levels) reached w all in
+    let closed : IsClosed bounds start (level_at levels) = record {
+      zero_at_start = w.zero_at_start;
+      only = w.only;
+      back = w.back;
+      on = λ link tight i from. (let (k, below, is) = w.every _ i from in w.followed k i (omega arith) (ap (level_at levels) is ∙ from) link tight (sym is));
+    } in
     record {
       whole = whole;
       levels = record {

@@ -1,5 +1,5 @@
 -- For proofs alone: no public clause cites these words.
-use Rattle.std.specs.{Prelude.{◌≡◌, ℕ, ℤ, pos, neg_ℤ, ◌+ℤ◌, ◌-ℤ◌, ◌≤ℤ◌, ◌<ℤ◌, ◌<◌, ◌≤◌, ◌+◌, ◌*◌, Bool, true, false, ◌||◌, nat_lt, int_lt, IsTrue, List, [], length, map, take, All, Contains, Vec, slice_index_or}, List.Sorted.IsNonDecreasingBy}
+use Rattle.std.specs.{Prelude.{◌≡◌, ◌≢◌, ◌⊎◌, set, Result, IsErr, OnOk, ℕ, ℤ, pos, neg_ℤ, ◌+ℤ◌, ◌-ℤ◌, ◌≤ℤ◌, ◌<ℤ◌, ◌<◌, ◌≤◌, ◌+◌, ◌*◌, Bool, true, false, ◌||◌, nat_lt, int_lt, IsTrue, List, [], length, map, take, All, Contains, Vec, slice_index_or}, List.Sorted.IsNonDecreasingBy}
 use Rattle.stn_time.specs.Time.{horizon}
 use Rattle.stn_net.specs.{Event.most_events, Difference.{Difference, NamesEvents}, Schedule.{IsSchedule, times_of}, Matrix.Tightest.IsTightest}
 use Rattle.stn_conflict.specs.{declared.{arcs.Direction.{Direction, TheVariants.{Forward, Backward}}, links.Link.Link, outgoing.{Look.Look, Rows.Rows}, relaxation.Search.Search, windows.Ends.Ends}, Arcs.{arc_of, bound_at, rank}, Directions.facing}
@@ -54,12 +54,17 @@ abbrev pub IsRelaxedBut : ℕ → List Difference → List ℤ → List Bool →
 IsRelaxedBut whole bounds far fresh = (link : Link) → link.place < length bounds → IsListed whole bounds link
     → is_fresh fresh (arc_of bounds link).from ≡ false → IsRelaxed bounds (times_of far) link
 
--- each table of a search has one entry for each of so many events
-pub record HasTables {A : Type 0} (count : ℕ) (search : Search A) : Type 0 where
+-- each table has one entry for each of so many events, and an estimate was lowered by a link from one of these
+pub record AreTables (count : ℕ) (estimates : List ℤ) (sources : List ℕ) (marks : List Bool) : Type 0 where
   pub few : count ≤ most_events + 1
-  pub far : length search.far.items ≡ count
-  pub by : length search.by.items ≡ count
-  pub fresh : length search.fresh.items ≡ count
+  pub far : length estimates ≡ count
+  pub by : length sources ≡ count
+  pub among : All (λ event. event < count) sources
+  pub fresh : length marks ≡ count
+
+-- the search has tables of so many events
+abbrev pub HasTables : {A : Type 0} → ℕ → Search A → Type 0
+HasTables count search = AreTables count search.far.items search.by.items search.fresh.items
 
 -- bounds as a search looks at them, turned round where the direction is backward; they are about so many events beside the origin
 pub record Searched : Type 0 where
@@ -68,14 +73,18 @@ pub record Searched : Type 0 where
   pub events : ℕ
   pub bounds : List Difference
 
--- the search has an estimate for each of the events, 0 for the one from which it began
-pub record IsBegun {A : Type 0} (searched : Searched) (search : Search A) : Type 0 where
-  pub tables : HasTables (searched.events + 1) search
+-- there is an estimate for each of the events, 0 for the start
+pub record AreBegun (searched : Searched) (start : ℕ) (far : List ℤ) (by : List ℕ) (fresh : List Bool) : Type 0 where
+  pub tables : AreTables (searched.events + 1) far by fresh
   pub network : IsNetwork searched.events searched.bounds
   pub kept : searched.events ≤ searched.whole
   pub named : All (NamesAmong (searched.events + 1)) searched.bounds
-  pub start_named : search.start < searched.events + 1
-  pub own : times_of search.far.items search.start ≡ pos 0
+  pub start_named : start < searched.events + 1
+  pub own : times_of far start ≡ pos 0
+
+-- the search has begun with them
+abbrev pub IsBegun : {A : Type 0} → Searched → Search A → Type 0
+IsBegun searched search = AreBegun searched search.start search.far.items search.by.items search.fresh.items
 
 -- the search has estimates of the distances of so many events from `start`
 pub record IsSearch {A : Type 0} (bounds : List Difference) (start count : ℕ) (search : Search A) : Type 0 where
@@ -107,12 +116,41 @@ pub record HasFallen (old new : List ℤ) (event : ℕ) : Type 0 where
   pub less : times_of new event <ℤ times_of old event
 
 -- the link is relaxed, if the estimate of the event from which it leads is not fresh
-abbrev pub IsRelaxedOf : {A : Type 0} → List Difference → Search A → Link → Type 0
-IsRelaxedOf bounds search link = is_fresh search.fresh.items (arc_of bounds link).from ≡ false → IsRelaxed bounds (times_of search.far.items) link
+abbrev pub IsRelaxedOf : List Difference → List ℤ → List Bool → Link → Type 0
+IsRelaxedOf bounds far fresh link = is_fresh fresh (arc_of bounds link).from ≡ false → IsRelaxed bounds (times_of far) link
+
+-- the links from the event were relaxed, or no floor is left
+pub record RelaxesFrom {T E : Type 0} (searched : Searched) (start event : ℕ) (old : List ℤ) (old_fresh : List Bool) (new : List ℤ) (by : List ℕ) (fresh : List Bool) (result : Result T E) : Type 0 where
+  pub begun : AreBegun searched start new by fresh
+  pub lowers : Lowers searched.bounds start old new
+  pub freshens : Freshens old old_fresh new fresh
+  pub refused : IsErr result → (low : ℕ → ℤ) → ¬ IsFloor searched.bounds start old low
+  pub relaxed : OnOk result ((link : Link) → link.place < length searched.bounds → IsListed searched.whole searched.bounds link → (arc_of searched.bounds link).from ≡ event
+      → IsRelaxedOf searched.bounds new fresh link)
+
+-- a way to an event was shorter than its estimate, which it lowered
+pub record IsLowered (start event : ℕ) (way : ℤ) (far : List ℤ) (fresh : List Bool) (new : List ℤ) (new_fresh : List Bool) : Type 0 where
+  pub less : way <ℤ times_of far event
+  pub apart : event ≢ start
+  pub far_is : new ≡ set far event way
+  pub fresh_is : new_fresh ≡ set fresh event true
+
+-- it was not
+pub record IsKept (event : ℕ) (way : ℤ) (far : List ℤ) (fresh : List Bool) (new : List ℤ) (new_fresh : List Bool) : Type 0 where
+  pub most : times_of far event ≤ℤ way
+  pub far_is : new ≡ far
+  pub fresh_is : new_fresh ≡ fresh
+
+-- it was, and leads to the start, or to before the horizon
+pub record IsRefused (start event : ℕ) (way : ℤ) (far : List ℤ) (fresh : List Bool) (new : List ℤ) (new_fresh : List Bool) : Type 0 where
+  pub less : way <ℤ times_of far event
+  pub cause : (event ≡ start) ⊎ (way <ℤ neg_ℤ horizon)
+  pub far_is : new ≡ far
+  pub fresh_is : new_fresh ≡ fresh
 
 -- some link of the bounds leads from the one event to the other, and has this weight
-abbrev pub IsArcTo : List Difference → ℕ → ℕ → ℤ → Type 0
-IsArcTo bounds to from weight = (link : Link) × (link.place < length bounds) × (arc_of bounds link ≡ record { from = from; to = to; weight = weight })
+abbrev pub IsArcBetween : List Difference → ℕ → ℕ → ℤ → Type 0
+IsArcBetween bounds from to weight = (link : Link) × (link.place < length bounds) × (arc_of bounds link ≡ record { from = from; to = to; weight = weight })
 
 -- the looks of the row at a place
 abbrev pub row_of : {A : Type 0} → List (Vec Look A) → ℕ → List Look
@@ -173,14 +211,17 @@ pub record IsRow (searched : Searched) (event : ℕ) (looks : List Look) : Type 
 abbrev pub IsPossibleGap : List Difference → ℕ → ℕ → ℤ → Type 0
 IsPossibleGap bounds from to apart = (time : ℕ → ℤ) × IsSchedule bounds time × ((time to -ℤ time from) ≡ apart)
 
--- the bounds of a plan with so many events can be searched, once all their links are added; and the search for how late each event can come
--- has only links from events with fresh estimates left
+-- the search for how late each event can come has only links from events with fresh estimates left
+pub record IsPending {A : Type 0} (events : ℕ) (bounds : List Difference) (latest : Search A) : Type 0 where
+  pub late : IsSearch bounds 0 (events + 1) latest
+  pub relaxed : IsRelaxedBut events bounds latest.far.items latest.fresh.items
+
+-- the bounds of a plan with so many events can be searched, once all their links are added
 pub record CanBeSearched {A : Type 0} (events : ℕ) (bounds : List Difference) (rows : Rows A) (latest search : Search A) : Type 0 where
   pub few : events ≤ most_events
   pub network : IsNetwork events bounds
   pub first : AreFirstRows Forward events bounds (events + 1) rows
-  pub late : IsSearch bounds 0 (events + 1) latest
-  pub relaxed : IsRelaxedBut events bounds latest.far.items latest.fresh.items
+  pub pending : IsPending events bounds latest
   pub tables : HasTables (events + 1) search
 
 -- the rows are those of the bounds, or of the bounds turned round, and the search has found the distances over them

@@ -1,6 +1,6 @@
 ghost use Rattle.std.specs.Prelude.{◌≡◌, ◌+◌, ◌≤◌, ◌↔◌, ◌++◌, ◌∷◌, [], false, take, All, IsTrue, IfOk, OnOk, OnErr, MatchOption};
 ghost use Rattle.stn_net.specs.{Event.most_events, Difference.NamesEvents, Schedule.HasSchedule, Horizon.horizon_bounds, Matrix.Tightest.IsTightest};
-ghost use Rattle.stn_conflict.specs.{Distances.TellsWithin, Relaxation.{AreDistances, AreFirstRows, IsNetwork, IsRelaxedBut, IsSearch, IsPossibleGap}, declared.arcs.Direction.TheVariants.Forward};
+ghost use Rattle.stn_conflict.specs.{Distances.TellsWithin, Relaxation.{AreDistances, AreFirstRows, IsNetwork, IsPending, IsSearch, IsPossibleGap}, declared.arcs.Direction.TheVariants.Forward};
 
 use crate::arcs::Direction;
 use crate::graph::Graph;
@@ -66,8 +66,7 @@ impl<A: Allocator + Copy> Network<A> {
         ensures err { OnErr result (self.new ≡ self.old) }
     {
         self.bounds.push(bound)?;
-        self.latest.fresh[usize::from(bound.from().number())] = true;
-        self.latest.fresh[usize::from(bound.to().number())] = true;
+        self.latest.freshen(&bound);
         Ok(())
     }
 
@@ -83,8 +82,7 @@ impl<A: Allocator + Copy> Network<A> {
         let count = self.bounds.len();
         self.search.copy_from(&self.latest);
         self.bounds.push(bound)?;
-        self.latest.fresh[usize::from(bound.from().number())] = true;
-        self.latest.fresh[usize::from(bound.to().number())] = true;
+        self.latest.freshen(&bound);
         let fits = extend(self.events, &self.bounds, &mut self.rows, &mut self.latest);
         if let Ok(true) = fits {
             return Ok(true);
@@ -157,8 +155,7 @@ fn extend<A: Allocator + Copy>(
 ) -> Result<bool, Memory>
     requires network { IsNetwork events bounds.now }
     requires rows { AreFirstRows Forward events bounds.now (events + 1) rows.old }
-    requires late { IsSearch bounds.now 0 (events + 1) latest.old }
-    requires relaxed { IsRelaxedBut events bounds.now latest.old.far.items latest.old.fresh.items }
+    requires pending { IsPending events bounds.now latest.old }
     ensures rows { AreFirstRows Forward events bounds.now (events + 1) rows.new }
     ensures late { IsSearch bounds.now 0 (events + 1) latest.new }
     ensures possible { IfOk result (λ fits. IsTrue fits ↔ HasSchedule bounds.now) }

@@ -7,6 +7,7 @@ use crate::graph::Graph;
 use crate::links::Distances;
 use crate::outgoing::Rows;
 use crate::relaxation::Search;
+use crate::windows::Ends;
 use std::alloc::Allocator;
 use stn_net::{Bound, Event};
 use stn_time::{Memory, Ms};
@@ -62,12 +63,12 @@ pub(crate) fn distances_from<A: Allocator + Copy>(
         (λ far. AreDistancesFrom (facing direction (base.now ++ extra.now)) events event far.items)) }
 {
     match search_from(alloc, direction, events, base, extra, event)? {
-        Some((_, search)) => Ok(Some(search.far)),
+        Some(Ends { search, .. }) => Ok(Some(search.far)),
         None => Ok(None),
     }
 }
 
-// The search that finds it, and the rows of its links.
+// The search that finds it, with the rows of its links.
 pub(crate) fn search_from<A: Allocator + Copy>(
     alloc: A,
     direction: Direction,
@@ -75,19 +76,19 @@ pub(crate) fn search_from<A: Allocator + Copy>(
     base: &[Bound],
     extra: &[Bound],
     event: Event,
-) -> Result<Option<(Rows<A>, Search<A>)>, Memory>
+) -> Result<Option<Ends<A>>, Memory>
     requires few { events ≤ most_events }
     requires begins { take events base.now ≡ horizon_bounds events }
     requires base_named { All (NamesEvents events) base.now }
     requires extra_named { All (NamesEvents events) extra.now }
     requires event { event ≤ events }
     ensures { IfOk result (λ found. MatchOption found (¬ HasSchedule (base.now ++ extra.now))
-        (λ both. HasFound direction events (base.now ++ extra.now) event both.0 both.1)) }
+        (λ ends. HasFound direction events (base.now ++ extra.now) event ends.rows ends.search)) }
 {
     let rows = Rows::of(alloc, direction, usize::from(events), events, base, extra)?;
     let graph = Graph::new(events, base, extra, &rows);
     match Search::found(alloc, &graph, event)? {
-        Some(search) => Ok(Some((rows, search))),
+        Some(search) => Ok(Some(Ends { rows, search })),
         None => Ok(None),
     }
 }

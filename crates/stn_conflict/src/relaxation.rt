@@ -4,20 +4,17 @@
 // there are no distances. Mostly this shows sooner: the links that lowered the estimates last lead round with a negative
 // sum (Cherkassky and Goldberg, 1999).
 //
-// What a search over other bounds left in `by` does no harm: a link counts only if it is one of these bounds, and ends at
-// the event.
+// What a search over other bounds left in `by` does no harm: only links of these bounds count.
 
-ghost use Rattle.std.specs.Prelude.{◌≡◌, ◌+◌, ◌<◌, ◌≤◌, ◌≤ℤ◌, ◌↔◌, ℕ, ℤ, false, length, All, IsTrue, IsErr, IfOk, IfSome, IfNone, OnOk, MatchOption, List};
-ghost use Rattle.stn_net.specs.{Event.most_events, Difference.Difference, Schedule.{HasSchedule, times_of}};
-ghost use Rattle.stn_conflict.specs.{Arcs.arc_of, Relaxation.{NamesAmong, AreEstimates, AreDistances, AreRelaxed, Freshens, HasFallen, HasTables, IsArcTo, IsBegun, IsFloor, IsListed, IsLook, IsNetwork, IsRelaxedBut, IsRelaxedOf, IsSearch, Lowers, is_fresh}};
+ghost use Rattle.std.specs.Prelude.{◌≡◌, ◌⊎◌, ◌+◌, ◌<◌, ◌≤◌, ◌+ℤ◌, ◌≤ℤ◌, ◌↔◌, ◌++◌, ◌∷◌, [], ℕ, ℤ, true, false, length, IsTrue, IsErr, IfOk, IfSome, OnOk, MatchOption, List};
+ghost use Rattle.stn_net.specs.{Event.most_events, Difference.{Difference, NamesEvents}, Schedule.{HasSchedule, times_of}};
+ghost use Rattle.stn_conflict.specs.{Relaxation.{RelaxesFrom, AreBegun, AreEstimates, AreDistances, AreRelaxed, AreTables, HasTables, IsArcBetween, IsBegun, IsFloor, IsKept, IsLowered, IsNetwork, IsPending, IsRefused, IsRelaxedBut, NamesAmong, IsSearch, Lowers, is_fresh}};
 ghost use Rattle.stn_time.specs.Time.{horizon};
 
-use crate::arcs::Arc;
 use crate::graph::Graph;
-use crate::links::Link;
 use crate::outgoing::Look;
 use std::alloc::Allocator;
-use stn_net::Event;
+use stn_net::{Bound, Event};
 use stn_time::{HORIZON, Memory, Ms};
 
 // The bounds have no schedule.
@@ -37,8 +34,8 @@ pub(crate) struct Search<A: Allocator> {
     start: Event,
     // For each event an estimate of its distance, which is never too small.
     pub far: Vec<Ms, A>,
-    // For each event the link that lowered its estimate last.
-    by: Vec<Option<Link>, A>,
+    // For each event that from which a link lowered its estimate last.
+    by: Vec<usize, A>,
     // The events whose estimates were lowered since their links were relaxed.
     pub fresh: Vec<bool, A>,
     // The sweeps through the events since the estimates began to be lowered.
@@ -48,13 +45,14 @@ pub(crate) struct Search<A: Allocator> {
 impl<A: Allocator + Copy> Search<A> {
     // A search among so many events.
     pub fn new(alloc: A, count: usize) -> Result<Search<A>, Memory>
-        requires { count ≤ most_events + 1 }
+        requires some { 0 < count }
+        requires few { count ≤ most_events + 1 }
         ensures { IfOk result (λ search. HasTables count search) }
     {
         Ok(Search {
             start: Event::origin(),
             far: vec![in alloc; horizon(); count]?,
-            by: vec![in alloc; None; count]?,
+            by: vec![in alloc; 0; count]?,
             fresh: vec![in alloc; false; count]?,
             sweeps: 0,
         })
@@ -71,6 +69,7 @@ impl<A: Allocator + Copy> Search<A> {
     {
         self.start = other.start;
         self.far.copy_from_slice(&other.far);
+        self.by.copy_from_slice(&other.by);
         self.fresh.copy_from_slice(&other.fresh);
     }
 
@@ -121,6 +120,17 @@ impl<A: Allocator + Copy> Search<A> {
         self.far[usize::from(start.number())] = Ms::new(0).unwrap();
     }
 
+    // With one bound more, the links from its events are no longer relaxed.
+    pub fn freshen(&mut self, bound: &Bound)
+        requires tables { HasTables (length self.old.far.items) self.old }
+        requires named { NamesAmong (length self.old.far.items) bound.now }
+        ensures { (events : ℕ) (bounds : List Difference) → NamesEvents events bound.now → IsPending events bounds self.old
+            → IsPending events (bounds ++ bound.now ∷ []) self.new }
+    {
+        self.fresh[usize::from(bound.from().number())] = true;
+        self.fresh[usize::from(bound.to().number())] = true;
+    }
+
     // Lowers the estimates until they are the distances, and answers true; false exactly where the bounds, of which the
     // rows have all links, have no schedule.
     #[tactic(auto, using(crate::proofs::Relaxing::all_fresh))]
@@ -132,6 +142,7 @@ impl<A: Allocator + Copy> Search<A> {
         ensures possible { IsTrue result ↔ HasSchedule graph.now.bounds }
         ensures distances { IsTrue result → AreDistances graph.now.bounds self.old.start self.new.far.items }
     {
+        self.by.fill(usize::from(self.start.number()));
         self.fresh.fill(true);
         self.go_on(graph)
     }
@@ -168,6 +179,7 @@ impl<A: Allocator + Copy> Search<A> {
             return;
         }
         self.far[place] = most;
+        self.by[place] = usize::from(self.start.number());
         self.fresh[place] = true;
         let _ = self.relax_until_met(graph);
     }
@@ -184,18 +196,31 @@ impl<A: Allocator + Copy> Search<A> {
     {
         self.sweeps = 0;
         let mut onward = graph.first_onward();
-        while let Some(event) = self.sweep(graph, onward)? {
+        while let Some(event) = self.first_fresh() {
             if self.sweeps == graph.count() || self.goes_round(graph, event) {
                 return Err(NoSchedule);
             }
+            self.sweep(graph, onward)?;
             onward = !onward;
         }
         Ok(())
     }
 
-    // Relaxes the links from each event with a fresh estimate, in the events' order or against it; the last event whose
-    // estimate was lowered.
-    fn sweep(&mut self, graph: &Graph<'_, A>, onward: bool) -> Result<Option<Event>, NoSchedule>
+    // The first event with a fresh estimate, if there is any.
+    fn first_fresh(&self) -> Option<usize>
+        ensures { MatchOption result ((x : ℕ) → x < length self.now.fresh.items → is_fresh self.now.fresh.items x ≡ false)
+            (λ event. (event < length self.now.fresh.items) × (is_fresh self.now.fresh.items event ≡ true)) }
+    {
+        for event in 0..self.fresh.len() {
+            if self.fresh[event] {
+                return Some(event);
+            }
+        }
+        None
+    }
+
+    // Relaxes the links from each event with a fresh estimate, in the events' order or against it.
+    fn sweep(&mut self, graph: &Graph<'_, A>, onward: bool) -> Result<(), NoSchedule>
         requires begun { IsBegun graph.now self.old }
         requires few { self.old.sweeps ≤ graph.now.events }
         requires relaxed { IsRelaxedBut graph.now.whole graph.now.bounds self.old.far.items self.old.fresh.items }
@@ -204,8 +229,6 @@ impl<A: Allocator + Copy> Search<A> {
         ensures sweeps { self.new.sweeps ≡ self.old.sweeps + 1 }
         ensures lowers { Lowers graph.now.bounds self.old.start self.old.far.items self.new.far.items }
         ensures refused { IsErr result → (low : ℕ → ℤ) → ¬ IsFloor graph.now.bounds self.old.start self.old.far.items low }
-        ensures fell { IfOk result (λ last. IfSome last (HasFallen self.old.far.items self.new.far.items)) }
-        ensures same { IfOk result (λ last. IfNone last (self.new.far.items ≡ self.old.far.items)) }
         ensures relaxed { OnOk result (IsRelaxedBut graph.now.whole graph.now.bounds self.new.far.items self.new.fresh.items) }
 
         // Only an event whose estimate fell is still fresh.
@@ -213,150 +236,148 @@ impl<A: Allocator + Copy> Search<A> {
             → is_fresh self.new.fresh.items x ≡ false) }
     {
         self.sweeps += 1;
-        let mut last = None;
         let count = graph.count();
         for index in 0..count {
             let event = if onward { index } else { count - 1 - index };
             if self.fresh[event] {
                 self.fresh[event] = false;
-                let found = self.relax_from(graph, event)?;
-                last = found.or(last);
+                self.relax_from(graph, event)?;
             }
         }
-        Ok(last)
+        Ok(())
     }
 
-    // Relaxes the links from an event; the last event whose estimate was lowered.
-    fn relax_from(
-        &mut self,
-        graph: &Graph<'_, A>,
-        event: usize,
-    ) -> Result<Option<Event>, NoSchedule>
+    // Relaxes the links from an event.
+    fn relax_from(&mut self, graph: &Graph<'_, A>, event: usize) -> Result<(), NoSchedule>
         requires begun { IsBegun graph.now self.old }
         requires event { event < graph.now.events + 1 }
-        ensures begun { IsBegun graph.now self.new }
         ensures start { self.new.start ≡ self.old.start }
         ensures sweeps { self.new.sweeps ≡ self.old.sweeps }
-        ensures lowers { Lowers graph.now.bounds self.old.start self.old.far.items self.new.far.items }
-        ensures freshens { Freshens self.old.far.items self.old.fresh.items self.new.far.items self.new.fresh.items }
-        ensures refused { IsErr result → (low : ℕ → ℤ) → ¬ IsFloor graph.now.bounds self.old.start self.old.far.items low }
-        ensures fell { IfOk result (λ last. IfSome last (HasFallen self.old.far.items self.new.far.items)) }
-        ensures same { IfOk result (λ last. IfNone last (self.new.far.items ≡ self.old.far.items)) }
-        ensures relaxed { OnOk result ((link : Link) → link.place < length graph.now.bounds → IsListed graph.now.whole graph.now.bounds link
-            → (arc_of graph.now.bounds link).from ≡ event → IsRelaxedOf graph.now.bounds self.new link) }
+        ensures relaxes { RelaxesFrom graph.now self.old.start event self.old.far.items self.old.fresh.items self.new.far.items self.new.by.items self.new.fresh.items result }
     {
-        let here = self.far[event];
-        let mut last = None;
-        for look in graph.row(event) {
-            if self.relax(graph, event, here, look)? {
-                last = Some(look.to);
-            }
-        }
-        Ok(last)
+        relax_row(
+            graph,
+            self.start,
+            event,
+            &mut self.far,
+            &mut self.by,
+            &mut self.fresh,
+        )
     }
 
-    // Lowers the estimate at the link's end to what the link allows, where that is less; whether it was. `here` was the estimate at
-    // its beginning, and still is unless that is fresh.
-    #[tactic(auto, using(crate::proofs::Tightness::link_among, std::proofs::lemmas::List::get_or_read))]
-    fn relax(
-        &mut self,
-        graph: &Graph<'_, A>,
-        event: usize,
-        here: Ms,
-        look: &Look,
-    ) -> Result<bool, NoSchedule>
-        requires begun { IsBegun graph.now self.old }
-        requires look { IsLook graph.now.bounds event look.now }
-        requires here { times_of self.old.far.items event ≤ℤ here }
-        requires still { is_fresh self.old.fresh.items event ≡ false → times_of self.old.far.items event ≡ here }
-        ensures begun { IsBegun graph.now self.new }
-        ensures start { self.new.start ≡ self.old.start }
-        ensures sweeps { self.new.sweeps ≡ self.old.sweeps }
-        ensures lowers { Lowers graph.now.bounds self.old.start self.old.far.items self.new.far.items }
-        ensures freshens { Freshens self.old.far.items self.old.fresh.items self.new.far.items self.new.fresh.items }
-        ensures refused { IsErr result → (low : ℕ → ℤ) → ¬ IsFloor graph.now.bounds self.old.start self.old.far.items low }
-        ensures fell { IfOk result (λ lower. IsTrue lower → HasFallen self.old.far.items self.new.far.items look.now.to) }
-        ensures same { IfOk result (λ lower. lower ≡ false → self.new.far.items ≡ self.old.far.items) }
-        ensures relaxed { OnOk result (IsRelaxedOf graph.now.bounds self.new look.now.link) }
-    {
-        let end = usize::from(look.to.number());
-        let way = here.get() + look.weight.get();
-        if self.far[end].get() <= way {
-            return Ok(false);
-        }
-        if look.to == self.start {
-            return Err(NoSchedule);
-        }
-        let Some(lower) = Ms::new(way) else {
-            return Err(NoSchedule);
-        };
-        self.far[end] = lower;
-        self.by[end] = Some(look.link);
-        self.fresh[end] = true;
-        Ok(true)
-    }
-
-    // Whether the links that lowered the estimates last lead back from an event to a cycle with a negative sum: no times
-    // relax all its links.
-    fn goes_round(&self, graph: &Graph<'_, A>, from: Event) -> bool
-        requires tables { HasTables (length self.now.far.items) self.now }
-        requires named { All (NamesAmong (length self.now.far.items)) graph.now.bounds }
-        requires from { from < length self.now.far.items }
+    // Whether what lowered the estimates last leads back from an event to a cycle with a negative sum: no times relax all its
+    // links.
+    fn goes_round(&self, graph: &Graph<'_, A>, from: usize) -> bool
+        requires tables { HasTables (graph.now.events + 1) self.now }
+        requires from { from < graph.now.events + 1 }
         ensures { IsTrue result → (low : ℕ → ℤ) → ¬ AreRelaxed graph.now.bounds low }
     {
-        match self.far_back(graph, from) {
-            Some(event) => self.comes_back(graph, event),
-            None => false,
-        }
+        let event = self.far_back(from);
+        event != usize::from(self.start.number()) && self.comes_back(graph, event)
     }
 
-    // Whether they lead from an event back to it, with a negative sum.
-    fn comes_back(&self, graph: &Graph<'_, A>, start: Event) -> bool
+    // The event to which it leads back from an event, over as many links as there are events.
+    fn far_back(&self, from: usize) -> usize
         requires tables { HasTables (length self.now.far.items) self.now }
-        requires named { All (NamesAmong (length self.now.far.items)) graph.now.bounds }
-        requires start { start < length self.now.far.items }
+        requires from { from < length self.now.far.items }
+        ensures { result < length self.now.far.items }
+    {
+        let mut here = from;
+        for _ in 0..self.by.len() {
+            here = self.by[here];
+        }
+        here
+    }
+
+    // Whether it leads from an event back to it, with a negative sum.
+    fn comes_back(&self, graph: &Graph<'_, A>, start: usize) -> bool
+        requires tables { HasTables (graph.now.events + 1) self.now }
+        requires start { start < graph.now.events + 1 }
         ensures { IsTrue result → (low : ℕ → ℤ) → ¬ AreRelaxed graph.now.bounds low }
     {
         let mut here = start;
         let mut sum = 0;
         for _ in 0..self.by.len() {
-            let Some(arc) = self.lowered_by(graph, here) else {
+            let from = self.by[here];
+            let Some(weight) = least_weight(graph, from, here) else {
                 return false;
             };
-            sum += arc.weight.get();
-            here = arc.from;
+            sum += weight.get();
+            here = from;
             if here == start {
                 return sum < 0;
             }
         }
         false
     }
+}
 
-    // The event from which the last links lead, after so many of them as there are events; none where they end before.
-    fn far_back(&self, graph: &Graph<'_, A>, from: Event) -> Option<Event>
-        requires tables { HasTables (length self.now.far.items) self.now }
-        requires named { All (NamesAmong (length self.now.far.items)) graph.now.bounds }
-        requires from { from < length self.now.far.items }
-        ensures { IfSome result (λ event. event < length self.now.far.items) }
-    {
-        let mut here = from;
-        for _ in 0..self.by.len() {
-            here = self.lowered_by(graph, here)?.from;
-        }
-        Some(here)
+// The same over slices, so that the loop does not read again at each link where a vector is.
+fn relax_row<A: Allocator>(
+    graph: &Graph<'_, A>,
+    start: Event,
+    event: usize,
+    far: &mut [Ms],
+    by: &mut [usize],
+    fresh: &mut [bool],
+) -> Result<(), NoSchedule>
+    requires begun { AreBegun graph.now start far.old by.old fresh.old }
+    requires event { event < graph.now.events + 1 }
+    ensures { RelaxesFrom graph.now start event far.old fresh.old far.new by.new fresh.new result }
+{
+    let here = far[event];
+    for look in graph.row(event) {
+        relax(look, start, event, here, far, by, fresh)?;
     }
+    Ok(())
+}
 
-    // What the link says that lowered the event's estimate last, where it is a link of the bounds to the event.
-    fn lowered_by(&self, graph: &Graph<'_, A>, event: Event) -> Option<Arc>
-        requires tables { HasTables (length self.now.far.items) self.now }
-        requires event { event < length self.now.far.items }
-        ensures arc { IfSome result (λ arc. IsArcTo graph.now.bounds event arc.from arc.weight) }
-    {
-        let link = self.by[usize::from(event.number())]?;
-        if link.place >= graph.len() {
-            return None;
-        }
-        let arc = graph.arc(link);
-        (arc.to == event).then_some(arc)
+// Lowers the estimate at a link's end to what the link allows, where that is less. `here` was the estimate at its beginning.
+fn relax(
+    look: &Look,
+    start: Event,
+    event: usize,
+    here: Ms,
+    far: &mut [Ms],
+    by: &mut [usize],
+    fresh: &mut [bool],
+) -> Result<(), NoSchedule>
+    requires tables { AreTables (length far.old) far.old by.old fresh.old }
+    requires end { look.now.to < length far.old }
+    requires event { event < length far.old }
+    ensures tables { AreTables (length far.old) far.new by.new fresh.new }
+    ensures met { OnOk result (IsKept look.now.to (here +ℤ look.now.weight) far.old fresh.old far.new fresh.new
+        ⊎ IsLowered start look.now.to (here +ℤ look.now.weight) far.old fresh.old far.new fresh.new) }
+    ensures refused { IsErr result → IsRefused start look.now.to (here +ℤ look.now.weight) far.old fresh.old far.new fresh.new }
+{
+    let end = usize::from(look.to.number());
+    let way = here.get() + look.weight.get();
+    if far[end].get() <= way {
+        return Ok(());
     }
+    if look.to == start || way < -HORIZON {
+        return Err(NoSchedule);
+    }
+    far[end] = Ms::new(way).unwrap();
+    by[end] = event;
+    fresh[end] = true;
+    Ok(())
+}
+
+// The least weight of a link from one event to another, if there is any.
+fn least_weight<A: Allocator>(graph: &Graph<'_, A>, from: usize, to: usize) -> Option<Ms>
+    requires { from < graph.now.events + 1 }
+    ensures { IfSome result (IsArcBetween graph.now.bounds from to) }
+{
+    let mut least: Option<Ms> = None;
+    for look in graph.row(from) {
+        let less = match least {
+            Some(weight) => look.weight < weight,
+            None => true,
+        };
+        if less && usize::from(look.to.number()) == to {
+            least = Some(look.weight);
+        }
+    }
+    least
 }

@@ -25,7 +25,7 @@ pub struct Windows<A: Allocator> {
     earliest: Ends<A>,
 }
 
-// How late each event can come, by bounds or by bounds turned round, and what lowers that.
+// How long after an event each can come at the most, by bounds or by bounds turned round, and what lowers that.
 #[derive(Drop)]
 pub(crate) struct Ends<A: Allocator> {
     pub rows: Rows<A>,
@@ -63,10 +63,13 @@ impl<A: Allocator + Copy> Windows<A> {
         let mut bounds = Vec::from_slice(alloc, base)?;
         bounds.extend_from_slice(extra)?;
         let given = bounds.len();
-        let Some(latest) = Ends::of(alloc, Direction::Forward, events, base, extra)? else {
+        let origin = Event::origin();
+        let Some(latest) = search_from(alloc, Direction::Forward, events, base, extra, origin)?
+        else {
             return Ok(None);
         };
-        let Some(earliest) = Ends::of(alloc, Direction::Backward, events, base, extra)? else {
+        let Some(earliest) = search_from(alloc, Direction::Backward, events, base, extra, origin)?
+        else {
             return Ok(None);
         };
         Ok(Some(Windows {
@@ -114,27 +117,6 @@ impl<A: Allocator + Copy> Windows<A> {
 }
 
 impl<A: Allocator + Copy> Ends<A> {
-    // The ends of the windows, by the bounds of both slices or by these turned round; none exactly where they have no schedule.
-    fn of(
-        alloc: A,
-        direction: Direction,
-        events: u16,
-        base: &[Bound],
-        extra: &[Bound],
-    ) -> Result<Option<Ends<A>>, Memory>
-        requires few { events ≤ most_events }
-        requires begins { take events base.now ≡ horizon_bounds events }
-        requires base_named { All (NamesEvents events) base.now }
-        requires extra_named { All (NamesEvents events) extra.now }
-        ensures { IfOk result (λ found. MatchOption found (¬ HasSchedule (base.now ++ extra.now))
-            (λ ends. IsEnds direction events (length (base.now ++ extra.now)) (base.now ++ extra.now) ends)) }
-    {
-        match search_from(alloc, direction, events, base, extra, Event::origin())? {
-            Some((rows, search)) => Ok(Some(Ends { rows, search })),
-            None => Ok(None),
-        }
-    }
-
     // Takes a bound on a single event, after others of which these are given.
     fn narrow(&mut self, events: u16, given: &[Bound], bound: &Bound)
         requires few { events ≤ most_events }

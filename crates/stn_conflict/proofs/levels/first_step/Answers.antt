@@ -1,5 +1,5 @@
-use Rattle.std.{proofs.{Common.{subst, sym, ◌∙◌}, lemmas.Bool.false≢true}, specs.List.Contains}
-use Rattle.stn_conflict.{specs.{declared.outgoing.Look.Look, Relaxation.IsRow, Named.IsLevelStep, Search.{across, IsFirstStepTo}}, proofs.{Steps.{first_in_row, none_in_row, passed_more}, Rows.in_row}}
+use Rattle.std.{proofs.{Common.{subst, sym, ◌∙◌}, lemmas.Bool.false≢true}}
+use Rattle.stn_conflict.{specs.{declared.outgoing.Look.Look, Relaxation.IsRow, Named.IsLevelStep, Search.{across, IsFirstStepTo}}, proofs.{Steps.{first_in_row, none_in_row, passed_more}}}
 use Rattle.stn_conflict.proofs.levels.first_step.Goals as goal
 
 pub returns-then-is_step : goal.returns-then-is_step
@@ -17,10 +17,7 @@ returns-then-is_step g c =
 
 pub is_step-requires-clause-there : goal.is_step-requires-clause-there
 is_step-requires-clause-there g c =
-    let looks = c.row-look-items.result.now in
-    let index = c.loop-look.look-index in
-    let has = subst (Contains looks) (sym c.look-item.is) (in_row looks index c.look-item.result c.loop-look-test.true) in
-    rw c.across-into.ensures (c.row-look-items.ensures.each c.look-item.result has).there
+    rw c.across-into.ensures (c.row-look-items.ensures.each c.look-item.result (c.loop-look.look-index, c.loop-look-test.true, sym c.look-item.is)).there
 
 pub loop-look-preserved : goal.loop-look-preserved
 loop-look-preserved g c =

@@ -1,5 +1,5 @@
-use Rattle.std.{proofs.{Common.{◌≡◌, ℕ, Some, ◌<◌, ◌∷◌, ◌++◌, [], None, length, take, refl, sym, subst, ap, ◌+◌, ◌∙◌, arith}, lemmas.{Bool.false≢true, List.{get_or_read, take_more, take_all}}}, specs.List.Contains}
-use Rattle.stn_conflict.{specs.{declared.levels.Walk.Walk, Arcs.arc_of, Relaxation.IsLook, Search.{event_at, level_at, LeadsOn}}, proofs.{Tightness.link_among, Rows.in_row, levels.follow.{Given.Over, Goals.{After-from-event, After-look-item, then-leads_on+in_ok-push, else-leads_on}}, Walks.{IsFollowing, reached_at, level_low, following_begins, following_reaches, following_passes, following_ends}}}
+use Rattle.std.proofs.{Common.{◌≡◌, ℕ, Some, ◌<◌, ◌∷◌, ◌++◌, [], None, length, take, refl, sym, subst, ap, ◌+◌, ◌∙◌, arith}, lemmas.{Bool.false≢true, List.{get_or_read, take_more, take_all}}}
+use Rattle.stn_conflict.{specs.{declared.levels.Walk.Walk, Arcs.arc_of, Relaxation.IsLook, Search.{event_at, level_at, LeadsOn}}, proofs.{Tightness.link_among, levels.follow.{Given.Over, Goals.{After-from-event, After-look-item, then-leads_on+in_ok-push, else-leads_on}}, Walks.{IsFollowing, reached_at, level_low, following_begins, following_reaches, following_passes, following_ends}}}
 use Rattle.stn_conflict.proofs.levels.follow.Goals as goal
 
 -- the event at the place
@@ -44,9 +44,7 @@ overflow_add-level g c =
 
 -- the look whose turn it is
 looked : (g : Over) (c : After-look-item g) → IsLook c.args.graph.now.bounds c.from-event.result c.look-item.result
-looked g c =
-    let looks = c.row-look-items.result.now in
-    c.row-look-items.ensures.each c.look-item.result (subst (Contains looks) (sym c.look-item.is) (in_row looks c.loop-look.look-index c.look-item.result c.loop-look-test.true))
+looked g c = c.row-look-items.ensures.each c.look-item.result (c.loop-look.look-index, c.loop-look-test.true, sym c.look-item.is)
 
 pub leads_on-requires : goal.leads_on-requires
 leads_on-requires g c = record {

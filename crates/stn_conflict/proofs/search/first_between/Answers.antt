@@ -13,7 +13,7 @@ settle-requires g c =
       kept = c.requires.kept;
       network = network_before graph.events middle graph.bounds (omega (arith, h.past)) c.requires.begins c.requires.named;
       search = record {
-        tables = record { few = h.tables.few; far = ap length items ∙ h.long; by = h.tables.by; fresh = h.tables.fresh };
+        tables = record { few = h.tables.few; far = ap length items ∙ h.long; by = h.tables.by; among = h.tables.among; fresh = h.tables.fresh };
         from = refl;
         estimates = rw items (estimates_of_more c.args.graph.now.bounds c.args.graph.now.events c.loop-high.low middle c.loop-high.search.start c.loop-high.known (omega arith) h.long c.requires.named h.known);
       };

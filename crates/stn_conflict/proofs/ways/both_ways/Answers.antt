@@ -1,11 +1,6 @@
-use Rattle.std.proofs.Common.{◌+◌, ◌++◌, refl, arith}
-use Rattle.stn_conflict.proofs.{Known.known_within, Relaxing.{among_events, network_of}}
+use Rattle.std.proofs.Common.{arith}
+use Rattle.stn_conflict.proofs.{Known.known_within, Relaxing.{network_of}}
 use Rattle.stn_conflict.proofs.ways.both_ways.Goals as goal
-
-pub of-requires : goal.of-requires
-of-requires g c =
-    among_events (c.args.base.now ++ c.args.extra.now) c.args.events (c.args.events + 1) refl
-    (network_of c.args.events c.args.base.now c.args.extra.now c.requires.begins c.requires.base_named c.requires.extra_named).named
 
 pub way-requires-clause-network : goal.way-requires-clause-network
 way-requires-clause-network g c =

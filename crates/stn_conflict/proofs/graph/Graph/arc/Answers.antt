@@ -20,8 +20,3 @@ returns g c =
       weight = e.weight ∙ ap (λ b. (arc b link.side).weight) is;
       ordered = rw is at e.ordered;
     }
-
-pub bound_in-bound-requires : goal.bound_in-bound-requires
-bound_in-bound-requires g c =
-    let s = c.self.inside in
-    omega (arith, c.requires, ap (λ (v : Searched). length v.bounds) c.self.view_is, length_facing s.rows.now.direction (take s.end (s.base.now ++ s.extra.now)), length-take s.end (s.base.now ++ s.extra.now))

@@ -15,12 +15,14 @@ invariant_of-self-then-not-branch g c =
       few = old.few;
       network = old.network;
       first = subst (λ l. AreFirstRows Forward is.events l (is.events + 1) c.extend.new.rows) whole c.extend.ensures.rows;
-      late = record {
-        tables = record { few = late.tables.few; far = late.tables.far; by = late.tables.by; fresh = ap length filled ∙ length-replicate (is.events + 1) true };
-        from = late.from;
-        estimates = late.estimates;
+      pending = record {
+        late = record {
+          tables = record { few = late.tables.few; far = late.tables.far; by = late.tables.by; among = late.tables.among; fresh = ap length filled ∙ length-replicate (is.events + 1) true };
+          from = late.from;
+          estimates = late.estimates;
+        };
+        relaxed = all_fresh is.events is.bounds.items c.extend.new.latest.far.items c.fill.new.self.items (is.events + 1) filled (among_events is.bounds.items is.events (is.events + 1) refl old.network.named);
       };
-      relaxed = all_fresh is.events is.bounds.items c.extend.new.latest.far.items c.fill.new.self.items (is.events + 1) filled (among_events is.bounds.items is.events (is.events + 1) refl old.network.named);
       tables = old.tables;
     }
 
@@ -36,8 +38,7 @@ invariant_of-self-2 g c =
       few = old.few;
       network = old.network;
       first = subst (λ l. AreFirstRows Forward is.events l (is.events + 1) c.extend.new.rows) whole c.extend.ensures.rows;
-      late = subst (λ l. IsSearch l 0 (is.events + 1) c.extend.new.latest) whole c.extend.ensures.late;
-      relaxed = λ link there listed stale. met link there;
+      pending = record { late = subst (λ l. IsSearch l 0 (is.events + 1) c.extend.new.latest) whole c.extend.ensures.late; relaxed = λ link there listed stale. met link there };
       tables = old.tables;
     }
 

@@ -21,12 +21,14 @@ invariant_of-result g c =
       few = c.requires.few;
       network = network;
       first = rw c.from.ensures at (c.in_ok-rows.ensures c.extend_from_slice.new.self.items);
-      late = record {
-        tables = record { few = omega arith; far = tables.far ∙ long; by = tables.by ∙ long; fresh = ap length filled ∙ length-replicate (c.args.events + 1) true };
-        from = c.begin.ensures.start ∙ c.origin.ensures;
-        estimates = estimates;
+      pending = record {
+        late = record {
+          tables = record { few = omega arith; far = tables.far ∙ long; by = tables.by ∙ long; among = rw long at tables.among; fresh = ap length filled ∙ length-replicate (c.args.events + 1) true };
+          from = c.begin.ensures.start ∙ c.origin.ensures;
+          estimates = estimates;
+        };
+        relaxed = all_fresh c.args.events c.extend_from_slice.new.self.items c.begin.new.self.far.items c.fill.new.self.items (c.args.events + 1) filled
+            (among_events c.extend_from_slice.new.self.items c.args.events (c.args.events + 1) refl network.named);
       };
-      relaxed = all_fresh c.args.events c.extend_from_slice.new.self.items c.begin.new.self.far.items c.fill.new.self.items (c.args.events + 1) filled
-          (among_events c.extend_from_slice.new.self.items c.args.events (c.args.events + 1) refl network.named);
       tables = rw (← c.from-3.ensures) c.in_ok-search.ensures;
     }

@@ -1,6 +1,6 @@
-use Rattle.std.proofs.{Common.{◌≡◌, ◌+◌, [], ◌∷◌, ◌++◌, true, set, refl, sym, subst, ap, length, take, ◌∙◌, arith}, Math.Seq.take-append_seam, lemmas.{Bool.true≢false, List.length-set}}
+use Rattle.std.proofs.{Common.{◌≡◌, ◌+◌, [], ◌∷◌, ◌++◌, refl, sym, subst, ap, length, take, ◌∙◌, arith}, Math.Seq.take-append_seam, lemmas.Bool.true≢false}
 use Rattle.stn_net.specs.{Difference.NamesEvents, Schedule.HasSchedule}
-use Rattle.stn_conflict.{specs.{declared.arcs.Direction.TheVariants.Forward, Listing.ListedBounds, Relaxation.{AreDistances, AreFirstRows, HasTables, IsRelaxedBut, IsSearch}}, proofs.{Relaxing.{distances_relaxed, estimates_push, network_more, relaxed_push}, Rows.{first_own, rows_longer}, network.Network.take.{Given.Over, Goals.After-deref}}}
+use Rattle.stn_conflict.{specs.{declared.arcs.Direction.TheVariants.Forward, Listing.ListedBounds, Relaxation.{AreDistances, AreFirstRows, HasTables, IsSearch}}, proofs.{Relaxing.{distances_relaxed, network_more}, Rows.{first_own, rows_longer}, Searches.tables_of, network.Network.take.{Given.Over, Goals.After-deref}}}
 use Rattle.stn_conflict.proofs.network.Network.take.Goals as goal
 
 -- the bound is about the events
@@ -10,6 +10,12 @@ named g c = subst (λ (l : ListedBounds). NamesEvents l.events c.args.bound) (sy
 -- the bounds, and it after them
 longer : (g : Over) (c : After-deref g) → c.deref.result.now ≡ c.self.inside.bounds.items ++ c.args.bound ∷ []
 longer g c = c.deref.ensures.value ∙ c.in_ok-push.ensures.items
+
+pub freshen-requires : goal.freshen-requires
+freshen-requires g c =
+    let t = c.self.invariant.pending.late.tables in
+    let events = ap (λ (l : ListedBounds). l.events) c.self.view_is in
+    record { tables = tables_of _ c.self.inside.latest t; named = (omega (arith, c.requires.from, events, t.far), omega (arith, c.requires.to, events, t.far)) }
 
 pub extend-fits-requires-clause-network : goal.extend-fits-requires-clause-network
 extend-fits-requires-clause-network g c =
@@ -22,34 +28,10 @@ extend-fits-requires-clause-rows g c =
     let is = c.self.inside in
     rw (longer g (goal.at.extend-fits-requires-clause-rows g c).After-deref) (rows_longer Forward is.events is.bounds.items (c.args.bound ∷ []) (is.events + 1) is.rows c.self.invariant.first)
 
-pub extend-fits-requires-clause-late : goal.extend-fits-requires-clause-late
-extend-fits-requires-clause-late g c =
-    let is = c.self.inside in
-    let old = c.self.invariant.late in
-    let place = (goal.at.extend-fits-requires-clause-late g c).After-deref in
-    rw (longer g place) (record {
-      tables = record {
-        few = old.tables.few;
-        far = old.tables.far;
-        by = old.tables.by;
-        fresh = length-set (set is.latest.fresh.items c.from-2.result true) c.from-3.result true ∙ length-set is.latest.fresh.items c.from-2.result true ∙ old.tables.fresh;
-      };
-      from = old.from;
-      estimates = estimates_push is.events 0 is.bounds.items c.args.bound is.latest.far.items old.tables.far (named g place) old.estimates;
-    })
-
-pub extend-fits-requires-clause-relaxed : goal.extend-fits-requires-clause-relaxed
-extend-fits-requires-clause-relaxed g c =
-    let is = c.self.inside in
-    let bound = c.args.bound in
-    let old = c.self.invariant in
-    let place = (goal.at.extend-fits-requires-clause-relaxed g c).After-deref in
-    let ends = named g place in
-    let from : c.from-2.result ≡ bound.from = c.from-2.ensures ∙ c.number.ensures.value ∙ c.from.ensures.value in
-    let to : c.from-3.result ≡ bound.to = c.from-3.ensures ∙ c.number-2.ensures.value ∙ c.to.ensures.value in
-    let relaxed : IsRelaxedBut is.events (is.bounds.items ++ bound ∷ []) is.latest.far.items (set (set is.latest.fresh.items bound.from true) bound.to true) =
-    relaxed_push is.events is.bounds.items bound is.latest.far.items is.latest.fresh.items (omega (arith, old.late.tables.fresh, ends.from)) (omega (arith, old.late.tables.fresh, ends.to)) old.relaxed in
-    rw (longer g place, from, to) relaxed
+pub extend-fits-requires-clause-pending : goal.extend-fits-requires-clause-pending
+extend-fits-requires-clause-pending g c =
+    let place = (goal.at.extend-fits-requires-clause-pending g c).After-deref in
+    rw (longer g place) (c.freshen.ensures c.self.inside.events c.self.inside.bounds.items (named g place) c.self.invariant.pending)
 
 pub invariant_of-self-in-Ok-true : goal.invariant_of-self-in-Ok-true
 invariant_of-self-in-Ok-true g c =
@@ -65,9 +47,11 @@ invariant_of-self-in-Ok-true g c =
       few = old.few;
       network = rw c.in_ok-push.ensures.items (network_more is.events is.bounds.items c.args.bound old.network (named g place));
       first = subst (λ l. AreFirstRows Forward is.events l (is.events + 1) c.extend-fits.new.rows) whole c.extend-fits.ensures.rows;
-      late = subst (λ l. IsSearch l 0 (is.events + 1) c.extend-fits.new.latest) whole c.extend-fits.ensures.late;
-      relaxed = λ link there listed stale. met link there;
-      tables = rw old.late.tables.far at c.copy_from.ensures.tables;
+      pending = record {
+        late = subst (λ l. IsSearch l 0 (is.events + 1) c.extend-fits.new.latest) whole c.extend-fits.ensures.late;
+        relaxed = λ link there listed stale. met link there;
+      };
+      tables = rw old.pending.late.tables.far at c.copy_from.ensures.tables;
     }
 
 pub invariant_of-self-2 : goal.invariant_of-self-2
@@ -82,18 +66,20 @@ invariant_of-self-2 g c =
     c.truncate.ensures.items ∙ ap (take c.len-count.result) c.in_ok-push.ensures.items ∙ ap (λ n. take n (is.bounds.items ++ c.args.bound ∷ [])) count ∙ take-append_seam is.bounds.items (c.args.bound ∷ []) in
     let rows : AreFirstRows Forward is.events (is.bounds.items ++ c.args.bound ∷ []) (is.events + 1) c.extend-fits.new.rows =
     subst (λ l. AreFirstRows Forward is.events l (is.events + 1) c.extend-fits.new.rows) (longer g place) c.extend-fits.ensures.rows in
-    let kept : HasTables (is.events + 1) saved = rw old.late.tables.far at c.copy_from.ensures.tables in
+    let kept : HasTables (is.events + 1) saved = rw old.pending.late.tables.far at c.copy_from.ensures.tables in
     rw back (record {
       few = old.few;
       network = old.network;
       first = rw (rows.faced, rows.choice, rows.stand.long) at (c.cut.ensures.rows is.bounds.items (c.args.bound ∷ []) count
           (first_own Forward is.events (is.bounds.items ++ c.args.bound ∷ []) (is.events + 1) c.extend-fits.new.rows rows));
-      late = record {
-        tables = rw kept.far at again.tables;
-        from = again.start ∙ c.copy_from.ensures.start ∙ old.late.from;
-        estimates = rw (again.far, c.copy_from.ensures.far) old.late.estimates;
+      pending = record {
+        late = record {
+          tables = rw kept.far at again.tables;
+          from = again.start ∙ c.copy_from.ensures.start ∙ old.pending.late.from;
+          estimates = rw (again.far, c.copy_from.ensures.far) old.pending.late.estimates;
+        };
+        relaxed = rw (again.far, again.fresh, c.copy_from.ensures.far, c.copy_from.ensures.fresh) old.pending.relaxed;
       };
-      relaxed = rw (again.far, again.fresh, c.copy_from.ensures.far, c.copy_from.ensures.fresh) old.relaxed;
       tables = kept;
     })
 

@@ -1,4 +1,4 @@
-use Rattle.std.proofs.Common.{◌≡◌, ◌+◌, ◌*◌, ◌≤◌, ◌++◌, length}
+use Rattle.std.proofs.Common.{◌+◌, ◌*◌, ◌≤◌, ◌++◌, length}
 use Rattle.stn_conflict.specs.Relaxation.{AreFirstRows}
 use Rattle.stn_conflict.proofs.outgoing.Rows.add.Given as goal
 

@@ -1,7 +1,7 @@
-use Rattle.std.{proofs.{Common.{◌≡◌, ℕ, ℤ, ◌+◌, ◌*◌, ◌<◌, ◌≤◌, Bool, true, false, le-ltb, List, length, refl, sym, subst, ap, ◌∙◌, arith}, lemmas.{Int.ints, Bool.false≢true}}, specs.Prelude.{◌||◌, ◌≤ℤ◌, ◌<ℤ◌, nat_lt, int_lt}}
+use Rattle.std.{proofs.{Common.{◌≡◌, ℕ, ℤ, ◌+◌, ◌*◌, ◌<◌, ◌≤◌, Bool, true, false, le-ltb, List, length, refl, sym, ap, ◌∙◌, arith}, lemmas.{Int.ints, Bool.false≢true}}, specs.Prelude.{◌||◌, ◌≤ℤ◌, ◌<ℤ◌, nat_lt, int_lt}}
 use Rattle.stn_time.specs.Time.{horizon}
 use Rattle.stn_net.specs.Difference.{Difference}
-use Rattle.stn_conflict.{specs.{declared.{links.Link.Link, outgoing.Look.Look}, Arcs.{arc, arc_of, bound_at, rank}, Directions.{faced, facing}, Relaxation.{IsListed, IsLook, NamesAmong}}, proofs.{Rows.{rows_kept, rows_over, rows_push}, Steps.{rank_within}, Turned.{bound_facing, length_facing, faced_among}, outgoing.Rows.add_next.{Given.Over, Goals.{After-side_of-arc, then-link-self+in_ok-push, else-link-self+else-weight-lt-HORIZON}}}}
+use Rattle.stn_conflict.{specs.{declared.{links.Link.Link, outgoing.Look.Look}, Arcs.{arc, arc_of, bound_at}, Directions.{faced, facing}, Relaxation.{IsListed, IsLook}}, proofs.{Rows.{rows_kept, rows_over, rows_push}, Steps.{rank_within}, Turned.{bound_facing, length_facing, faced_among}, outgoing.Rows.add_next.{Given.Over, Goals.{After-side_of-arc, then-link-self+in_ok-push, else-link-self+else-weight-lt-HORIZON}}}}
 use Rattle.stn_conflict.proofs.outgoing.Rows.add_next.Goals as goal
 
 -- the link begins at one of the events
@@ -36,9 +36,6 @@ unlisted place whole weight past wide = rw (le-ltb place whole past) (by_test (i
     by_test : (b : Bool) → int_lt weight horizon ≡ b → b ≡ false
     by_test false is = refl
     by_test true is = (let less : weight <ℤ horizon = grind (arith, ints) in absurd (omega (arith, ints)))
-
-pub index_mut-requires : goal.index_mut-requires
-index_mut-requires g c = omega (arith, among g (goal.at.index_mut-requires g c).After-side_of-arc, c.from.ensures, c.number.ensures.value, c.args.self.now.outgoing.ok.0)
 
 pub returns-in_err-push-clause-rows : goal.returns-in_err-push-clause-rows
 returns-in_err-push-clause-rows g c = λ bounds there is h.

@@ -1,6 +1,6 @@
-use Rattle.std.{proofs.{Common.{◌≡◌, ℕ, List, Bool, ◌<◌, length, set, sym, ap, ◌∙◌, arith}, lemmas.{Int.ints, List.get_or_read}}, specs.Prelude.{ℤ, pos, ◌≤ℤ◌, ◌<ℤ◌}}
+use Rattle.std.{proofs.{Common.{◌≡◌, inl, inr, ℕ, List, Bool, ◌+◌, ◌<◌, length, set, sym, ap, subst, ◌∙◌, arith}, lemmas.{Int.ints, Bool.cases_eq, List.{get_or_read, length-set, Elements.All-set}}}, specs.Prelude.{All, ℤ, pos, ◌<ℤ◌}}
 use Rattle.stn_net.specs.Schedule.{times_of}
-use Rattle.stn_conflict.{specs.Relaxation.{AreRelaxed, IsFloor}, proofs.{Lowering.{falls, floor_kept, relaxed_elsewhere}, Searches.unrefused, relaxation.Search.lower.{Given.Over, Goals.After-index_mut}}}
+use Rattle.stn_conflict.{specs.Relaxation.{AreRelaxed}, proofs.{Trying.begun_on, Lowering.{fallen_other, falls, floor_kept, relaxed_elsewhere}, Searches.unrefused, relaxation.Search.lower.{Given.Over, Goals.After-index_mut}}}
 use Rattle.stn_conflict.proofs.relaxation.Search.lower.Goals as goal
 
 -- the event's estimate was more
@@ -22,6 +22,32 @@ lowered g c =
     let second = c.get-2.ensures.within in
     let test = c.if-get.false in
     record { at = at; there = there; fresh_there = omega (arith, there, tables.far, tables.fresh); less = omega (arith, ints) }
+
+pub relax_until_met-requires-clause-begun : goal.relax_until_met-requires-clause-begun
+relax_until_met-requires-clause-begun g c =
+    let l = lowered g (goal.at.relax_until_met-requires-clause-begun g c).After-index_mut in
+    let self = c.args.self.now in
+    let begun = c.requires.begun in
+    let t = begun.tables in
+    let (low, floor, under) = c.requires.floor in
+    let start : c.from.result ≡ self.start = c.from.ensures ∙ c.number-2.ensures.value in
+    begun_on c.args.graph.now self.start _ begun (record {
+      few = rw t.far t.few;
+      far = length-set self.far.items _ _;
+      by = length-set self.by.items _ _ ∙ t.by ∙ sym t.far;
+      among = subst (λ n. All (λ x. x < n) (set self.by.items c.from-place.result c.from.result)) (sym t.far)
+          (All-set (λ x. x < c.args.graph.now.events + 1) self.by.items c.from-place.result c.from.result (rw start begun.start_named) t.among);
+      fresh = length-set self.fresh.items _ _ ∙ t.fresh ∙ sym t.far;
+    }) (elim (cases_eq self.start c.from-place.result) [
+      | inl same ↦
+          let own = begun.own in
+          let zero = floor.own in
+          let at = ap (times_of self.far.items) same in
+          let low_at = ap low (same ∙ l.at) in
+          let less = l.less in
+          absurd (omega (arith, ints))
+      | inr differs ↦ fallen_other self.far.items c.from-place.result c.args.most l.there l.less self.start differs ∙ begun.own
+    ])
 
 pub relax_until_met-requires-clause-relaxed : goal.relax_until_met-requires-clause-relaxed
 relax_until_met-requires-clause-relaxed g c =

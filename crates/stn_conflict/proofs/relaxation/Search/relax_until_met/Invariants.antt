@@ -1,5 +1,5 @@
-use Rattle.std.{proofs.Common.{◌≡◌, ◌+◌, ◌-◌, ◌≤◌, ℕ}, specs.Prelude.ℤ}
-use Rattle.stn_conflict.{specs.Relaxation.{IsBegun, IsRelaxedBut, Lowers}, proofs.Sweeps.{IsHighest, above}}
+use Rattle.std.{proofs.Common.{◌≡◌, ◌+◌, ◌-◌, ◌<◌, ◌≤◌, true, ℕ}, specs.Prelude.ℤ}
+use Rattle.stn_conflict.{specs.Relaxation.{IsBegun, IsRelaxedBut, Lowers, is_fresh}, proofs.Sweeps.{IsHighest, above}}
 use Rattle.stn_conflict.proofs.relaxation.Search.relax_until_met.Given as goal
 
 abbrev pub invariant-loop-event : goal.invariant-loop-event
@@ -8,8 +8,8 @@ invariant-loop-event g l = record {
   start : l.self.start ≡ l.fn.self.start;
   lowers : Lowers l.graph.bounds l.fn.self.start l.fn.self.far.items l.self.far.items;
   relaxed : IsRelaxedBut l.graph.whole l.graph.bounds l.self.far.items l.self.fresh.items;
-  few : l.self.sweeps ≤ l.graph.events;
-  counted : (top : ℕ → ℤ) → IsHighest l.graph.bounds l.fn.self.start l.fn.self.far.items top
+  few : l.self.sweeps ≤ l.graph.events + 1;
+  counted : (x : ℕ) → x < l.graph.events + 1 → is_fresh l.self.fresh.items x ≡ true → (top : ℕ → ℤ) → IsHighest l.graph.bounds l.fn.self.start l.fn.self.far.items top
       → above (l.graph.events + 1) top l.self.far.items + l.self.sweeps ≤ l.graph.events;
 }
 

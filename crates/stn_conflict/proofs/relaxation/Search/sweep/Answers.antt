@@ -1,5 +1,5 @@
-use Rattle.std.proofs.{Common.{◌≡◌, ◌<◌, true, length, refl, sym, subst, ◌∙◌, arith}, lemmas.{List.get_or_read, Bool.false≢true, Option.IfSome_then}}
-use Rattle.stn_conflict.{specs.Relaxation.{HasFallen, IsFloor, Lowers}, proofs.{Lowering.{AreSwept, all_swept, fallen_on, fallen_since, lowers_on, row_relaxed, swept_more, swept_over, turn_of}, Searches.{none_or, some_or}, relaxation.Search.sweep.Goals.{then-onward, else-onward, then-index+in_ok-found, else-index}}}
+use Rattle.std.proofs.{Common.{◌≡◌, ◌<◌, true, length, refl, sym, subst, ◌∙◌, arith}, lemmas.{List.get_or_read, Bool.false≢true}}
+use Rattle.stn_conflict.{specs.Relaxation.{IsFloor, Lowers}, proofs.{Lowering.{AreSwept, all_swept, lowers_on, row_relaxed, swept_more, swept_over, turn_of}, relaxation.Search.sweep.Goals.{then-onward, else-onward, then-index+in_ok-relax_from, else-index}}}
 use Rattle.stn_conflict.proofs.relaxation.Search.sweep.Goals as goal
 
 pub loop-index-preserved : goal.loop-index-preserved
@@ -23,34 +23,27 @@ loop-index-preserved g c =
     ] in
     let there : event < length fresh = omega (arith, within, c.count-count.ensures, h.begun.tables.fresh) in
     elim c.if-index.branch [
-      | then-index+in_ok-found w ↦
+      | then-index+in_ok-relax_from w ↦
           let new = w.relax_from.new.self in
           let far = w.relax_from.new.self.far.items in
-          let found = w.in_ok-found.found in
-          let e = w.relax_from.ensures in
-          let ok = w.in_ok-found.ensures in
+          let e = w.relax_from.ensures.relaxes in
+          let ok = w.in_ok-relax_from.ensures.relaxes in
           let step : Lowers bounds start mid far = subst (λ s. Lowers bounds s mid far) h.start e.lowers in
-          rw (w.self-is, w.last-is, w.or-last.ensures) (record {
-            begun = e.begun;
-            start = e.start ∙ h.start;
-            sweeps = e.sweeps ∙ h.sweeps;
+          rw w.self-is (record {
+            begun = rw w.relax_from.ensures.start e.begun;
+            start = w.relax_from.ensures.start ∙ h.start;
+            sweeps = w.relax_from.ensures.sweeps ∙ h.sweeps;
             lowers = lowers_on bounds start old mid far h.lowers step;
-            fell = some_or (HasFallen old far) found c.loop-index.last
-                (IfSome_then found ok.fell (λ event fell. fallen_since bounds start old mid far h.lowers step event fell))
-                (IfSome_then c.loop-index.last h.fell (λ event fell. fallen_on bounds start old mid far h.lowers step event fell));
-            same = none_or _ _ _ found c.loop-index.last ok.same h.same (λ now before. now ∙ before);
             relaxed = row_relaxed c.args.graph.now.whole bounds start event mid fresh far new.fresh.items h.relaxed step e.freshens ok.relaxed;
             swept = swept_more bounds start c.args.onward count index event old mid fresh far new.fresh.items turn there h.lowers step e.freshens h.swept;
           })
       | else-index w ↦
           let stale = sym (get_or_read fresh event _ there c.index.ensures true) ∙ w.if-index.false in
-          rw (w.self-is, w.last-is) (record {
+          rw w.self-is (record {
             begun = h.begun;
             start = h.start;
             sweeps = h.sweeps;
             lowers = h.lowers;
-            fell = h.fell;
-            same = h.same;
             relaxed = h.relaxed;
             swept = swept_over c.args.onward count index event old mid fresh turn stale h.swept;
           })
@@ -69,23 +62,21 @@ returns g c =
       sweeps = h.sweeps;
       lowers = h.lowers;
       refused = λ e. absurd (false≢true e);
-      fell = h.fell;
-      same = h.same;
       relaxed = h.relaxed;
       stale = λ x below same. all_swept c.args.onward count c.args.self.now.far.items far fresh
           (subst (λ n. AreSwept c.args.onward count n c.args.self.now.far.items far fresh) all h.swept) x (omega (arith, c.count-count.ensures)) same;
     }
 
-pub returns-in_err-found-clause-lowers : goal.returns-in_err-found-clause-lowers
-returns-in_err-found-clause-lowers g c =
+pub returns-in_err-relax_from-clause-lowers : goal.returns-in_err-relax_from-clause-lowers
+returns-in_err-relax_from-clause-lowers g c =
     let bounds = c.args.graph.now.bounds in
     let mid = c.loop-index.self.far.items in
     let far = c.relax_from.new.self.far.items in
     lowers_on bounds c.args.self.now.start c.args.self.now.far.items mid far c.loop-index.invariant.lowers
-    (subst (λ s. Lowers bounds s mid far) c.loop-index.invariant.start c.relax_from.ensures.lowers)
+    (subst (λ s. Lowers bounds s mid far) c.loop-index.invariant.start c.relax_from.ensures.relaxes.lowers)
 
-pub returns-in_err-found-clause-refused : goal.returns-in_err-found-clause-refused
-returns-in_err-found-clause-refused g c = λ e low floor.
+pub returns-in_err-relax_from-clause-refused : goal.returns-in_err-relax_from-clause-refused
+returns-in_err-relax_from-clause-refused g c = λ e low floor.
     let start = c.loop-index.invariant.start in
-    c.in_err-found.ensures.refused refl low
+    c.in_err-relax_from.ensures.relaxes.refused refl low
     (subst (λ s. IsFloor c.args.graph.now.bounds s c.loop-index.self.far.items low) (sym start) (c.loop-index.invariant.lowers.floors low floor))

@@ -1,5 +1,5 @@
-use Rattle.std.{proofs.Common.{◌≡◌, ◌+◌}, specs.Prelude.{IfSome, IfNone}}
-use Rattle.stn_conflict.{specs.Relaxation.{HasFallen, IsBegun, IsRelaxedBut, Lowers}, proofs.Lowering.AreSwept}
+use Rattle.std.proofs.Common.{◌≡◌, ◌+◌}
+use Rattle.stn_conflict.{specs.Relaxation.{IsBegun, IsRelaxedBut, Lowers}, proofs.Lowering.AreSwept}
 use Rattle.stn_conflict.proofs.relaxation.Search.sweep.Given as goal
 
 abbrev pub invariant-loop-index : goal.invariant-loop-index
@@ -8,8 +8,6 @@ invariant-loop-index g l = record {
   start : l.self.start ≡ l.fn.self.start;
   sweeps : l.self.sweeps ≡ l.fn.self.sweeps + 1;
   lowers : Lowers l.graph.bounds l.fn.self.start l.fn.self.far.items l.self.far.items;
-  fell : IfSome l.last (HasFallen l.fn.self.far.items l.self.far.items);
-  same : IfNone l.last (l.self.far.items ≡ l.fn.self.far.items);
   relaxed : IsRelaxedBut l.graph.whole l.graph.bounds l.self.far.items l.self.fresh.items;
   swept : AreSwept l.onward l.count l.index l.fn.self.far.items l.self.far.items l.self.fresh.items;
 }

@@ -1,6 +1,6 @@
-use Rattle.std.proofs.{Common.{◌≡◌, ◌+◌, [], ◌++◌, append-nil, refl, sym, subst, ap, ◌∙◌, length, arith}, lemmas.Int.ints}
-use Rattle.stn_net.specs.{Difference.Difference, Schedule.times_of}
-use Rattle.stn_conflict.{specs.{Directions.facing, Relaxation.{AreRelaxed, IsBegun, IsFloor, IsEnds, NamesAmong, Searched}}, proofs.{Narrowing.{ends_floor, ends_narrowed, ends_own, ends_relaxed}, Relaxing.among_events, Turned.{named_facing, network_facing}}}
+use Rattle.std.proofs.{Common.{◌+◌, append-nil, refl, sym, ap, ◌∙◌, arith}}
+use Rattle.stn_net.specs.{Schedule.times_of}
+use Rattle.stn_conflict.{proofs.{Narrowing.{ends_floor, ends_narrowed, ends_own, ends_relaxed}, Relaxing.among_events, Turned.{named_facing, network_facing}}}
 use Rattle.stn_conflict.proofs.windows.Ends.narrow.Goals as goal
 
 -- the graph is that of the given bounds

@@ -1,6 +1,6 @@
-use Rattle.std.proofs.{Common.{◌≡◌, inl, inr, ℕ, ◌+◌, [], ◌∷◌, ◌++◌, ◌<◌, ◌≤◌, length, take, refl, ap, sym, subst, ◌∙◌, arith}, lemmas.{Bool.cases_lt, List.{get_or_append_left, get_or_push, length-append, length-take, take-append-le, Elements.All-push}}}
+use Rattle.std.proofs.{Common.{◌≡◌, inl, inr, [], ◌∷◌, ◌++◌, length, take, refl, ap, sym, subst, ◌∙◌, arith}, lemmas.{Bool.cases_lt, List.{get_or_append_left, get_or_push, length-append, length-take, take-append-le, Elements.All-push}}}
 use Rattle.stn_net.specs.{Difference.{Difference, NamesEvents}, Schedule.HasSchedule}
-use Rattle.stn_conflict.specs.{Arcs.bound_at, Listing.ListedBounds, Relaxation.{AreSingle, IsEnds, IsNetwork}}
+use Rattle.stn_conflict.specs.{Listing.ListedBounds, Relaxation.{AreSingle, IsEnds}}
 use Rattle.stn_conflict.proofs.windows.Windows.narrow.Goals as goal
 
 pub invariant_of-self-2 : goal.invariant_of-self-2

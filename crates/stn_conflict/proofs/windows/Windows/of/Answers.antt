@@ -1,6 +1,17 @@
-use Rattle.std.proofs.{Common.{◌≡◌, ◌+◌, ◌++◌, length, ap, sym, subst, ◌∙◌, arith}, lemmas.List.take_all}
-use Rattle.stn_conflict.{specs.{declared.arcs.Direction.TheVariants.{Forward, Backward}, Relaxation.{AreSingle, IsEnds, IsNetwork}}, proofs.Relaxing.network_of}
+use Rattle.std.proofs.{Common.{◌≡◌, ◌++◌, ℕ, List, length, ap, ◌∙◌, arith}, lemmas.List.take_all}
+use Rattle.stn_net.specs.Difference.{Difference}
+use Rattle.stn_conflict.{specs.{declared.{arcs.Direction.{Direction, TheVariants.{Forward, Backward}}, windows.Ends.Ends}, Relaxation.{HasFound, IsEnds}}, proofs.Relaxing.network_of}
 use Rattle.stn_conflict.proofs.windows.Windows.of.Goals as goal
+
+-- the ends by all bounds
+ends_of : {A : Type 0} (direction : Direction) (events event : ℕ) (bounds : List Difference) (ends : Ends A) → event ≡ 0 → HasFound direction events bounds event ends.rows ends.search
+    → IsEnds direction events (length bounds) bounds ends
+ends_of direction events event bounds ends origin h = record {
+  rows_are = rw (take_all (length bounds) bounds (omega arith)) h.rows_are;
+  tables = h.tables;
+  start = h.start ∙ origin;
+  far = rw origin at h.far;
+}
 
 pub invariant_of-result : goal.invariant_of-result
 invariant_of-result g c =
@@ -15,13 +26,13 @@ invariant_of-result g c =
       network = rw (take_all (length (c.args.base.now ++ c.args.extra.now)) (c.args.base.now ++ c.args.extra.now) (omega arith)) network;
       named = network.named;
       single = λ place past there. absurd (omega (arith, past, there));
-      latest_are = rw c.in-Some.is at c.in_ok-latest.ensures;
-      earliest_are = rw c.in-Some-2.is at c.in_ok-earliest.ensures;
+      latest_are = ends_of Forward _ _ all _ c.origin-origin.ensures (rw c.in-Some.is at c.in_ok-latest.ensures);
+      earliest_are = ends_of Backward _ _ all _ c.origin-origin.ensures (rw c.in-Some-2.is at c.in_ok-earliest.ensures);
     })
 
 pub returns-clause-possible : goal.returns-clause-possible
 returns-clause-possible g c =
     let all = c.args.base.now ++ c.args.extra.now in
-    let ends : IsEnds Forward c.args.events (length (c.args.base.now ++ c.args.extra.now)) (c.args.base.now ++ c.args.extra.now) c.in-Some.latest = rw c.in-Some.is at c.in_ok-latest.ensures in
+    let ends = ends_of Forward _ _ all c.in-Some.latest c.origin-origin.ensures (rw c.in-Some.is at c.in_ok-latest.ensures) in
     let (time, s, at) = (ends.far.tightest 0 ends.far.start_named).attained in
     (time, s)

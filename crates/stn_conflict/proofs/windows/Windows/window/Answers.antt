@@ -1,6 +1,6 @@
-use Rattle.std.{proofs.{Common.{◌≡◌, ◌+◌, ◌<◌, pos, length, map, ap, sym, subst, ◌∙◌, arith}, lemmas.List.get_or_read}, specs.Prelude.{ℤ, neg_ℤ}}
-use Rattle.stn_net.{specs.{Schedule.times_of, Matrix.Tightest.IsTightest, Windows.Window.IsWindow}, proofs.WindowEnds.window_of_ends}
-use Rattle.stn_conflict.{specs.{Directions.turned, Listing.ListedBounds}, proofs.Turned.tightest_of_turned}
+use Rattle.std.{proofs.{Common.{◌≡◌, ◌<◌, pos, length, ap, subst, ◌∙◌, arith}, lemmas.List.get_or_read}, specs.Prelude.{neg_ℤ}}
+use Rattle.stn_net.{specs.{Schedule.times_of, Windows.Window.IsWindow}, proofs.WindowEnds.window_of_ends}
+use Rattle.stn_conflict.{specs.{Listing.ListedBounds}, proofs.Turned.tightest_of_turned}
 use Rattle.stn_conflict.proofs.windows.Windows.window.Goals as goal
 
 pub returns : goal.returns

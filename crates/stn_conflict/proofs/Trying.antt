@@ -1,0 +1,83 @@
+-- A way to an event by a link, tried against the event's estimate.
+use Rattle.std.{proofs.{Common.{◌≡◌, ◌⊎◌, inl, inr, ℕ, Bool, false, ◌<◌, List, length, sym, ap, ◌∙◌, arith}, lemmas.Int.ints}, specs.Prelude.{ℤ, pos, ◌+ℤ◌, ◌≤ℤ◌, All}}
+use Rattle.stn_net.specs.{Difference.Difference, Schedule.times_of}
+use Rattle.stn_conflict.{specs.{declared.outgoing.Look.Look, Relaxation.{AreBegun, AreTables, Freshens, IsFloor, IsKept, IsLook, IsLowered, IsRefused, IsRelaxedOf, Lowers, NamesAmong, Searched, is_fresh}}, proofs.{Tightness.link_among, Lowering.{lowers_none, freshens_none, lowered_at, freshened_at, fallen_other, relaxed_now}, Relaxing.below_way}}
+
+-- estimates that have begun have so still, if that of the start is kept
+pub begun_on : {by new_by : List ℕ} {fresh new_fresh : List Bool} (searched : Searched) (start : ℕ) {far : List ℤ} (new : List ℤ) → AreBegun searched start far by fresh
+    → AreTables (length far) new new_by new_fresh → times_of new start ≡ pos 0 → AreBegun searched start new new_by new_fresh
+begun_on searched start new begun tables own = record {
+  tables = rw begun.tables.far at tables;
+  network = begun.network;
+  kept = begun.kept;
+  named = begun.named;
+  start_named = begun.start_named;
+  own = own;
+}
+
+module _ (searched : Searched) (start event : ℕ) (here : ℤ) (look : Look) (far : List ℤ) (by : List ℕ) (fresh : List Bool) (new : List ℤ) (new_fresh : List Bool)
+    (begun : AreBegun searched start far by fresh) (is : IsLook searched.bounds event look) (most : times_of far event ≤ℤ here)
+    (still : is_fresh fresh event ≡ false → times_of far event ≡ here) where
+  abbrev bounds : List Difference
+  bounds = searched.bounds
+
+  -- what is so then
+  pub record Tried : Type 0 where
+    pub own : times_of new start ≡ pos 0
+    pub lowers : Lowers bounds start far new
+    pub freshens : Freshens far fresh new new_fresh
+    pub relaxed : IsRelaxedOf bounds new new_fresh look.link
+
+  named : All (NamesAmong (length far)) bounds
+  named = rw begun.tables.far begun.named
+
+  there : look.to < length far
+  there = rw is.to at (link_among bounds (length far) look.link named is.there).1
+
+  there_fresh : look.to < length fresh
+  there_fresh = omega (arith, there, begun.tables.far, begun.tables.fresh)
+
+  -- what a floor allows
+  allowed : (low : ℕ → ℤ) → IsFloor bounds start far low → low look.to ≤ℤ (here +ℤ look.weight)
+  allowed low h =
+      let below = below_way bounds start far look.link low named is.there h in
+      let at = ap low is.to in
+      let from = ap (times_of far) is.from in
+      let weight = is.weight in
+      omega (arith, ints)
+
+  tried_kept : IsKept look.to (here +ℤ look.weight) far fresh new new_fresh → Tried
+  tried_kept k = rw (k.far_is, k.fresh_is) (record {
+    own = begun.own;
+    lowers = lowers_none bounds start far;
+    freshens = freshens_none far fresh;
+    relaxed = λ stale.
+        let same = still (rw is.from at stale) in
+        let met = k.most in
+        rw (is.to, is.from, is.weight) (omega (arith, ints));
+  })
+
+  tried_lowered : IsLowered start look.to (here +ℤ look.weight) far fresh new new_fresh → Tried
+  tried_lowered k = rw (k.far_is, k.fresh_is) (record {
+    own = fallen_other far look.to (here +ℤ look.weight) there k.less start (λ same. k.apart (sym same)) ∙ begun.own;
+    lowers = lowered_at far look.to (here +ℤ look.weight) there k.less bounds start allowed;
+    freshens = freshened_at far look.to (here +ℤ look.weight) there k.less fresh there_fresh;
+    relaxed = relaxed_now far look.to (here +ℤ look.weight) there k.less bounds fresh look.link there_fresh (sym is.to)
+        (λ stale. let same = still (rw is.from at stale) in rw (is.from, is.weight) (omega (arith, ints)));
+  })
+
+  pub tried : (IsKept look.to (here +ℤ look.weight) far fresh new new_fresh) ⊎ (IsLowered start look.to (here +ℤ look.weight) far fresh new new_fresh) → Tried
+  tried (inl kept) = tried_kept kept
+  tried (inr lowered) = tried_lowered lowered
+
+  pub tried_refused : IsRefused start look.to (here +ℤ look.weight) far fresh new new_fresh → (low : ℕ → ℤ) → ¬ IsFloor bounds start far low
+  tried_refused k low h =
+      let most = allowed low h in
+      let less = k.less in
+      let zero = h.own in
+      let own = begun.own in
+      let within = h.within look.to there in
+      elim k.cause [
+        | inl same ↦ (let now = ap low same in let was = ap (times_of far) same in omega (arith, ints))
+        | inr beyond ↦ omega (arith, ints)
+      ]

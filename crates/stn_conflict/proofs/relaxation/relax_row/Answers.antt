@@ -1,0 +1,72 @@
+use Rattle.std.{proofs.{Common.{◌≡◌, inl, inr, ℕ, false, ◌+◌, ◌<◌, length, refl, sym, subst, ◌∙◌, arith}, lemmas.{Int.ints, Bool.cases_lt, List.{get_or_default, get_or_read}, Result.IfOk-from_err}}, specs.Prelude.{pos, ◌≤ℤ◌, slice_index_or}}
+use Rattle.stn_net.specs.Schedule.{times_of}
+use Rattle.stn_conflict.{specs.{declared.outgoing.Look.Look, Relaxation.{IsLook, IsRelaxedOf, is_fresh}}, proofs.{Tightness.link_among, Lowering.{freshens_on, lowers_on, still_relaxed}, Trying.{begun_on, tried, tried_refused}, relaxation.relax_row.{Given.Over, Goals.After-relax}}}
+use Rattle.stn_conflict.proofs.relaxation.relax_row.Goals as goal
+
+pub relax-requires : goal.relax-requires
+relax-requires g c =
+    let t = c.loop-look.invariant.begun.tables in
+    let is = c.row-look-items.ensures.each c.look-item.result (c.loop-look.look-index, c.loop-look-test.true, sym c.look-item.is) in
+    let named = link_among c.args.graph.now.bounds (c.args.graph.now.events + 1) c.look-item.result.link c.requires.begun.named is.there in
+    record {
+      tables = rw (← t.far) at t;
+      end = rw (t.far, ← is.to) named.1;
+      event = rw t.far c.requires.event;
+    }
+
+-- the next link begins at the event, whose estimate was read before
+abbrev Begins : (g : Over) → After-relax g → Type 0
+Begins g c = IsLook c.args.graph.now.bounds c.args.event c.look-item.result × (times_of c.loop-look.far c.args.event ≤ℤ c.index-far-event.result)
+    × (is_fresh c.loop-look.fresh c.args.event ≡ false → times_of c.loop-look.far c.args.event ≡ c.index-far-event.result)
+
+begins : (g : Over) (c : After-relax g) → Begins g c
+begins g c =
+    let h = c.loop-look.invariant in
+    let there : c.args.event < length c.args.far.now = omega (arith, c.requires.event, c.requires.begun.tables.far) in
+    let here : c.index-far-event.result ≡ times_of c.args.far.now c.args.event = get_or_read c.args.far.now _ _ there c.index-far-event.is (pos 0) in
+    let fall = h.lowers.fall c.args.event in (
+      c.row-look-items.ensures.each c.look-item.result (c.loop-look.look-index, c.loop-look-test.true, sym c.look-item.is),
+      omega (arith, ints),
+      λ stale. (h.freshens.kept c.args.event stale).1 ∙ sym here,
+    )
+
+pub loop-look-preserved : goal.loop-look-preserved
+loop-look-preserved g c =
+    let h = c.loop-look.invariant in
+    let ok = c.in_ok-relax.ensures in
+    let bounds = c.args.graph.now.bounds in
+    let start = c.args.start in
+    let looks = c.row-look-items.result.now in
+    let index = c.loop-look.look-index in
+    let old = c.loop-look.far in
+    let new = c.relax.new.far in
+    let fresh = c.relax.new.fresh in
+    let (is, most, still) = begins g (goal.at.loop-look-preserved g c).After-relax in
+    let t = tried c.args.graph.now start c.args.event c.index-far-event.result c.look-item.result old c.loop-look.by c.loop-look.fresh new fresh h.begun is most still ok.met in
+    let relaxed : (k : ℕ) (look : Look) → k < index + 1 → slice_index_or looks k look ≡ look → IsRelaxedOf bounds new fresh look.link = λ k look below at.
+    elim (cases_lt k index) [
+      | inl before ↦ λ stale. still_relaxed bounds start look.link old c.loop-look.fresh new fresh t.lowers t.freshens stale (h.relaxed k look before at)
+      | inr past ↦
+          let here : k ≡ index = omega arith in
+          let same : c.look-item.result ≡ look = c.look-item.is ∙ get_or_default looks index c.look-item.result look c.loop-look-test.true ∙ subst (λ n. slice_index_or looks n look ≡ look) here at in
+          subst (λ (l : Look). IsRelaxedOf bounds new fresh l.link) same t.relaxed
+    ] in
+    record {
+      begun = begun_on _ _ _ h.begun ok.tables t.own;
+      lowers = lowers_on bounds start c.args.far.now old new h.lowers t.lowers;
+      freshens = freshens_on bounds start c.args.far.now old new h.lowers t.lowers c.args.fresh.now c.loop-look.fresh fresh h.freshens t.freshens;
+      relaxed = relaxed;
+    }
+
+pub returns-in_err-relax : goal.returns-in_err-relax
+returns-in_err-relax g c =
+    let h = c.loop-look.invariant in
+    let none = c.in_err-relax.ensures.refused refl in
+    let (is, most, still) = begins g (goal.at.returns-in_err-relax g c).After-relax in
+    record {
+      begun = begun_on _ _ _ h.begun c.relax.ensures.tables (rw none.far_is h.begun.own);
+      lowers = rw none.far_is h.lowers;
+      freshens = rw (none.far_is, none.fresh_is) h.freshens;
+      refused = λ _ low floor. tried_refused _ _ _ _ _ _ _ _ _ _ h.begun is most still none low (h.lowers.floors low floor);
+      relaxed = IfOk-from_err _ _ c.from_residual.ensures.0;
+    }
