@@ -1,5 +1,5 @@
 -- What is said of events that are asked about depends on the live records alone.
-use Rattle.std.{proofs.Common.{◌≡◌, ℕ, ℤ, ◌+◌, Bool, not, ◌||◌, List, ◌++◌, map, subst}, specs.List.range_with_len}
+use Rattle.std.{proofs.Common.{rules, ◌≡◌, ℕ, ℤ, ◌+◌, Bool, not, ◌||◌, List, ◌++◌, map, subst}, specs.List.range_with_len}
 use Rattle.stn_lift.specs.PlanSource.{PlanSource, base_bounds, events_of}
 use Rattle.stn_net.specs.Difference.{Difference}
 use Rattle.stn_records.specs.Content.{Content, live_of}
@@ -9,8 +9,7 @@ use Rattle.stn_questions.{specs.{Among.{done_or_unasked, IsReadyAmong}, Ready.Is
 -- what holds by the live records of the one holds by those of the other
 pub same_along : (source : PlanSource) (s t : Content) → live_of s ≡ live_of t → (asked : ℕ → Bool) → (Holds : List Difference → List Bool → Type 0)
     → Holds (all_bounds source s) (done_or_unasked asked source s) → Holds (all_bounds source t) (done_or_unasked asked source t)
-same_along source s t live asked Holds is =
-    subst (λ (records : Entries). Holds (base_bounds source ++ bounds_of records) (map (λ event. says_done records event || not (asked event)) (range_with_len 0 (events_of source + 1)))) live is
+same_along source s t live asked Holds is = search rules
 
 -- so the same events are ready
 pub same_among : (source : PlanSource) (s t : Content) → live_of s ≡ live_of t → (asked : ℕ → Bool) (now : ℤ) (text : List ℕ)

@@ -1,5 +1,5 @@
 -- Bounds that have no schedule have a named cycle.
-use Rattle.std.{proofs.{Common.{ℕ, List, ◌∷◌, take}, lemmas.Int.by_lt_z}, specs.Prelude.{ℤ, pos, ◌+ℤ◌, All}}
+use Rattle.std.{proofs.{Common.{rules, ℕ, List, ◌∷◌, take}, lemmas.Int.by_lt_z}, specs.Prelude.{ℤ, pos, ◌+ℤ◌, All}}
 use Rattle.stn_net.specs.Difference.{Difference}
 use Rattle.stn_conflict.{specs.{declared.links.{Link.Link, Side.{Side, TheVariants.{Upper, Lower}}}, Arcs.{arc_of, bound_at, IsNegativeCycle}, Culprit.{IsCulprit, IsRefusedSide}, Named.IsNamedCycle}, proofs.CycleSums.named_negative}
 use Rattle.stn_questions.proofs.{Found.{AreFound, IsInOrder, IsFirstRefused, possible_found, tightest_found}, Levels.{ends_within, some_way}}
@@ -23,7 +23,7 @@ some_cycle bounds events place far first each =
     let link : Link = record { place = place; side = side } in
     let (from, to) = ends_within events bound side one.named in
     let (links, way) = some_way (take place bounds) events far first.before (arc_of bounds link).to to (arc_of bounds link).from from in
-    let culprit : IsCulprit bounds link = record { there = first.there; before = possible_found (take place bounds) events far first.before; refused = first.refused; side = refused } in
+    let culprit : IsCulprit bounds link = search rules in
     let named : IsNamedCycle bounds (link ∷ links) = (culprit, way) in (
       link ∷ links,
       named,

@@ -1,5 +1,5 @@
 -- What the searches of a plan's bounds find of the events that are left.
-use Rattle.std.{proofs.{Common.{◌≡◌, ℕ, ℤ, ◌+◌, ◌<◌, ◌≤◌, ◌≤ℤ◌, ◌<ℤ◌, Bool, true, List, [], ◌++◌, length, Option, Some, None, refl, ap, subst, ◌∙◌, arith}, lemmas.{Option.MatchOption-at_some, Int.ints, List.Elements.{All-append, All-nil}}}, specs.Prelude.{Vec, All, Result, Ok, Err, IfOk, MatchOption, is_some}}
+use Rattle.std.{proofs.{Common.{rules, ◌≡◌, ℕ, ℤ, ◌+◌, ◌<◌, ◌≤◌, ◌≤ℤ◌, ◌<ℤ◌, Bool, true, List, [], ◌++◌, length, Option, Some, None, refl, ap, subst, ◌∙◌, arith}, lemmas.{Option.MatchOption-at_some, Int.ints, List.Elements.{All-append, All-nil}}}, specs.Prelude.{Vec, All, Result, Ok, Err, IfOk, MatchOption, is_some}}
 use Rattle.stn_net.{specs.{Event.most_events, Difference.{Difference, NamesEvents}, Schedule.{HasSchedule, times_of}, Windows.{Dispatch.{IsLeft, IsReady, AreReadyTimes, CanWaitUntil}, Leading.IsLeastLatest, Soonest.{AreEarliest, AreLatest, AreSoonest}}}, proofs.Readiness.left_within}
 use Rattle.stn_lift.specs.PlanSource.{PlanSource, base_bounds, events_of, IsSoundSource}
 use Rattle.stn_records.specs.Content.{Content}
@@ -11,8 +11,7 @@ pub soonest_found : {A E : Type 0} (bounds all : List Difference) (events count 
     → IfOk result (λ found. MatchOption found (¬ CanWaitUntil bounds done now) (λ times. (length times.items ≡ events + 1) × AreSoonest bounds done now (times_of times.items)))
     → IfOk result (λ found. MatchOption found (¬ CanWaitUntil all done now) (λ times. AreSoonestOf all count done now times.items))
 soonest_found bounds all events count done now (Ok None) same many few none = subst (λ bs. ¬ CanWaitUntil bs done now) same none
-soonest_found bounds all events count done now (Ok (Some times)) same many few found =
-    record { long = found.0 ∙ ap (λ n. n + 1) many; few = omega (arith, many, few); soonest = subst (λ bs. AreSoonest bs done now (times_of times.items)) same found.1 }
+soonest_found bounds all events count done now (Ok (Some times)) same many few found = search rules
 soonest_found bounds all events count done now (Err fault) same many few found = tt
 
 -- what is there where the other case can't be
@@ -27,11 +26,7 @@ all_named source state sound live = All-append (NamesEvents (events_of source)) 
 
 -- where nothing is ready from now on, no event stands in the list
 pub none_ready : (bounds : List Difference) (done : List Bool) (now : ℤ) → ((event : ℕ) (time : ℤ) → now ≤ℤ time → ¬ IsReady bounds done event time) → AreReadyEvents bounds done now []
-none_ready bounds done now none = record {
-  times = All-nil (λ one. AreReadyTimes bounds done now one.event (Some (one.first, one.last)));
-  once = λ event time later ready. absurd (none event time later ready);
-  order = λ i j d before within. absurd (omega arith);
-}
+none_ready bounds done now none = search rules
 
 -- after the least latest time of the events that are left nothing is
 pub none_after_last : (bounds : List Difference) (events : ℕ) (done : List Bool) (latest : ℕ → ℤ) (now last : ℤ) → AreLatest bounds events latest → length done ≡ events + 1
@@ -57,23 +52,17 @@ IsLeastSoFar latest done limit (Some time) = IsLeastBelow latest done limit time
 module _ {A : Type 0} (bounds all : List Difference) (events count : ℕ) (found : Option (Vec ℤ A × Vec ℤ A)) (both : Vec ℤ A × Vec ℤ A) (same : bounds ≡ all) (many : events ≡ count) (is : found ≡ Some both) where
   pub found_earliest : MatchOption found (¬ HasSchedule bounds) (λ times. (length times.0.items ≡ events + 1) × AreEarliest bounds events (times_of times.0.items))
       → (length both.0.items ≡ count + 1) × AreEarliest all count (times_of both.0.items)
-  found_earliest told =
-      let (long, are) = MatchOption-at_some (¬ HasSchedule bounds) (λ (times : Vec ℤ A × Vec ℤ A). (length times.0.items ≡ events + 1) × AreEarliest bounds events (times_of times.0.items)) both is told in
-      (long ∙ ap (λ n. n + 1) many, subst (λ n. AreEarliest all n (times_of both.0.items)) many (subst (λ bs. AreEarliest bs events (times_of both.0.items)) same are))
+  found_earliest told = search rules
 
   pub found_latest : MatchOption found (¬ HasSchedule bounds) (λ times. (length times.1.items ≡ events + 1) × AreLatest bounds events (times_of times.1.items))
       → (length both.1.items ≡ count + 1) × AreLatest all count (times_of both.1.items)
-  found_latest told =
-      let (long, are) = MatchOption-at_some (¬ HasSchedule bounds) (λ (times : Vec ℤ A × Vec ℤ A). (length times.1.items ≡ events + 1) × AreLatest bounds events (times_of times.1.items)) both is told in
-      (long ∙ ap (λ n. n + 1) many, subst (λ n. AreLatest all n (times_of both.1.items)) many (subst (λ bs. AreLatest bs events (times_of both.1.items)) same are))
+  found_latest told = search rules
 
 pub found_soonest : {A : Type 0} (bounds all : List Difference) (events count : ℕ) (found : Option (Vec ℤ A)) (times : Vec ℤ A) (same : bounds ≡ all) (many : events ≡ count) (is : found ≡ Some times)
     (done : List Bool) (now : ℤ)
     → MatchOption found (¬ CanWaitUntil bounds done now) (λ found_times. (length found_times.items ≡ events + 1) × AreSoonest bounds done now (times_of found_times.items))
     → (length times.items ≡ count + 1) × AreSoonest all done now (times_of times.items)
-found_soonest bounds all events count found times same many is done now told =
-    let (long, are) = MatchOption-at_some (¬ CanWaitUntil bounds done now) (λ found_times. (length found_times.items ≡ events + 1) × AreSoonest bounds done now (times_of found_times.items)) times is told in
-    (long ∙ ap (λ n. n + 1) many, subst (λ bs. AreSoonest bs done now (times_of times.items)) same are)
+found_soonest bounds all events count found times same many is done now told = search rules
 
 -- bounds and live records' bounds, one after the other
 pub all_in : (source : PlanSource) (state : Content) (front back live : List Difference) → front ≡ base_bounds source → back ≡ live → live ≡ live_bounds state → front ++ back ≡ all_bounds source state

@@ -1,6 +1,6 @@
 -- Bounds that begin with the horizon bounds have the tightest differences, along each of which a chain leads, or a first bound with
 -- which they have no schedule.
-use Rattle.std.{proofs.{Common.{◌≡◌, ◌≢◌, ◌⊎◌, inl, inr, ℕ, zero, suc, ◌+◌, ◌-◌, ◌<◌, ◌≤◌, Bool, true, false, cond, eqb, eqb-true, List, [], ◌∷◌, ◌++◌, length, take, refl, sym, subst, ap, ◌∙◌, arith}, lemmas.{Bool.{cases_lt, eqb-false}, Int.{ints, by_lt_z}, List.{get_or_append_left, get_or_push, length_push, take-append-le, take_all, take_more, Elements.All-push}}}, specs.{Prelude.{ℤ, pos, neg_ℤ, ◌+ℤ◌, ◌-ℤ◌, ◌≤ℤ◌, int_lt, All}, Int.int_min}}
+use Rattle.std.{proofs.{Common.{rules, ◌≡◌, ◌≢◌, ◌⊎◌, inl, inr, ℕ, zero, suc, ◌+◌, ◌-◌, ◌<◌, ◌≤◌, Bool, true, false, cond, eqb, eqb-true, List, [], ◌∷◌, ◌++◌, length, take, refl, sym, subst, ap, ◌∙◌, arith}, lemmas.{Bool.{cases_lt, eqb-false}, Int.{ints, by_lt_z}, List.{get_or_append_left, get_or_push, length_push, take-append-le, take_all, take_more, Elements.All-push}}}, specs.{Prelude.{ℤ, pos, neg_ℤ, ◌+ℤ◌, ◌-ℤ◌, ◌≤ℤ◌, int_lt, All}, Int.int_min}}
 use Rattle.stn_time.specs.Time.{horizon}
 use Rattle.stn_net.{specs.{Difference.{Difference, NamesEvents}, Horizon.{horizon_bound, horizon_bounds}, Schedule.HasSchedule, Matrix.{Tightest.IsTightest, Closed.{IsClosed, IsWidest}, Way.{shorter, narrower, HasRoom}}, Windows.Window.IsWindow}, proofs.{WindowEnds.window_of_ends, Horizons.length-horizon_bounds, Tightest.{IsTight, row_is_schedule}, Closure.{narrower-closed, narrower-tight, schedule_before, schedule_last}, Widest.{widest-closed, widest-tight, horizon_named}}}
 use Rattle.stn_conflict.{specs.{declared.links.{Link.Link, Side.TheVariants.{Upper, Lower}}, Arcs.{Arc, arc, arc_of, bound_at, IsChain, weight_of}}, proofs.Chains.chain_before}
@@ -53,7 +53,7 @@ weight-append bounds (link ∷ links) others = omega (arith, ints, weight-append
 chain-onward : (bounds : List Difference) (bound : Difference) (links : List Link) (x y : ℕ) → IsChain bounds links x y
     → IsChain (bounds ++ bound ∷ []) links x y × (weight_of (bounds ++ bound ∷ []) links ≡ weight_of bounds links)
 chain-onward bounds bound links x y chain =
-    let front : take (length bounds) (bounds ++ bound ∷ []) ≡ bounds = take-append-le (length bounds) bounds (bound ∷ []) (omega arith) ∙ take_all (length bounds) bounds (omega arith) in
+    let front : take (length bounds) (bounds ++ bound ∷ []) ≡ bounds = search (rules, take-append-le, take_all) in
     let (whole, weighs) = chain_before (bounds ++ bound ∷ []) (length bounds) links x y (subst (λ l. IsChain l links x y) (sym front) chain) in
     (whole, sym weighs ∙ ap (λ l. weight_of l links) front)
 
@@ -148,7 +148,7 @@ module _ (events : ℕ) where
       → (links : List Link) × IsChain (horizon_bounds events) links x y × (weight_of (horizon_bounds events) links ≡ cond a (pos 0) (cond b (pos 0) horizon))
   away x y true b e f xs ys =
       let (links, chain, weighs) = home x xs in
-      (links, subst (λ z. IsChain (horizon_bounds events) links x z) (sym (eqb-true y 0 e)) chain, weighs)
+      search rules
   away x y false true e f xs ys = ([], eqb-true x y f, refl)
   away x zero false false e f xs ys = absurd (eqb-false zero 0 e refl)
   away x (suc y) false false e f xs ys =
@@ -162,12 +162,7 @@ module _ (events : ℕ) where
       )
 
   found_first : AreFound (horizon_bounds events) events widest
-  found_first = record {
-    named = horizon_named events;
-    closed = widest-closed events widest (widest_is events);
-    tight = widest-tight events widest (widest_is events);
-    along = λ x y xs ys. away x y (eqb y 0) (eqb x y) refl refl xs ys;
-  }
+  found_first = search (rules, horizon_named, widest-closed, widest_is, widest-tight, away)
 
 -- ---- any bounds
 -- the first bound with which the bounds have no schedule, and the tightest differences before it
@@ -180,10 +175,7 @@ abbrev pub FoundOrRefused : List Difference → ℕ → ℕ → Type 0
 FoundOrRefused bounds events count = ((far : ℕ → ℕ → ℤ) × AreFound (take count bounds) events far) ⊎ ((place : ℕ) × (far : ℕ → ℕ → ℤ) × IsFirstRefused bounds events place far)
 
 room_or_none : (far : ℕ → ℕ → ℤ) (bound : Difference) → HasRoom far bound ⊎ (¬ HasRoom far bound)
-room_or_none far bound =
-    by_lt_z (far bound.to bound.from) (neg_ℤ bound.hi) (λ below. inr (λ room. omega (arith, ints, below, room.upper)))
-    (λ upper. by_lt_z (far bound.from bound.to) bound.lo (λ below. inr (λ room. omega (arith, ints, below, room.lower)))
-    (λ lower. inl (record { upper = upper; lower = lower })))
+room_or_none far bound = search rules
 
 none_without_room : (bounds : List Difference) (events : ℕ) (far : ℕ → ℕ → ℤ) (bound : Difference) → AreFound bounds events far → NamesEvents events bound → ¬ HasRoom far bound
     → ¬ HasSchedule (bounds ++ bound ∷ [])
@@ -192,7 +184,7 @@ none_without_room bounds events far bound found named none (time, is) =
     let met = schedule_last bounds bound time is in
     let forth = found.tight.sound time before bound.from bound.to named.from named.to in
     let back = found.tight.sound time before bound.to bound.from named.to named.from in
-    none (record { upper = omega (arith, ints); lower = omega (arith, ints) })
+    omega (arith, ints)
 
 found_up_to : (events : ℕ) (bounds : List Difference) → take events bounds ≡ horizon_bounds events → All (IsInOrder events) bounds
     → (more count : ℕ) → count ≡ events + more → count ≤ length bounds → FoundOrRefused bounds events count
@@ -200,12 +192,11 @@ found_up_to events bounds begins each zero count is few =
     let e : events ≡ count = omega arith in
     inl (widest, subst (λ (l : List Difference). AreFound l events widest) (sym begins ∙ ap (λ n. take n bounds) e) (found_first events))
 found_up_to events bounds begins each (suc more) count is few =
-    let place = events + more in
     let there : events + more < length bounds = omega arith in
     let bound = bound_at bounds (events + more) in
     let one : IsInOrder events (bound_at bounds (events + more)) = each (events + more) _ there in
     let e : (events + more) + 1 ≡ count = omega arith in
-    let pushed : take (events + more) bounds ++ bound_at bounds (events + more) ∷ [] ≡ take count bounds = sym (take_more bounds (events + more) _ there) ∙ ap (λ n. take n bounds) e in
+    let pushed : take (events + more) bounds ++ bound_at bounds (events + more) ∷ [] ≡ take count bounds = cc (take_more bounds (events + more) _ there) in
     elim (found_up_to events bounds begins each more (events + more) refl (omega arith)) [
       | inr refused ↦ inr refused
       | inl (far, found) ↦ elim (room_or_none far bound) [

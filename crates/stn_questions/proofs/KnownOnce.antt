@@ -1,5 +1,5 @@
 -- The known ids, each once and in order.
-use Rattle.std.{proofs.{Common.{◌≡◌, Bool, true, false, ◌&&◌, ◌||◌, eqb, List, [], ◌∷◌, ◌++◌, Ordering, Less, Equal, Greater, is_eq, ◌<◌, refl, sym, ap, subst, ◌∙◌, ◌↔◌, IsTrue, map, arith}, lemmas.{Bool.{false≢true, eq-eqb, ne_eqb, Decides.same_from_decides}, List.{Folds.{Any-from_list_any, list_any-from_Any}, Sorted.{Contains-permutation, IsPermutation-sym}, Kept.{Contains-dedup, Contains-from_dedup, IsStrictlySortedBy-dedup}}, Map.{Keys.{sorted_head, sorted_tail}, Views.{Contains-from_any, list_any-from_Contains}}}, Math.Bool.{or_assoc, or_comm}}, specs.{Cmp.{IsEquivalence, Equal-is, eq_by_cmp_equiv, ranks}, List.{AllByRecursion, Any, Contains, dedup, list_any, Sorted.{IsPermutation, IsSorted, IsStrictlySortedBy}}, Set.is_member, FinMap.contains_key-keys, Ordering.{MatchOrdering, nat_cmp, ordering_then, ordering_reverse}, Bool.Decides}}
+use Rattle.std.{proofs.{Common.{rules, ◌≡◌, Bool, true, false, ◌&&◌, ◌||◌, eqb, List, [], ◌∷◌, ◌++◌, Ordering, Less, Equal, Greater, is_eq, ◌<◌, refl, sym, ap, subst, ◌∙◌, ◌↔◌, IsTrue, map, arith}, lemmas.{Bool.{false≢true, eq-eqb, ne_eqb, Decides.same_from_decides}, List.{Folds.{Any-from_list_any, list_any-from_Any}, Sorted.{Contains-permutation, IsPermutation-sym}, Kept.{Contains-dedup, Contains-from_dedup, IsStrictlySortedBy-dedup}}, Map.{Keys.{sorted_head, sorted_tail}, Views.{Contains-from_any, list_any-from_Contains}}}, Math.Bool.{or_assoc, or_comm}}, specs.{Cmp.{IsEquivalence, Equal-is, eq_by_cmp_equiv, ranks}, List.{AllByRecursion, Any, Contains, dedup, list_any, Sorted.{IsPermutation, IsSorted, IsStrictlySortedBy}}, Set.is_member, FinMap.contains_key-keys, Ordering.{MatchOrdering, nat_cmp, ordering_then, ordering_reverse}, Bool.Decides}}
 use Rattle.stn_records.{specs.{Id.{SiteCounter, id_cmp}, Content.{Content, is_known, same_ids}, ContentLaws.{ids_total, ids_exact, ids_decide}}, proofs.{KnownIds.member-append, Replaced.with_ids_member}}
 use Rattle.std.specs.FinMap as fin
 use Rattle.stn_questions.specs.Records.{AreKnown}
@@ -71,10 +71,7 @@ below_all x y (z ∷ ids) less h = (ids_total.trans x y z less h.0, below_all x 
 -- the least id of the one is that of the other
 lacks_less : (x y : SiteCounter) (xs ys : List SiteCounter) → id_cmp x y ≡ Less → AllByRecursion (λ z. id_cmp y z ≡ Less) ys
     → (is_member same_ids (x ∷ xs) x ≡ is_member same_ids (y ∷ ys) x) → ⊥
-lacks_less x y xs ys less greater same =
-    let here : is_member same_ids (x ∷ xs) x ≡ true = ap (λ t. t || is_member same_ids xs x) (laws.refl x) in
-    let not_there : is_member same_ids (y ∷ ys) x ≡ false = none_below x (y ∷ ys) (less, below_all x y ys less greater) in
-    false≢true (sym not_there ∙ sym same ∙ here)
+lacks_less x y xs ys less greater same = search (rules, laws, none_below, below_all, false≢true)
 
 first_same : (x y : SiteCounter) (xs ys : List SiteCounter) → AllByRecursion (λ z. id_cmp x z ≡ Less) xs → AllByRecursion (λ z. id_cmp y z ≡ Less) ys
     → ((q : SiteCounter) → is_member same_ids (x ∷ xs) q ≡ is_member same_ids (y ∷ ys) q) → x ≡ y

@@ -1,5 +1,5 @@
 -- How long the steps of a plan last, by its bounds.
-use Rattle.std.{proofs.{Common.{◌≡◌, ℕ, ℤ, zero, suc, ◌+◌, ◌*◌, ◌<◌, ◌≤◌, List, [], ◌∷◌, ◌++◌, length, drop, get_or, Result, Ok, Err, refl, sym, ap, ◌∙◌, arith, length-append, length-drop, ⊎_elim}, lemmas.{List.{get_or-drop, get_or_append_left, get_or-append_right, get_or_at}, Bool.cases_lt}}, specs.Result.result_unwrap_or}
+use Rattle.std.{proofs.{Common.{rules, ◌≡◌, ℕ, ℤ, zero, suc, ◌+◌, ◌*◌, ◌<◌, ◌≤◌, List, [], ◌∷◌, ◌++◌, length, drop, get_or, Result, Ok, Err, refl, sym, ap, ◌∙◌, arith, length-append, length-drop, ⊎_elim}, lemmas.{List.{get_or-drop, get_or_append_left, get_or-append_right, get_or_at}, Bool.cases_lt}}, specs.Result.result_unwrap_or}
 use Rattle.stn_lift.{proofs.{FewBounds.length-duration_bounds, Steps.length-activities}, specs.{declared.{plan.fault.PlanFault.PlanFault, fault.{LiftFault.LiftFault, BaseFault.BaseFault}}, Plan.Steps.{PlannedStep, plan_of}, Activities.{Activity, activities}, BaseBounds.{duration_bound, duration_bounds, duration_of, events_interfere, event_times, orders, lifted_bounds}, PlanSource.{files, of_lift, steps_in, lifted, activities_of, source_with, base_of, base_bounds, events_of, IsSoundSource}}}
 use Rattle.stn_net.{specs.{Difference.Difference, Horizon.horizon_bounds, Schedule.times_of}, proofs.Horizons.length-horizon_bounds}
 use Rattle.stn_pddl.specs.{declared.fault.DomainFault.DomainFault, Schemas.ActionSchema, Domains.domain_of}
@@ -38,7 +38,7 @@ one_step_each : (domain plan : List ℕ) → base_of (files domain plan) ≡ Ok 
 unfolding lifted activities_of
 one_step_each domain plan based =
     let found = has_base domain plan (lifted domain plan) based in
-    same_count (domain_of domain) (plan_of plan) found.0 found.1 ∙ ap (λ given. length (result_unwrap_or given [])) (sym found.1)
+    cc (same_count (domain_of domain) (plan_of plan) found.0 found.1)
 
 -- the text of its plan was read
 read_in : (actions : Result (List ActionSchema) DomainFault) (plan : Result (List PlannedStep) PlanFault) (found : List Activity)
@@ -49,42 +49,21 @@ read_in (Ok actions) (Ok steps) found e = refl
 
 pub plan_was_read : (domain plan : List ℕ) → base_of (files domain plan) ≡ Ok (files domain plan) → plan_of plan ≡ Ok (planned_steps plan)
 unfolding lifted
-plan_was_read domain plan based =
-    let found = has_base domain plan (lifted domain plan) based in
-    read_in (domain_of domain) (plan_of plan) found.0 found.1
+plan_was_read domain plan based = search rules
 
 -- after the horizon bounds come those of the durations
 bounds_last : (first middle last : List Difference) (events place : ℕ) (d : Difference) → length first ≡ events → place < length middle
     → get_or (drop events ((first ++ middle) ++ last)) place d ≡ get_or middle place d
-bounds_last first middle last events place d count within =
-    get_or-drop events ((first ++ middle) ++ last) place d
-    ∙ get_or_append_left (first ++ middle) last d (events + place) (omega (arith, length-append first middle))
-    ∙ get_or-append_right first middle events (events + place) d count (omega arith)
-    ∙ ap (λ n. get_or middle n d) (omega arith)
+bounds_last first middle last events place d count within = search (rules, get_or-drop, get_or_append_left, length-append, get_or-append_right)
 
 lifted_last : (steps : List Activity) (events place : ℕ) → events ≡ 2 * length steps → place < length steps
     → least_of (drop events (lifted_bounds steps)) place ≡ duration_of steps place
-lifted_last steps events place e within =
-    ap (λ (bound : Difference). bound.lo)
-    (bounds_last (horizon_bounds (2 * length steps)) (duration_bounds (duration_of steps) (length steps))
-    (orders (events_interfere steps) (times_of (event_times steps)) (2 * length steps) (2 * length steps)) events place _
-    (length-horizon_bounds (2 * length steps) ∙ sym e) (omega (arith, length-duration_bounds (duration_of steps) (length steps)))
-    ∙ duration_at (duration_of steps) (length steps) place _ within)
+lifted_last steps events place e within = search (rules, bounds_last, length-horizon_bounds, length-duration_bounds, duration_at)
 
 lifted_length : (steps : List Activity) (events : ℕ) → events ≡ 2 * length steps → length steps ≤ length (drop events (lifted_bounds steps))
-lifted_length steps events e =
-    let first = horizon_bounds (2 * length steps) in
-    let middle = duration_bounds (duration_of steps) (length steps) in
-    let last = orders (events_interfere steps) (times_of (event_times steps)) (2 * length steps) (2 * length steps) in
-    omega (arith, length-drop events ((first ++ middle) ++ last), length-append (first ++ middle) last, length-append first middle, length-horizon_bounds (2 * length steps), length-duration_bounds (duration_of steps) (length steps))
+lifted_length steps events e = search (rules, length-drop, length-append, length-horizon_bounds, length-duration_bounds)
 
 -- what lies after the horizon bounds of a plan in a domain
 pub durations_last : (domain plan : List ℕ) (events : ℕ) → events ≡ events_of (files domain plan) → IsSoundSource (files domain plan)
     → AreDurations domain plan (drop events (base_bounds (files domain plan)))
-durations_last domain plan events e sound =
-    let count = one_step_each domain plan sound.based in
-    let steps = activities_of domain plan in
-    record {
-      one_each = omega (arith, count, lifted_length steps events e);
-      lasting = λ place within. lifted_last steps events place e (omega (arith, count, within));
-    }
+durations_last domain plan events e sound = search (rules, one_step_each, lifted_length, lifted_last)

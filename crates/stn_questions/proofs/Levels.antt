@@ -1,5 +1,5 @@
 -- Where there are tightest differences along which chains lead, each event has its level and its way.
-use Rattle.std.{proofs.{Common.{◌≡◌, inl, inr, ℕ, zero, suc, ◌+◌, ◌*◌, ◌<◌, ◌≤◌, List, [], ◌∷◌, ◌++◌, length, refl, sym, subst, ap, ◌∙◌, arith}, lemmas.{Bool.{cases_lt, cases_eq}, Int.ints, List.length_push}}, specs.{Prelude.{ℤ, ◌+ℤ◌, ◌≤ℤ◌}, List.AllByRecursion}}
+use Rattle.std.{proofs.{Common.{rules, ◌≡◌, inl, inr, ℕ, zero, suc, ◌+◌, ◌*◌, ◌<◌, ◌≤◌, List, [], ◌∷◌, ◌++◌, length, refl, sym, subst, ap, ◌∙◌, arith}, lemmas.{Bool.{cases_lt, cases_eq}, Int.ints, List.length_push}}, specs.{Prelude.{ℤ, ◌+ℤ◌, ◌≤ℤ◌}, List.AllByRecursion}}
 use Rattle.stn_time.proofs.Each.{each_parted, each_pushed}
 use Rattle.stn_net.{specs.Difference.{Difference, NamesEvents}, proofs.Told.{Told, both_told, told_as, same_told, least_below}}
 use Rattle.stn_conflict.{specs.{declared.links.{Link.Link, Side.{Side, TheVariants.{Upper, Lower}}}, Arcs.{arc, arc_of, bound_at, IsChain, weight_of}, Named.{IsTight, IsTightChain, IsLevel, IsLevelStep, IsFirstStep, IsWay}}, proofs.{Tightness.{link_reaches, tight_from_sum, sum_from_tight}, Chains.{chain-push, chain-unpush, last_of}, OneCycle.level_unique, Steps.rank_within}}
@@ -41,7 +41,7 @@ module _ (bounds : List Difference) (events : ℕ) (far : ℕ → ℕ → ℤ) (
   some_tight_chain x within =
       let (links, chain, weighs) = found.along start x start_within within in
       let itself = found.closed.itself start start_within in
-      (links, record { chain = chain; tight = tight_along links start x chain (omega (arith, ints)) })
+      search (rules, tight_along, ints)
 
   -- a chain of no links is at its start
   none_long : (links : List Link) (x : ℕ) → IsChain bounds links start x → length links ≡ 0 → start ≡ x
@@ -159,25 +159,19 @@ module _ (bounds : List Difference) (events : ℕ) (far : ℕ → ℕ → ℤ) (
       let few = low_is.least before.0 before.1 in
       let (links, chain, long) = push low x link (record { tight = last.tight; ends = last.ends; before = low_is.reached }) in
       let many = is.least links chain in
-      let same : low ≡ level = omega (arith, before.2, few, many, long) in (
-        link,
-        (
-          record { tight = last.tight; level = (level, subst (IsLevel bounds start (arc_of bounds link).from) same low_is, subst (λ z. IsLevel bounds start z (suc level)) (sym last.ends) is) },
-          last.ends,
-        ),
-      )
+      let same : low ≡ level = omega (arith, before.2, few, many, long) in search rules
 
   way_by_level : (level x : ℕ) → IsLevel bounds start x level → (links : List Link) × IsWay bounds start x links
   way_by_level zero x is = let (links, chain, long) = is.reached in ([], record { chain = none_long links x chain.chain long; first = tt })
   way_by_level (suc level) x is =
       let some = some_step level x is in
-      let told : (link : Link) → Told (LeadsTo x link) = λ link. both_told (IsLevelStep bounds start link) _ (step_told link) (number_told _ x) in
+      let told : (link : Link) → Told (LeadsTo x link) = search (rules, both_told, step_told, number_told) in
       let (link, (step, ends), none) = first_of_some (LeadsTo x) told some.0 some.1 in
       let (low, from, to) = step.level in
-      let same : suc low ≡ suc level = level_unique bounds start x (suc low) (suc level) (subst (λ z. IsLevel bounds start z (suc low)) ends to) is in
+      let same : suc low ≡ suc level = search rules in
       let lower : low ≡ level = omega (arith, same) in
       let (links, way) = way_by_level level (arc_of bounds link).from (subst (IsLevel bounds start (arc_of bounds link).from) lower from) in
-      let first : IsFirstStep bounds start link = record { step = step; first = λ other before alike is_step. none other before (is_step, alike ∙ ends) } in (
+      let first : IsFirstStep bounds start link = search rules in (
         links ++ link ∷ [],
         record {
           chain = subst (λ z. IsChain bounds (links ++ link ∷ []) start z) ends (chain-push bounds links link start _ way.chain step.tight.there refl);

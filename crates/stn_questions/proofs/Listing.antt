@@ -1,5 +1,5 @@
 -- Texts that grow by a line.
-use Rattle.std.{proofs.{Common.{◌≡◌, ℕ, ℤ, zero, suc, ◌+◌, List, [], ◌∷◌, ◌++◌, length, map, take, get_or, ◌<◌, refl, sym, ap, ◌∙◌, arith, append_assoc}, lemmas.List.{append-nil, take_more, length-map, length-take, get_or_read, map_more, Concat.flat_map-append}}, specs.List.{flat_map, range_with_len}}
+use Rattle.std.{proofs.{Common.{rules, ◌≡◌, ℕ, ℤ, zero, suc, ◌+◌, List, [], ◌∷◌, ◌++◌, length, map, take, get_or, ◌<◌, refl, sym, ap, ◌∙◌, arith, append_assoc}, lemmas.List.{append-nil, take_more, length-map, length-take, get_or_read, map_more, Concat.flat_map-append}}, specs.List.{flat_map, range_with_len}}
 use Rattle.stn_net.specs.Difference.{Difference}
 use Rattle.stn_lift.specs.Plan.Steps.{PlannedStep}
 use Rattle.stn_site.specs.Lines.{line}
@@ -14,40 +14,28 @@ line_in_parts front first second third fourth fifth t1 t2 t3 t4 t5 t6 a b c d e 
 -- the lines of one step more
 pub step_lines-push : (duration : ℕ → ℤ) (before place : ℕ) (steps : List PlannedStep) (step : PlannedStep) → before + length steps ≡ place
     → step_lines duration before (steps ++ step ∷ []) ≡ step_lines duration before steps ++ step_line (place + 1) step (duration place)
-step_lines-push duration before place [] step e =
-    append-nil (step_line (before + 1) step (duration before)) ∙ ap (λ n. step_line (n + 1) step (duration n)) (omega (arith, e))
+step_lines-push duration before place [] step e = search rules
 step_lines-push duration before place (first ∷ steps) step e =
-    ap (λ rest. step_line (before + 1) first (duration before) ++ rest) (step_lines-push duration (before + 1) place steps step (omega (arith, e)))
-    ∙ sym (append_assoc (step_line (before + 1) first (duration before)) (step_lines duration (before + 1) steps) (step_line (place + 1) step (duration place)))
+    cc (step_lines-push duration (before + 1) place steps step (omega (arith, e)), append_assoc (step_line (before + 1) first (duration before)) (step_lines duration (before + 1) steps) (step_line (place + 1) step (duration place)))
 
 -- steps that last as long have the same lines
 pub step_lines-same : (one other : ℕ → ℤ) (before : ℕ) (steps : List PlannedStep) → ((place : ℕ) → place < before + length steps → one place ≡ other place)
     → step_lines one before steps ≡ step_lines other before steps
 step_lines-same one other before [] same = refl
 step_lines-same one other before (step ∷ steps) same =
-    ap (λ duration. step_line (before + 1) step duration ++ step_lines one (before + 1) steps) (same before (omega arith))
-    ∙ ap (λ rest. step_line (before + 1) step (other before) ++ rest) (step_lines-same one other (before + 1) steps (λ place within. same place (omega arith)))
+    cc (same before (omega arith), step_lines-same one other (before + 1) steps (λ place within. same place (omega arith)))
 
 -- the names of one step more
 name_lines-push : (before place : ℕ) (steps : List PlannedStep) (step : PlannedStep) → before + length steps ≡ place
     → name_lines before (steps ++ step ∷ []) ≡ name_lines before steps ++ line (step_name_text (place + 1) step)
 name_lines-push before place [] step e = append-nil (line (step_name_text (before + 1) step)) ∙ ap (λ n. line (step_name_text (n + 1) step)) (omega (arith, e))
 name_lines-push before place (first ∷ steps) step e =
-    ap (λ rest. line (step_name_text (before + 1) first) ++ rest) (name_lines-push (before + 1) place steps step (omega (arith, e)))
-    ∙ sym (append_assoc (line (step_name_text (before + 1) first)) (name_lines (before + 1) steps) (line (step_name_text (place + 1) step)))
+    cc (name_lines-push (before + 1) place steps step (omega (arith, e)), append_assoc (line (step_name_text (before + 1) first)) (name_lines (before + 1) steps) (line (step_name_text (place + 1) step)))
 
 pub names_grown : {X : Type 0} (view : X → PlannedStep) (xs : List X) (place : ℕ) (x : X) (front old new : List ℕ) → place < length xs → x ≡ get_or xs place x
     → old ≡ front ++ name_lines 0 (map view (take place xs)) → new ≡ old ++ line (step_name_text (place + 1) (view x))
     → new ≡ front ++ name_lines 0 (map view (take (place + 1) xs))
-names_grown view xs place x front old new within is was grown =
-    let seen = map view (take place xs) in
-    let more : map view (take (place + 1) xs) ≡ seen ++ view x ∷ [] =
-    map_more view xs place x within ∙ ap (λ y. seen ++ view y ∷ []) (sym is) in
-    grown
-    ∙ ap (λ text. text ++ line (step_name_text (place + 1) (view x))) was
-    ∙ append_assoc front (name_lines 0 seen) (line (step_name_text (place + 1) (view x)))
-    ∙ ap (λ text. front ++ text) (sym (name_lines-push 0 place seen (view x) (omega (arith, length-map (take place xs) view, length-take place xs))))
-    ∙ ap (λ steps. front ++ name_lines 0 steps) (sym more)
+names_grown view xs place x front old new within is was grown = search (rules, map_more, append_assoc, name_lines-push, length-map, length-take)
 
 -- the lines of one step more, read from two lists
 pub steps_grown : {X : Type 0} (view : X → PlannedStep) (xs : List X) (durations : List Difference) (place : ℕ) (x : X) (bound : Difference) (duration : ℤ) (front old new : List ℕ)
@@ -57,10 +45,10 @@ pub steps_grown : {X : Type 0} (view : X → PlannedStep) (xs : List X) (duratio
 steps_grown view xs durations place x bound duration front old new within is there at lasts was grown =
     let seen = map view (take place xs) in
     let f = least_of durations in
-    let more : map view (take (place + 1) xs) ≡ seen ++ view x ∷ [] =
-    map_more view xs place x within ∙ ap (λ y. seen ++ view y ∷ []) (sym is) in
-    let count : 0 + length seen ≡ place = omega (arith, length-map (take place xs) view, length-take place xs) in
-    let read : duration ≡ f place = lasts ∙ ap (λ (b : Difference). b.lo) (get_or_read durations place bound there at _) in
+    let more : map view (take (place + 1) xs) ≡ seen ++ view x ∷ [] = cc (map_more view xs place x within)
+    in
+    let count : 0 + length seen ≡ place = search (rules, length-map, length-take) in
+    let read : duration ≡ f place = cc (get_or_read durations place bound there at _) in
     grown
     ∙ (λ i. was i ++ step_line (place + 1) (view x) (read i))
     ∙ append_assoc front (step_lines f 0 seen) (step_line (place + 1) (view x) (f place))

@@ -1,5 +1,5 @@
 -- A plan and a state have one answer to each question.
-use Rattle.std.{proofs.{Common.{◌≡◌, ℕ, ℤ, Bool, List, ◌++◌, refl, sym, ap, subst, ◌∙◌, ◌⊎◌, ⊎_elim, inl, inr}, lemmas.List.append_cancel_left}, specs.List.flat_map}
+use Rattle.std.{proofs.{Common.{rules, ◌≡◌, ℕ, ℤ, Bool, List, ◌++◌, refl, sym, ap, subst, ◌∙◌, ◌⊎◌, ⊎_elim, inl, inr}, lemmas.List.append_cancel_left}, specs.List.flat_map}
 use Rattle.stn_net.{specs.{Difference.Difference, Schedule.HasSchedule, declared.windows.answers.Next.{Next, TheVariants.{Run, AllDone, Overdue}}, Windows.Window.IsWindow, Ranges.IsRange}, proofs.{OneAnswer.one_next, WindowEnds.one_window, Ranges.one_range}}
 use Rattle.stn_lift.specs.PlanSource.{PlanSource}
 use Rattle.stn_records.specs.Content.{Content}
@@ -9,16 +9,13 @@ use Rattle.stn_questions.{specs.{Ready.{ready_line, IsReadyAnswer, IsReadyWith},
 
 one_ready_answer : (bounds : List Difference) (done : List Bool) (now : ℤ) (answer : Next) (text other : List ℕ) → IsReadyAnswer bounds done now answer text
     → IsReadyAnswer bounds done now answer other → text ≡ other
-one_ready_answer bounds done now (Run time event) text other p q =
-    p.lines ∙ ap (flat_map ready_line) (one_list bounds done now p.ready q.ready p.events q.events) ∙ sym q.lines
+one_ready_answer bounds done now (Run time event) text other p q = cc (one_list bounds done now p.ready q.ready p.events q.events)
 one_ready_answer bounds done now AllDone text other p q = p ∙ sym q
 one_ready_answer bounds done now (Overdue event) text other p q = p ∙ sym q
 
 -- one text says which events are ready
 pub one_ready_text : (bounds : List Difference) (done : List Bool) (now : ℤ) (text other : List ℕ) → IsReadyWith bounds done now text → IsReadyWith bounds done now other → text ≡ other
-one_ready_text bounds done now text other (inl p) (inl q) =
-    let same : p.answer ≡ q.answer = one_next bounds done now p.answer q.answer p.next q.next in
-    one_ready_answer bounds done now q.answer text other (subst (λ answer. IsReadyAnswer bounds done now answer text) same p.said) q.said
+one_ready_text bounds done now text other (inl p) (inl q) = search (rules, one_next, one_ready_answer)
 one_ready_text bounds done now text other (inl p) (inr q) = absurd (q.conflict p.possible)
 one_ready_text bounds done now text other (inr p) (inl q) = absurd (p.conflict q.possible)
 one_ready_text bounds done now text other (inr p) (inr q) = p.said ∙ sym q.said
@@ -45,14 +42,7 @@ one_part : OneWay → (source : PlanSource) (state : Content) (from to : ℕ) (A
     → ((least greatest first last : ℤ) → HasSchedule (all_bounds source state) → AreEnds (all_bounds source state) least greatest
     → AreEnds (all_bounds source state) first last → (least ≡ first) × (greatest ≡ last))
     → (text other : List ℕ) → IsReasonPart source state from to AreEnds heading low high text → IsReasonPart source state from to AreEnds heading low high other → text ≡ other
-one_part unique source state from to AreEnds heading low high pair text other p q =
-    let bounds = all_bounds source state in
-    let ends = pair p.least p.greatest q.least q.greatest p.possible p.ends q.ends in
-    let back = unique bounds to from p.back q.back p.way_back q.way_back in
-    let forth = unique bounds from to p.onward q.onward p.way_onward q.way_onward in
-    p.whole
-    ∙ (λ i. heading (ends.0 i) (ends.1 i) ++ (end_text source state low (ends.0 i) (back i) ++ end_text source state high (ends.1 i) (forth i)))
-    ∙ sym q.whole
+one_part unique source state from to AreEnds heading low high pair text other p q = search rules
 
 -- a text that says the reasons where there is a schedule, and else the conflict, is one text where that of the reasons is
 one_or_conflict : OneReport → Refutes → (source : PlanSource) (state : Content) (reasons : List ℕ → Type 0) (text other : List ℕ)
@@ -69,7 +59,7 @@ one_or_conflict reports refutes source state reasons text other possible one p q
     p
 
 one_text : (state : Content) (text other : List ℕ) → IsRecordsText state text → IsRecordsText state other → text ≡ other
-one_text state text other p q = p.lines ∙ ap (flat_map (record_line state)) (one_known state p.ids q.ids p.known q.known) ∙ sym q.lines
+one_text state text other p q = cc (one_known state p.ids q.ids p.known q.known)
 
 -- a question has one answer
 pub one_answer : OneReport → OneWay → Refutes → (source : PlanSource) (state : Content) (question : Question) (text other : List ℕ)
@@ -86,5 +76,4 @@ one_answer reports ways refutes source state (WhyApart from to) text other p q =
 pub same_answer : ((source : PlanSource) → (state : Content) → (question : Question) → (text other : List ℕ) → IsAnswer source state question text → IsAnswer source state question other → text ≡ other)
     → (a b : PlanSource) (s t : Content) (question : Question) (text other : List ℕ) → a ≡ b → s ≡ t
     → IsAnswer a s question text → IsAnswer b t question other → text ≡ other
-same_answer law a b s t question text other plan state p q =
-    law b t question text other (subst (λ x. IsAnswer b x question text) state (subst (λ x. IsAnswer x s question text) plan p)) q
+same_answer law a b s t question text other plan state p q = search rules

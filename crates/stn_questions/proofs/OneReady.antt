@@ -1,5 +1,5 @@
 -- One list says which events are ready.
-use Rattle.std.{proofs.{Common.{◌≡◌, ℕ, ℤ, zero, suc, ◌+◌, ◌<◌, Bool, true, false, cond, eqb, List, [], ◌∷◌, length, get_or, All, Some, refl, sym, ap, subst, ◌∙◌, arith, ⊎_elim}, lemmas.{Bool.{cases_lt, eq-eqb, Decides.nat_tests}, Int.ints, List.{Elements.All-tail, Sums.sum_by-cons}}}, specs.List.AllPairs}
+use Rattle.std.{proofs.{Common.{rules, ◌≡◌, ℕ, ℤ, zero, suc, ◌+◌, ◌<◌, Bool, true, false, cond, eqb, List, [], ◌∷◌, length, get_or, All, Some, refl, sym, ap, subst, ◌∙◌, arith, ⊎_elim}, lemmas.{Bool.{cases_lt, eq-eqb, Decides.nat_tests}, Int.ints, List.{Elements.All-tail, Sums.sum_by-cons}}}, specs.List.AllPairs}
 use Rattle.stn_net.specs.{Difference.Difference, Windows.Dispatch.{IsReady, AreReadyTimes}}
 use Rattle.stn_questions.{specs.{declared.ready_event.ReadyEvent.ReadyEvent, Ready.{IsBefore, AreReadyEvents}}, proofs.ReadyLists.{counted, HasTimes}}
 
@@ -31,17 +31,12 @@ first_before one ready (suc place) d order within = order 0 (suc place) d (omega
 module _ (bounds : List Difference) (done : List Bool) (now : ℤ) where
   -- an event has one pair of ends
   same_ends : (event : ℕ) (a b c d : ℤ) → AreReadyTimes bounds done now event (Some (a, b)) → AreReadyTimes bounds done now event (Some (c, d)) → (a ≡ c) × (b ≡ d)
-  same_ends event a b c d p q =
-      let first = (q.1 a).0 ((p.1 a).1 (omega (arith, ints), p.0)) in
-      let last = (q.1 b).0 ((p.1 b).1 (p.0, omega (arith, ints))) in
-      let other_first = (p.1 c).0 ((q.1 c).1 (omega (arith, ints), q.0)) in
-      let other_last = (p.1 d).0 ((q.1 d).1 (q.0, omega (arith, ints))) in
-      (omega (arith, ints), omega (arith, ints))
+  same_ends event a b c d p q = search rules
 
   same_event : (x y : ReadyEvent) → HasTimes bounds done now x → HasTimes bounds done now y → x.event ≡ y.event → x ≡ y
   same_event x y p q e =
       let ends = same_ends y.event x.first x.last y.first y.last (subst (λ n. AreReadyTimes bounds done now n (Some (x.first, x.last))) e p) q in
-      λ i. record { first = ends.0 i; event = e i; last = ends.1 i }
+      search rules
 
   -- of two lists with the same events the first is the same
   same_first : (x y : ReadyEvent) (xs ys : List ReadyEvent) → All (HasTimes bounds done now) (x ∷ xs) → All (HasTimes bounds done now) (y ∷ ys)
@@ -55,8 +50,8 @@ module _ (bounds : List Difference) (done : List Bool) (now : ℤ) where
       let v = get_or (x ∷ xs) back.0 x in
       let at_u : u ≡ x = same_event u x (other_timed there.0 y there.1) p (there.2 y) in
       let at_v : v ≡ y = same_event v y (timed back.0 x back.1) q (back.2 x) in
-      let forth : IsBefore x y = subst (IsBefore x) at_v (first_before x xs back.0 x order back.1) in
-      let behind : IsBefore y x = subst (IsBefore y) at_u (first_before y ys there.0 y other_order there.1) in
+      let forth : IsBefore x y = search (rules, first_before) in
+      let behind : IsBefore y x = search (rules, first_before) in
       let together : x.first ≡ y.first = omega (arith, ints, forth.0, behind.0) in
       same_event x y p q (omega (arith, forth.1 together, behind.1 (sym together)))
 
@@ -68,7 +63,7 @@ module _ (bounds : List Difference) (done : List Bool) (now : ℤ) where
   same_lists (x ∷ xs) [] timed other_timed order other_order same =
       absurd (omega (arith, same x.event, head_counts x xs x.event, ap one_or_none (eq-eqb x.event x.event refl)))
   same_lists (x ∷ xs) (y ∷ ys) timed other_timed order other_order same =
-      let first : x ≡ y = same_first x y xs ys timed other_timed order other_order same in
+      let first : x ≡ y = search (rules, same_first) in
       let rest : xs ≡ ys = same_lists xs ys (All-tail (HasTimes bounds done now) x xs timed) (All-tail (HasTimes bounds done now) y ys other_timed)
       (λ i j d before within. order (suc i) (suc j) d (omega arith) (omega arith)) (λ i j d before within. other_order (suc i) (suc j) d (omega arith) (omega arith))
       (λ event. omega (arith, same event, head_counts x xs event, head_counts y ys event, ap (λ (one : ReadyEvent). one_or_none (eqb one.event event)) first)) in
@@ -83,7 +78,7 @@ module _ (bounds : List Difference) (done : List Bool) (now : ℤ) where
       let times : HasTimes bounds done now (one d) = p.times there.0 d there.1 in
       let able = (times.1 (one d).first).1 (omega (arith, ints), times.0) in
       let able_here = subst (λ n. IsReady bounds done n (one d).first) (there.2 d) able.1 in
-      p.once event (one d).first able.0 able_here ∙ sym (q.once event (one d).first able.0 able_here)
+      search rules
 
   -- one list says which events are ready
   pub one_list : (xs ys : List ReadyEvent) → AreReadyEvents bounds done now xs → AreReadyEvents bounds done now ys → xs ≡ ys

@@ -1,5 +1,6 @@
 -- The events that are ready: each once, and in their order.
-use Rattle.std.{proofs.{Common.{◌≡◌, ◌≢◌, inl, inr, ℕ, ℤ, ◌+◌, ◌<◌, ◌≤ℤ◌, ◌<ℤ◌, Bool, true, false, cond, eqb, List, [], ◌∷◌, ◌++◌, get_or, Some, None, Ordering, Less, Equal, Greater, sym, ap, subst, ◌∙◌, arith}, lemmas.{Bool.{false≢true, cases_lt, eq-eqb, ne_eqb}, Int.ints, List.{Sorted.{sorted_far, ranks_by}, Sums.sum_by_push}, Cmp.{nat_cmp_total, int_cmp_total, on_total, then_total}}}, specs.{Cmp.{IsTotalOrder, ranks, int_ranks}, List.{AllPairs, count_by, Sorted.IsSorted}, Ordering.{MatchOrdering, nat_cmp, int_cmp, is_lt, ordering_then}}}
+use Rattle.std.proofs.lemmas.Grind.{common_steps}
+use Rattle.std.{proofs.{Common.{rules, ◌≡◌, ◌≢◌, inl, inr, ℕ, ℤ, ◌+◌, ◌<◌, ◌≤ℤ◌, ◌<ℤ◌, Bool, true, false, cond, eqb, List, [], ◌∷◌, ◌++◌, get_or, Some, None, Ordering, Less, Equal, Greater, sym, ap, subst, ◌∙◌, arith}, lemmas.{Bool.{false≢true, cases_lt, eq-eqb, ne_eqb}, Int.ints, List.{Sorted.{sorted_far, ranks_by}, Sums.sum_by_push}, Cmp.{nat_cmp_total, int_cmp_total, on_total, then_total}}}, specs.{Cmp.{IsTotalOrder, ranks, int_ranks}, List.{AllPairs, count_by, Sorted.IsSorted}, Ordering.{MatchOrdering, nat_cmp, int_cmp, is_lt, ordering_then}}}
 use Rattle.stn_net.specs.{Difference.Difference, Windows.Dispatch.{IsReady, AreReadyTimes}}
 use Rattle.stn_questions.specs.{declared.ready_event.ReadyEvent.ReadyEvent, Ready.IsBefore}
 
@@ -58,15 +59,9 @@ module _ (bounds : List Difference) (done : List Bool) (now : ℤ) where
   -- one more that may run
   pub ready_pushed : (ready : List ReadyEvent) (one : ReadyEvent) (number : ℕ) → one.event ≡ number → counted ready number ≡ 0
       → HasEachBelow number ready → HasEachBelow (number + 1) (ready ++ one ∷ [])
-  ready_pushed ready one number is none each event time below later able = elim (cases_lt event number) [
-    | inl before ↦ pushed_other ready one event (λ same. absurd (omega arith)) ∙ each event time before later able
-    | inr here ↦ (let same : event ≡ number = omega arith in pushed_same ready one event (is ∙ sym same) ∙ ap (λ n. counted ready n + 1) same ∙ ap (λ n. n + 1) none)
-  ]
+  ready_pushed ready one number is none each event time below later able = grind (arith, common_steps, cases_lt, pushed_other, pushed_same)
 
   -- one more that may not
   pub ready_kept : (ready : List ReadyEvent) (number event : ℕ) → event ≡ number → AreReadyTimes bounds done now event None
       → HasEachBelow number ready → HasEachBelow (number + 1) ready
-  ready_kept ready number event is never each other time below later able = elim (cases_lt other number) [
-    | inl before ↦ each other time before later able
-    | inr here ↦ (let same : other ≡ event = omega arith in absurd (never time later (subst (λ n. IsReady bounds done n time) same able)))
-  ]
+  ready_kept ready number event is never each other time below later able = search rules

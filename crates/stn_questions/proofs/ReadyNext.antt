@@ -12,7 +12,6 @@ module _ (bounds : List Difference) (done : List Bool) (now : ℤ) where
       → IsSchedule bounds times → LeavesNoneBefore done times later → IsReady bounds done event later
   ready_later event time later times ready after schedule none =
       let early = ready.possible in
-      let takes = early.2 in
       let waits = none event ready.left in
       record {
         left = ready.left;
@@ -49,8 +48,8 @@ module _ (bounds : List Difference) (done : List Bool) (now : ℤ) where
       let q : HasTimes bounds done now seen = are.times there.0 one there.1 in
       let within = (q.1 time).0 (next.later, subst (λ n. IsReady bounds done n time) (sym (there.2 one)) next.ready) in
       let before = first_before one others there.0 one are.order there.1 in
-      let at : one.first ≡ time = let a = comes.0 in let b = within.0 in let c = before.0 in omega (arith, ints) in
-      let same : one.first ≡ seen.first = let a = comes.0 in let b = within.0 in let c = before.0 in omega (arith, ints) in
+      let at : one.first ≡ time = omega (arith, ints) in
+      let same : one.first ≡ seen.first = omega (arith, ints) in
       let is : one.event ≡ event = omega (arith, comes.1 (sym at), before.1 same, there.2 one) in (
         one.last,
         others,

@@ -1,5 +1,5 @@
 -- Why a window ends where it does, and why two events come no closer and no further apart.
-use Rattle.std.{proofs.Common.{◌≡◌, ℕ, ℤ, neg_ℤ, ◌+◌, List, ◌++◌, Option, Some, None, Result, Ok, Err, refl, subst, ap, ◌∙◌}, specs.Prelude.{◌↔◌, if◌then◌else◌, is_ok, IsNone, IfOk, IfSome, MatchOption, OnOk}}
+use Rattle.std.{proofs.Common.{rules, ◌≡◌, ℕ, ℤ, neg_ℤ, ◌+◌, List, ◌++◌, Option, Some, None, Result, Ok, Err, refl, subst, ap, ◌∙◌}, specs.Prelude.{◌↔◌, if◌then◌else◌, is_ok, IsNone, IfOk, IfSome, MatchOption, OnOk}}
 use Rattle.stn_net.specs.{Difference.Difference, Schedule.HasSchedule}
 use Rattle.stn_lift.specs.PlanSource.{PlanSource, events_of}
 use Rattle.stn_records.specs.Content.{Content}
@@ -12,19 +12,7 @@ pub reason_part : {A : Type 0} (source : PlanSource) (state : Content) (from to 
     (low high : List ℕ) (both : BothWays A) (t1 t2 : List ℕ) → HoldEnds source state from to both → AreEnds (all_bounds source state) (neg_ℤ both.onward.sum) both.back.sum
     → t1 ≡ heading (neg_ℤ both.onward.sum) both.back.sum → t2 ≡ t1 ++ ends_text source state low high both
     → IsReasonPart source state from to AreEnds heading low high t2
-reason_part source state from to AreEnds heading low high both t1 t2 hold are head tail = record {
-  possible = (hold.back.tightest.attained.0, hold.back.tightest.attained.1);
-  least = neg_ℤ both.onward.sum;
-  greatest = both.back.sum;
-  ends = are;
-  back = both.onward.links.items;
-  onward = both.back.links.items;
-  way_back = hold.onward.way;
-  way_onward = hold.back.way;
-  holds_least = ap neg_ℤ hold.onward.sum_is;
-  holds_greatest = hold.back.sum_is;
-  whole = tail ∙ ap (λ t. t ++ ends_text source state low high both) head;
-}
+reason_part source state from to AreEnds heading low high both t1 t2 hold are head tail = search rules
 
 -- and where it was appended
 pub reasons_appended : {T E : Type 0} (result : Result T E) (new old given text : List ℕ) (Says : List ℕ → Type 0) → Says text → given ≡ text
@@ -40,7 +28,4 @@ pub ends_found : {A E : Type 0} (source : PlanSource) (state : Content) (from to
     → IfOk result (λ found. MatchOption found (¬ HasSchedule (all_bounds source state)) (HoldEnds source state from to))
 ends_found source state from to events bounds (Err fault) same count none onward back = tt
 ends_found source state from to events bounds (Ok None) same count none onward back = subst (λ b. ¬ HasSchedule b) same (none.0 refl)
-ends_found source state from to events bounds (Ok (Some both)) same count none onward back = record {
-  onward = rw (← same, ← count) onward;
-  back = rw (← same, ← count) back;
-}
+ends_found source state from to events bounds (Ok (Some both)) same count none onward back = search rules

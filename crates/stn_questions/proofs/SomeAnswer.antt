@@ -1,5 +1,5 @@
 -- Each plan and each state have an answer to each question about events that the plan has.
-use Rattle.std.{proofs.{Common.{◌≡◌, inl, inr, ℕ, ℤ, ◌⊎◌, ◌≤◌, ◌<◌, true, ◌||◌, List, [], ◌∷◌, ◌++◌, neg_ℤ, map, Less, refl, sym, ap, ◌∙◌, arith}, lemmas.{Bool.{cases_lt, and_parts}, Map.Views.{Contains-from_any, list_any-from_Contains}}}, specs.{List.{AllByRecursion, flat_map, Sorted.IsStrictlySortedBy}, Set.is_member, FinMap.{is_sorted, contains_key-keys, Entries.below_all}}}
+use Rattle.std.{proofs.{Common.{rules, ◌≡◌, inl, inr, ℕ, ℤ, ◌⊎◌, ◌≤◌, ◌<◌, true, ◌||◌, List, [], ◌∷◌, ◌++◌, neg_ℤ, map, Less, refl, sym, ap, ◌∙◌, arith}, lemmas.{Bool.{cases_lt, and_parts}, Map.Views.{Contains-from_any, list_any-from_Contains}}}, specs.{List.{AllByRecursion, flat_map, Sorted.IsStrictlySortedBy}, Set.is_member, FinMap.{is_sorted, contains_key-keys, Entries.below_all}}}
 use Rattle.std.specs.FinMap as fin
 use Rattle.stn_net.{specs.{Difference.Difference, Matrix.Tightest.IsTightest, Windows.Window.IsWindow, Ranges.IsRange}, proofs.{WindowEnds.window_of_ends, Ranges.range_of_ends}}
 use Rattle.stn_lift.specs.PlanSource.{PlanSource, events_of}
@@ -25,8 +25,7 @@ known_set state = with_ids (replaced_set state) (fin.keys state.additions)
 
 known_is : (state : Content) (id : SiteCounter) → is_member same_ids (fin.keys (known_set state)) id ≡ is_known state id
 known_is state id =
-    sym (contains_key-keys (known_set state) id) ∙ with_ids_member (replaced_set state) (fin.keys state.additions) id
-    ∙ ap (λ b. b || fin.contains_key (replaced_set state) id) (sym (contains_key-keys state.additions id))
+    cc (contains_key-keys (known_set state) id, with_ids_member (replaced_set state) (fin.keys state.additions) id, contains_key-keys state.additions id)
 
 some_known : (state : Content) → (ids : List SiteCounter) × AreKnown state ids
 some_known state = (
@@ -46,11 +45,10 @@ module _ (source : PlanSource) (state : Content) (sound : IsSoundState source st
   way_between : (far : ℕ → ℕ → ℤ) (found : AreFound (all_bounds source state) (events_of source) far) (from to : ℕ) → from ≤ events_of source → to ≤ events_of source
       → (links : List Link) × IsWay (all_bounds source state) from to links × (weight_of (all_bounds source state) links ≡ far from to)
   way_between far found from to from_within to_within =
-      let bounds = all_bounds source state in
       let (links, way) = some_way (all_bounds source state) (events_of source) far found from from_within to to_within in
       let here = tightest_found (all_bounds source state) (events_of source) far found from from from_within from_within in
       let there = tightest_found (all_bounds source state) (events_of source) far found from to from_within to_within in
-      (links, way, weight_of_way (all_bounds source state) from to links _ _ here there way)
+      search (rules, weight_of_way)
 
   some_reason : (from to : ℕ) → from ≤ events_of source → to ≤ events_of source → (AreEnds : List Difference → ℤ → ℤ → Type 0) (heading : ℤ → ℤ → List ℕ) (low high : List ℕ)
       → ((back forth : ℤ) → IsTightest (all_bounds source state) to from back → IsTightest (all_bounds source state) from to forth

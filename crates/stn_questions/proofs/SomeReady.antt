@@ -1,20 +1,14 @@
 -- The events that are ready have a list in their order.
-use Rattle.std.{proofs.{Common.{◌≡◌, ◌⊎◌, inl, inr, ℕ, ℤ, zero, suc, ◌+◌, ◌≤◌, Bool, eqb, cond, List, [], ◌∷◌, ◌++◌, get_or, All, Option, Some, None, refl, subst, add-one, ◌∙◌, arith}, lemmas.{Bool.cases_lt, Int.{ints, by_lt_z}, List.{Elements.{All-nil, All-cons, All-push}, Kept.AllPairs-cons, Sorted.{IsPermutation-refl, IsPermutation-cons, IsPermutation-middle, IsPermutation-trans, All-permutation, sum_by-IsPermutation}}}}, specs.List.{AllPairs, Sorted.IsPermutation}}
+use Rattle.std.{proofs.{Common.{rules, ◌≡◌, ◌⊎◌, inl, inr, ℕ, ℤ, zero, suc, ◌+◌, ◌≤◌, Bool, eqb, cond, List, [], ◌∷◌, ◌++◌, get_or, All, Option, Some, None, refl, subst, add-one, ◌∙◌, arith}, lemmas.{Bool.cases_lt, Int.{ints, by_lt_z}, List.{Elements.{All-nil, All-cons, All-push}, Kept.AllPairs-cons, Sorted.{IsPermutation-refl, IsPermutation-cons, IsPermutation-middle, IsPermutation-trans, All-permutation, sum_by-IsPermutation}}}}, specs.List.{AllPairs, Sorted.IsPermutation}}
 use Rattle.stn_net.{specs.{Difference.Difference, Matrix.Table.Table, Windows.Dispatch.AreReadyTimes}, proofs.{Readiness.left_within, ReadyTimes.some_ready_times, SomeNext.AreFlagged}}
 use Rattle.stn_questions.{specs.{declared.ready_event.ReadyEvent.ReadyEvent, Ready.{IsBefore, AreReadyEvents}}, proofs.{OneReady.first_before, ReadyLists.{counted, HasTimes, HasEachBelow, pushed_other, ready_pushed, ready_kept}}}
 
 -- ---- an order
 before_or_after : (x y : ReadyEvent) → IsBefore x y ⊎ IsBefore y x
-before_or_after x y =
-    by_lt_z x.first y.first (λ sooner. inl (omega (arith, ints), λ same. absurd (omega (arith, ints))))
-    (λ le. by_lt_z y.first x.first (λ later. inr (omega (arith, ints), λ same. absurd (omega (arith, ints))))
-    (λ ge. elim (cases_lt x.event y.event) [ inl less ↦ inl (ge, λ same. omega arith) | inr more ↦ inr (le, λ same. omega arith) ]))
+before_or_after x y = search rules
 
 before_through : (x y z : ReadyEvent) → IsBefore x y → IsBefore y z → IsBefore x z
-before_through x y z p q =
-    let a = p.0 in
-    let b = q.0 in
-    (omega (arith, ints), λ same. omega (arith, p.1 (omega (arith, ints)), q.1 (omega (arith, ints))))
+before_through x y z p q = search rules
 
 -- the same events, in order
 record IsOrdered (xs ys : List ReadyEvent) : Type 0 where
@@ -84,7 +78,7 @@ module _ (bounds : List Difference) (table : Table) (done : List Bool) (now : �
       let (ready, so_far) = by_number number in
       let (times, is) = some_ready_times bounds table done now number are in
       let (more, all) = one_more number ready times so_far is in
-      (more, subst (λ limit. AreReadyBelow bounds done now limit more) (add-one number) all)
+      search rules
 
   pub some_ready_events : (ready : List ReadyEvent) × AreReadyEvents bounds done now ready
   some_ready_events =

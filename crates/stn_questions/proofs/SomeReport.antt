@@ -1,5 +1,5 @@
 -- Each plan and each state have a report.
-use Rattle.std.{proofs.{Common.{◌⊎◌, inl, inr, ℕ, zero, suc, ◌≤◌, Bool, List, [], ◌++◌, codes, neg_ℤ, refl, arith}, lemmas.{Int.ints, List.Elements.All-append}}, specs.{Prelude.{ℤ, All}, List.flat_map}}
+use Rattle.std.{proofs.{Common.{rules, ◌⊎◌, inl, inr, ℕ, zero, suc, ◌≤◌, Bool, List, [], ◌++◌, codes, neg_ℤ, refl, arith}, lemmas.{Int.ints, List.Elements.All-append}}, specs.{Prelude.{ℤ, All}, List.flat_map}}
 use Rattle.stn_net.specs.Difference.{Difference, IsBoundWithin}
 use Rattle.stn_lift.specs.PlanSource.{PlanSource, events_of, base_bounds, IsSoundSource}
 use Rattle.stn_records.specs.Content.{Content}
@@ -25,9 +25,7 @@ pub record IsSoundState (source : PlanSource) (state : Content) : Type 0 where
 module _ (source : PlanSource) (state : Content) (sound : IsSoundState source state) where
   -- the plan's own bounds have a schedule, so none of them is crossed
   base_in_order : All (IsInOrder (events_of source)) (base_bounds source)
-  base_in_order = λ k d below.
-      let met = sound.based.possible.met k d below in
-      record { named = sound.based.named k d below; ordered = omega (arith, ints, met.0, met.1) }
+  base_in_order = search rules
 
   in_order : All (IsInOrder (events_of source)) (all_bounds source state)
   in_order =
@@ -39,7 +37,7 @@ module _ (source : PlanSource) (state : Content) (sound : IsSoundState source st
       ⊎ ((place : ℕ) × (far : ℕ → ℕ → ℤ) × IsFirstRefused (all_bounds source state) (events_of source) place far)
   differences =
       let begins = known_first (events_of source) (base_bounds source) (live_bounds state) sound.based.horizon in
-      found_or_refused (events_of source) (all_bounds source state) begins (known_within (events_of source) (all_bounds source state) begins) in_order
+      search (rules, found_or_refused, known_within, in_order)
 
   -- the conflict, where some bound is refused
   pub some_conflict : (place : ℕ) (far : ℕ → ℕ → ℤ) → IsFirstRefused (all_bounds source state) (events_of source) place far → (text : List ℕ) × IsConflictPart source state text

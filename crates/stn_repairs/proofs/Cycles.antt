@@ -1,9 +1,9 @@
 -- A record without which the others have a schedule lies on each negative cycle.
-use Rattle.std.{proofs.{Common.{◌≡◌, ◌≢◌, ℕ, ℤ, ◌+◌, ◌-◌, ◌<◌, ◌≤◌, true, false, not, cond, List, [], ◌∷◌, ◌++◌, length, map, get_or, refl, sym, ap, subst, ◌∙◌, inl, inr, ⊎_elim, arith, ◌⊎◌, length-append}, lemmas.{Bool.{cases_lt, false≢true, le-ltb}, Int.ints, List.{get_or_append_left, get_or-append_right, get_or-map, length-map, Elements.{All-contains, Contains-append_left, Contains-append_right, Contains-get_or}}}}, specs.{Prelude.{◌-ℤ◌, ◌≤ℤ◌, nat_lt}, List.Contains}}
+use Rattle.std.{proofs.{Common.{rules, ◌≡◌, ◌≢◌, ℕ, ℤ, ◌+◌, ◌-◌, ◌<◌, ◌≤◌, true, not, List, [], ◌∷◌, ◌++◌, length, map, get_or, refl, sym, ap, subst, ◌∙◌, inl, inr, ⊎_elim, arith, ◌⊎◌, length-append}, lemmas.{Bool.cases_lt, Int.ints, List.{get_or_append_left, get_or-append_right, get_or-map, length-map, Elements.{All-contains, Contains-append_left, Contains-append_right, Contains-get_or}}}}, specs.{Prelude.{◌-ℤ◌, ◌≤ℤ◌}, List.Contains}}
 use Rattle.stn_net.specs.{Difference.Difference, Schedule.{Meets, HasSchedule}}
 use Rattle.stn_conflict.{specs.{declared.links.Link.Link, Arcs.{bound_at, IsChain, weight_of, IsNegativeCycle}}, proofs.Tightness.arc_kept}
-use Rattle.stn_records.specs.{Id.{SiteCounter, same_ids}, ContentLaws.ids_decide, declared.record.{Mark.TheVariants.Plain, Record.Record}}
-use Rattle.stn_site.specs.{Bounds.bounds_of, Names.{id_at, name_in}, declared.names.BoundName.TheVariants.{Plan as of_plan, Record as of_record}}
+use Rattle.stn_records.specs.{Id.{SiteCounter, same_ids}, declared.record.{Mark.TheVariants.Plain, Record.Record}}
+use Rattle.stn_site.specs.{Bounds.bounds_of, Names.name_in, declared.names.BoundName.TheVariants.{Record as of_record}}
 use Rattle.stn_repairs.{specs.{Repairs.{without, others}, Links.IsLinkOf}, proofs.Elements.{first_of, later_of, first_or_later, none_of_nothing, kept_by, mapped}}
 
 -- over a chain of links whose bounds are met, times grow by its weight at most
@@ -23,23 +23,10 @@ nothing : SiteCounter × Record
 nothing = (record { site = 0; counter = 0 }, record { mark = Plain; bound = bound_at [] 0 })
 
 not_same : (a b : SiteCounter) → a ≢ b → not (same_ids a b) ≡ true
-not_same a b apart =
-    elim (same_ids a b) as (λ t. same_ids a b ≡ t → not t ≡ true) [
-      | true ↦ λ e. absurd (apart ((ids_decide a b).0 e))
-      | false ↦ λ e. refl
-    ] refl
+not_same a b apart = search rules
 
 is_link_or_not : (count : ℕ) (live : List (SiteCounter × Record)) (id : SiteCounter) (link : Link) → IsLinkOf count live id link ⊎ (IsLinkOf count live id link → ⊥)
-is_link_or_not count live id link =
-    ⊎_elim
-    (λ before. inr (λ is. let past = is.0 in omega arith))
-    (λ past.
-    elim (same_ids (id_at (map (λ (entry : SiteCounter × Record). entry.0) live) (link.place - count)) id)
-    as (λ t. same_ids (id_at (map (λ (entry : SiteCounter × Record). entry.0) live) (link.place - count)) id ≡ t → IsLinkOf count live id link ⊎ (IsLinkOf count live id link → ⊥)) [
-      | true ↦ λ e. inl (past, (ids_decide (id_at (map (λ (entry : SiteCounter × Record). entry.0) live) (link.place - count)) id).0 e)
-      | false ↦ λ e. inr (λ is. false≢true (sym e ∙ (ids_decide (id_at (map (λ (entry : SiteCounter × Record). entry.0) live) (link.place - count)) id).1 is.1))
-    ] refl)
-    (cases_lt link.place count)
+is_link_or_not count live id link = search rules
 
 module _ (base : List Difference) (live : List (SiteCounter × Record)) (id : SiteCounter) where
   -- a bound of the plan, or of another record, is one of the others
@@ -103,6 +90,4 @@ module _ (base : List Difference) (live : List (SiteCounter × Record)) (id : Si
 -- the name of the bound at a link of the record
 pub named_link : (base : List Difference) (live : List (SiteCounter × Record)) (id : SiteCounter) (link : Link) → IsLinkOf (length base) live id link
     → name_in base (map (λ (entry : SiteCounter × Record). entry.0) live) link.place ≡ of_record id
-named_link base live id link is =
-    let past : nat_lt link.place (length base) ≡ false = le-ltb link.place (length base) is.0 in
-    ap (λ b. cond b (of_plan (link.place + 1)) (of_record (id_at (map (λ (entry : SiteCounter × Record). entry.0) live) (link.place - length base)))) past ∙ ap of_record is.1
+named_link base live id link is = search rules

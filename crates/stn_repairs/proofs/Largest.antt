@@ -1,5 +1,5 @@
 -- What is kept has a schedule, and has none with any one record that is dropped.
-use Rattle.std.{proofs.{Common.{◌≡◌, true, false, not, List, [], ◌∷◌, ◌++◌, map, filter, refl, sym, ap, subst, ◌∙◌, inl, inr, ⊎_elim, ◌⊎◌, append_assoc}, lemmas.{Bool.false≢true, List.{append-nil, Elements.{Contains-append_left, Contains-append_right, Contains-append_cases}}, Map.Made.is_member-Decides}}, specs.{List.Contains, Set.is_member}}
+use Rattle.std.{proofs.{Common.{rules, ◌≡◌, true, false, not, List, [], ◌∷◌, ◌++◌, map, filter, refl, sym, ap, subst, ◌∙◌, inl, inr, ⊎_elim, ◌⊎◌, append_assoc}, lemmas.{Bool.false≢true, List.Elements.{Contains-append_left, Contains-append_right, Contains-append_cases}, Map.Made.is_member-Decides}}, specs.{List.Contains, Set.is_member}}
 use Rattle.stn_net.specs.{Difference.Difference, Schedule.HasSchedule}
 use Rattle.stn_records.specs.{Id.{SiteCounter, same_ids}, Record.same_marks, declared.record.{Mark.{Mark, TheVariants.{Plain, Done}}, Record.Record}, ContentLaws.ids_decide}
 use Rattle.stn_site.specs.Bounds.{bounds_of}
@@ -33,13 +33,7 @@ last_kept base more bound has =
     has
 
 are_kept : (base : List Difference) (order : Records) (refused : List SiteCounter) → HasSchedule base → AreRefused base order refused → AreKept base order refused
-are_kept base [] refused has are = record {
-  kept = [];
-  possible = subst HasSchedule (sym (append-nil base)) has;
-  among = λ entry there. there;
-  each = λ entry there. inl there;
-  none = λ id there. absurd (none_of_nothing id (subst (λ (ids : List SiteCounter). Contains ids id) are there));
-}
+are_kept base [] refused has are = search rules
 are_kept base (first ∷ rest) refused has are =
     ⊎_elim
     (λ h.

@@ -1,5 +1,6 @@
 -- Lists that have grown by one more of the live records, and their bounds.
-use Rattle.std.{proofs.{Common.{◌≡◌, ℕ, ◌+◌, ◌<◌, Bool, true, false, cond, not, List, [], ◌∷◌, ◌++◌, length, map, filter, take, get_or, refl, sym, ap, subst, ◌∙◌, ◌↔◌, IsTrue, All}, lemmas.{Bool.false≢true, List.{append-nil, take_more, map-append, Elements.{All-append, All-filter, filter-append}}, Map.Made.is_member-Decides}}, specs.{List.Contains, Set.is_member}}
+use Rattle.std.proofs.lemmas.Grind.{common_steps}
+use Rattle.std.{proofs.{Common.{rules, arith, ◌≡◌, ℕ, ◌+◌, ◌<◌, Bool, true, false, cond, not, List, [], ◌∷◌, ◌++◌, length, map, filter, take, get_or, refl, sym, ap, subst, ◌↔◌, IsTrue, All}, lemmas.{Bool.false≢true, List.Elements.{All-append, All-filter}, Map.Made.is_member-Decides}}, specs.{List.Contains, Set.is_member}}
 use Rattle.stn_net.specs.Difference.{Difference, NamesEvents}
 use Rattle.stn_records.specs.{Id.{SiteCounter, same_ids}, Record.same_marks, declared.record.{Mark.{Mark, TheVariants.{Plain, Done}}, Record.Record}, Content.listed, ContentLaws.ids_decide}
 use Rattle.stn_site.{specs.Bounds.bounds_of, proofs.Named.{records_from_bounds, bounds_from_records}}
@@ -23,24 +24,16 @@ member_is ids id false says = by (is_member same_ids ids id) refl
 module _ (ids : List SiteCounter) (live : List (SiteCounter × Record)) (place : ℕ) (entry : SiteCounter × Record) (there : place < length live) (is_at : entry ≡ get_or live place entry) where
   one_more_id : filter (λ id. is_member same_ids ids id) (map (λ (e : SiteCounter × Record). e.0) (take (place + 1) live))
       ≡ filter (λ id. is_member same_ids ids id) (map (λ (e : SiteCounter × Record). e.0) (take place live)) ++ cond (is_member same_ids ids entry.0) (entry.0 ∷ []) []
-  one_more_id =
-      ap (λ (some : List (SiteCounter × Record)). filter (λ id. is_member same_ids ids id) (map (λ (e : SiteCounter × Record). e.0) some))
-      (take_more live place entry there ∙ ap (λ (e : SiteCounter × Record). take place live ++ e ∷ []) (sym is_at))
-      ∙ ap (filter (λ id. is_member same_ids ids id)) (map-append (λ (e : SiteCounter × Record). e.0) (take place live) (entry ∷ []))
-      ∙ filter-append (λ id. is_member same_ids ids id) (map (λ (e : SiteCounter × Record). e.0) (take place live)) (entry.0 ∷ [])
+  one_more_id = grind (arith, common_steps)
 
   -- where it is one of them, and where it isn't
   pub ids_grow : (old new : List SiteCounter) → is_member same_ids ids entry.0 ≡ true → old ≡ filter (λ id. is_member same_ids ids id) (map (λ (e : SiteCounter × Record). e.0) (take place live))
       → new ≡ old ++ entry.0 ∷ [] → new ≡ filter (λ id. is_member same_ids ids id) (map (λ (e : SiteCounter × Record). e.0) (take (place + 1) live))
-  ids_grow old new member was grown =
-      let front = filter (λ id. is_member same_ids ids id) (map (λ (e : SiteCounter × Record). e.0) (take place live)) in
-      grown ∙ ap (λ (some : List SiteCounter). some ++ entry.0 ∷ []) was ∙ sym (one_more_id ∙ ap (λ b. front ++ cond b (entry.0 ∷ []) []) member)
+  ids_grow old new member was grown = search (rules, one_more_id)
 
   pub ids_stay : (old : List SiteCounter) → is_member same_ids ids entry.0 ≡ false → old ≡ filter (λ id. is_member same_ids ids id) (map (λ (e : SiteCounter × Record). e.0) (take place live))
       → old ≡ filter (λ id. is_member same_ids ids id) (map (λ (e : SiteCounter × Record). e.0) (take (place + 1) live))
-  ids_stay old member was =
-      let front = filter (λ id. is_member same_ids ids id) (map (λ (e : SiteCounter × Record). e.0) (take place live)) in
-      was ∙ sym (one_more_id ∙ ap (λ b. front ++ cond b (entry.0 ∷ []) []) member ∙ append-nil front)
+  ids_stay old member was = search (rules, one_more_id)
 
 -- records that name events
 module _ (events : ℕ) (live : List (SiteCounter × Record)) (named : All (NamesEvents events) (bounds_of live)) where

@@ -1,8 +1,8 @@
 -- A plan and a state have one text of what mends a conflict.
-use Rattle.std.{proofs.Common.{◌≡◌, ℕ, List, [], ◌∷◌, ◌++◌, sym, ap, ◌∙◌, ⊎_elim, map, filter}, specs.{List.flat_map, Set.is_member}}
-use Rattle.stn_net.{specs.Difference.Difference, proofs.Ranges.one_range}
-use Rattle.stn_records.specs.{Id.{SiteCounter, same_ids}, declared.record.Record.Record}
-use Rattle.stn_repairs.{specs.{Dropped.{facts_first, AreRefused, AreDropped}, Text.{repair_line, drop_line, SaysRepairs, SaysWhatMends}}, proofs.OneRepairs.one_list}
+use Rattle.std.proofs.Common.{rules, ◌≡◌, ℕ, List, [], ◌∷◌, ◌++◌, sym, ap, ◌∙◌, ⊎_elim}
+use Rattle.stn_net.specs.Difference.{Difference}
+use Rattle.stn_records.specs.{Id.SiteCounter, declared.record.Record.Record}
+use Rattle.stn_repairs.{specs.{Dropped.{AreRefused, AreDropped}, Text.{SaysRepairs, SaysWhatMends}}, proofs.OneRepairs.one_list}
 
 one_refused : (kept : List Difference) (order : List (SiteCounter × Record)) (these those : List SiteCounter)
     → AreRefused kept order these → AreRefused kept order those → these ≡ those
@@ -19,17 +19,13 @@ one_refused kept (entry ∷ rest) these those p q =
 
 one_drop : (base : List Difference) (live : List (SiteCounter × Record)) (these those : List SiteCounter)
     → AreDropped base live these → AreDropped base live those → these ≡ those
-one_drop base live these those p q =
-    p.in_order
-    ∙ ap (λ (refused : List SiteCounter). filter (λ id. is_member same_ids refused id) (map (λ (entry : SiteCounter × Record). entry.0) live))
-    (one_refused base (facts_first live) p.refused q.refused p.in_turn q.in_turn)
-    ∙ sym q.in_order
+one_drop base live these those p q = search (rules, one_refused)
 
 one_mending : (base : List Difference) (live : List (SiteCounter × Record)) (text other : List ℕ) → SaysRepairs base live text → SaysRepairs base live other → text ≡ other
 one_mending base live text other p q =
     let repairs = one_list base live live p.repairs q.repairs p.are q.are in
     let dropped = one_drop base live p.dropped q.dropped p.drop q.drop in
-    p.whole ∙ (λ i. flat_map repair_line (repairs i) ++ drop_line (dropped i)) ∙ sym q.whole
+    cc
 
 -- bounds and records have one such text
 pub one_said : (base : List Difference) (live : List (SiteCounter × Record)) (text other : List ℕ) → SaysWhatMends base live text → SaysWhatMends base live other → text ≡ other

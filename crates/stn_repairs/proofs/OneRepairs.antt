@@ -1,5 +1,5 @@
 -- Bounds and records have one list of repairs.
-use Rattle.std.proofs.Common.{◌≡◌, List, [], ◌∷◌, sym, ◌∙◌, ⊎_elim}
+use Rattle.std.proofs.Common.{rules, ◌≡◌, List, [], ◌∷◌, sym, ◌∙◌, ⊎_elim}
 use Rattle.stn_net.{specs.Difference.Difference, proofs.Ranges.one_range}
 use Rattle.stn_records.specs.{Id.SiteCounter, declared.record.Record.Record}
 use Rattle.stn_repairs.specs.{declared.repair.Repair.Repair, Repairs.{others, IsRepair, AreRepairs}}
@@ -8,13 +8,7 @@ use Rattle.stn_repairs.specs.{declared.repair.Repair.Repair, Repairs.{others, Is
 one_repair : (bounds : List Difference) (id : SiteCounter) (bound : Difference) (one other : Repair) → IsRepair bounds id bound one → IsRepair bounds id bound other → one ≡ other
 one_repair bounds id bound one other p q =
     let ends = one_range bounds bound.from bound.to one.least one.greatest other.least other.greatest p.possible p.range q.range in
-    λ i. record {
-      id = (p.of_record ∙ sym q.of_record) i;
-      from = (p.from ∙ sym q.from) i;
-      to = (p.to ∙ sym q.to) i;
-      least = ends.0 i;
-      greatest = ends.1 i;
-    }
+    search rules
 
 -- the repairs by records are one list
 pub one_list : (base : List Difference) (live rest : List (SiteCounter × Record)) (these those : List Repair)

@@ -1,5 +1,5 @@
 -- Which records are refused, one after another.
-use Rattle.std.proofs.{Common.{◌≡◌, ℕ, ◌+◌, ◌<◌, ◌≤◌, List, [], ◌∷◌, ◌++◌, length, drop, get_or, refl, sym, subst, ◌∙◌, inl, inr, add-one, append_assoc}, Math.{Seq.drop-cons, ListN.drop_of_length-le}, lemmas.List.append-nil}
+use Rattle.std.proofs.{Common.{rules, ◌≡◌, ℕ, ◌+◌, ◌<◌, ◌≤◌, List, [], ◌∷◌, ◌++◌, length, drop, get_or, refl, sym, subst, ◌∙◌, inl, add-one, append_assoc}, Math.{Seq.drop-cons, ListN.drop_of_length-le}, lemmas.List.append-nil}
 use Rattle.stn_net.specs.{Difference.Difference, Schedule.HasSchedule}
 use Rattle.stn_records.specs.{Id.SiteCounter, declared.record.Record.Record}
 use Rattle.stn_repairs.specs.Dropped.{AreRefused}
@@ -24,9 +24,7 @@ module _ (base : List Difference) (order : List (SiteCounter × Record)) (place 
 
   -- one that is refused
   pub refuses_one : ¬ HasSchedule (kept ++ entry.1.bound ∷ []) → IsRefusedSoFar base order (place + 1) (refused ++ entry.0 ∷ []) kept
-  refuses_one impossible = λ later h.
-      subst (AreRefused base order) (sym (append_assoc refused (entry.0 ∷ []) later))
-      (so_far (entry.0 ∷ later) (subst (λ (rest : List (SiteCounter × Record)). AreRefused kept rest (entry.0 ∷ later)) (sym left) (inr (impossible, later, h, refl))))
+  refuses_one impossible = search (rules, append_assoc, left)
 
 -- and in the end
 pub all_refused : (base : List Difference) (order : List (SiteCounter × Record)) (place : ℕ) (refused : List SiteCounter) (kept : List Difference) → length order ≤ place

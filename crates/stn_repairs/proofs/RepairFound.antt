@@ -1,5 +1,6 @@
 -- The repair by a record, by the tightest differences of its events over the others.
-use Rattle.std.{proofs.{Common.{◌≡◌, ℕ, ℤ, pos, neg_ℤ, ◌+◌, ◌<◌, ◌≤◌, List, ◌++◌, length, get_or, refl, sym, ap, subst, ◌∙◌, arith, All, length-append}, lemmas.List.{get_or_read, length-map, Elements.{All-from_recursion, All-weaker}}}, specs.List.Any}
+use Rattle.std.proofs.lemmas.Grind.{common_steps}
+use Rattle.std.{proofs.{Common.{rules, ◌≡◌, ℕ, ℤ, neg_ℤ, ◌+◌, ◌<◌, ◌≤◌, List, ◌++◌, length, get_or, refl, sym, ap, subst, ◌∙◌, arith, All}, lemmas.List.get_or_read}, specs.List.Any}
 use Rattle.stn_conflict.{proofs.CycleSums.places_of_chain, specs.{declared.links.Link.Link, Arcs.IsNegativeCycle, Distances.{AreDistancesFrom, AreDistancesTo}}}
 use Rattle.stn_net.{specs.{Difference.{Difference, NamesEvents}, Schedule.{HasSchedule, times_of}, Matrix.Tightest.IsTightest, Ranges.IsRange}, proofs.Ranges.range_of_ends}
 use Rattle.stn_records.specs.{Id.SiteCounter, declared.record.Record.Record}
@@ -15,8 +16,8 @@ repair_found base own rest events n id bound from to place back least far there 
     let at : place ≡ bound.to = place_is ∙ to_is in
     let within : bound.to ≤ n = omega (arith, named.to, count) in
     let all : own ++ rest ≡ base ++ rest = ap (λ (front : List Difference). front ++ rest) own_is in
-    let far_is : far ≡ times_of there bound.to = get_or_read there place far (omega (arith, forth.long, at, within)) read_far (pos 0) ∙ ap (times_of there) at in
-    let back_is : back ≡ times_of here bound.to = get_or_read here place back (omega (arith, back_again.long, at, within)) read_back (pos 0) ∙ ap (times_of here) at in
+    let far_is : far ≡ times_of there bound.to = search (rules, get_or_read) in
+    let back_is : back ≡ times_of here bound.to = search (rules, get_or_read) in
     let least_is : least ≡ neg_ℤ (times_of here bound.to) = negated ∙ ap neg_ℤ back_is in
     let onward : IsTightest (base ++ rest) bound.from bound.to (times_of there bound.to) =
     subst (λ (b : List Difference). IsTightest b bound.from bound.to (times_of there bound.to)) all
@@ -37,15 +38,11 @@ repair_found base own rest events n id bound from to place back least far there 
 
 pub cycle_places : (base own : List Difference) (live : List (SiteCounter × Record)) (links : List Link) → own ≡ base → IsNegativeCycle (base ++ bounds_of live) links
     → All (λ (link : Link). link.place < length own + length live) links
-cycle_places base own live links own_is cycle =
-    All-weaker (λ (link : Link). link.place < length (base ++ bounds_of live)) (λ (link : Link). link.place < length own + length live)
-    (λ link below. omega (arith, below, length-append base (bounds_of live), length-map live (λ (entry : SiteCounter × Record). entry.1.bound), ap length own_is))
-    links
-    (All-from_recursion (λ (link : Link). link.place < length (base ++ bounds_of live)) links (places_of_chain (base ++ bounds_of live) links cycle.closed.0 cycle.closed.0 cycle.closed.1))
+cycle_places base own live links own_is cycle = grind (arith, common_steps, places_of_chain)
 
 -- where the cycle has no link of a record, the others have no schedule
 pub not_on_cycle : (base own : List Difference) (live : List (SiteCounter × Record)) (id : SiteCounter) (links : List Link) → own ≡ base → IsNegativeCycle (base ++ bounds_of live) links
     → (Any (IsLinkOf (length own) live id) links → ⊥) → ¬ HasSchedule (others base live id)
 not_on_cycle base own live id links own_is cycle none has =
     let (link, (k, below, at), is) = lies_on base live id links cycle has in
-    none (k, link, below, at, subst (λ (b : List Difference). IsLinkOf (length b) live id link) (sym own_is) is)
+    search rules

@@ -1,10 +1,10 @@
 -- What a change of a site's plan makes of its live records, and a matrix that has caught up with it.
-use Rattle.std.{proofs.{Common.{◌≡◌, ◌≤◌, Bool, true, false, not, List, [], ◌∷◌, ◌++◌, Some, None, inl, refl, sym, ap, subst, ◌∙◌}, lemmas.{Option.same_Some, Bool.{false≢true, and_parts}}}, specs.FinMap.get}
+use Rattle.std.{proofs.{Common.{rules, ◌≡◌, ◌≤◌, Bool, true, false, not, List, [], ◌∷◌, ◌++◌, Some, None, inl, refl, sym, ap, subst, ◌∙◌}, lemmas.{Option.same_Some, Bool.{false≢true, and_parts}}}, specs.FinMap.get}
 use Rattle.stn_net.specs.{Difference.Difference, Matrix.{Table.Table, Tightest.IsExact}}
 use Rattle.stn_lift.specs.PlanSource.{PlanSource, events_of}
 use Rattle.stn_records.{specs.{Id.SiteCounter, declared.record.Record.Record, ContentLaws.contents_join, Content.{Content, is_known, is_live, replacement, plain, one_amendment, next_counter}}, proofs.{Counters.next_is_new, OneItem.inserted_here}}
 use Rattle.stn_site.{specs.{Bounds.{live_bounds, RecordsName}, Held.{Held, next_id, executed}, Calls.{added, amended, Leaves}, Change.{change_call, change_id, change_refusal, IsAgain}, declared.change.Change.{Change, TheVariants.{Add, Amend, Withdraw, Done}}, Growth.KeepsLive}, proofs.{Refused.amended_known, Changes.{IsGrown, grown_with_record, grown_with_amendment, falls_with_amendment, replaced_dead, withdrawn_replaced, withdrawn_dead}}}
-use Rattle.stn_replica.{specs.Invariant.{IsSettled, IsSoundReplica, stops_live}, proofs.Sound.{sound_added, sound_rebuilt, sound_dead, falls_withdrawn}}
+use Rattle.stn_replica.{specs.Invariant.{IsSettled, IsSoundReplica, stops_live}, proofs.Sound.{sound_added, sound_dead}}
 
 -- the site's next id is not known
 next_unknown : (held : Held) (id : SiteCounter) → id ≡ next_id held → is_known held.state id ≡ false
@@ -20,7 +20,7 @@ module _ (old new : Held) (id replaced : SiteCounter) (bound : Difference) (leav
   agrees : (z : SiteCounter) → get old.state.replacements id ≡ Some z → z ≡ replaced
   agrees z there =
       let stays : get new.state.replacements id ≡ Some z = (contents_join.union old.state (one_amendment id replaced bound) new.state leaves.state.2 (replacement id z)).1 (inl there) in
-      same_Some z replaced (sym stays ∙ ap (λ (s : Content). get s.replacements id) leaves.state.1 ∙ inserted_here old.state.replacements id replaced)
+      search (rules, same_Some, inserted_here)
 
   pub grown_by_amendment : is_known old.state replaced ≡ true → is_live old.state replaced ≡ false → IsGrown old.state new.state id (plain bound)
   grown_by_amendment known dead = grown_with_amendment old.state new.state id replaced bound leaves.state.1 agrees (next_unknown old id leaves.state.0) known dead
@@ -36,7 +36,8 @@ never {old = old} {new = new} {id = id} more dead = absurd (false≢true (sym de
 pub falls_by_change : (old new : Held) (asked : Change) (id : SiteCounter) → Leaves old (change_call asked id) new → stops_live asked old.state ≡ true → ¬ KeepsLive old.state new.state
 falls_by_change old new (Add bound) id leaves stops = absurd (false≢true stops)
 falls_by_change old new (Amend replaced bound) id leaves stops = falls_by_amendment old new id replaced bound leaves stops
-falls_by_change old new (Withdraw gone) id leaves stops = subst (λ (state : Content). ¬ KeepsLive old.state state) (sym leaves.state) (falls_withdrawn old.state gone stops)
+falls_by_change old new (Withdraw gone) id leaves stops =
+    subst (λ (state : Content). ¬ KeepsLive old.state state) (sym leaves.state) (search (rules, false≢true, withdrawn_dead))
 falls_by_change old new (Done event time) id leaves stops = absurd (false≢true stops)
 
 -- where it stops none and its id is live, the record of this id has become so, and no other changes
@@ -91,7 +92,4 @@ module _ (old new : Held) (opening current next : Table) (possible result : Bool
       (took.settled r (ap (λ (s : Content). get s.additions id) is ∙ more.there)) took.events took.counted)
 
   pub sound_anew : TookAll state opening current next result → IsSoundReplica new.source new.state opening next result
-  sound_anew took =
-      subst (λ source. IsSoundReplica source new.state opening next result) (sym same)
-      (sound_rebuilt old.source old.state new.state opening current next possible result sound named_before
-      (subst (λ (s : Content). (bounds : List Difference) → IsExact bounds opening → IsSettled (bounds ++ live_bounds s) next result) is took.settled) took.events took.counted)
+  sound_anew took = search rules

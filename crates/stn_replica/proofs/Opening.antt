@@ -1,14 +1,12 @@
 -- The matrix of the plan's own bounds.
-use Rattle.std.{proofs.{Common.{◌≡◌, ℕ, ◌+◌, ◌-◌, ◌<◌, ◌≤◌, ◌↔◌, Bool, IsTrue, List, [], ◌∷◌, ◌++◌, length, take, drop, get_or, sym, ap, subst, ◌∙◌, arith, length-take, length-drop, append_assoc, append-nil}, lemmas.List.{take_more, take_all, take-append-drop, Sorted.{All-permutation, IsPermutation-sym, IsPermutation-append_right}}}, specs.{Prelude.All, List.Sorted.IsPermutation}}
-use Rattle.stn_time.proofs.Each.{All-right}
-use Rattle.stn_net.{specs.{Difference.{Difference, NamesEvents}, Horizon.horizon_bounds, Schedule.{HasSchedule, IsSchedule}, Matrix.{Table.Table, Tightest.IsExact}}, proofs.{Horizons.length-horizon_bounds, Closure.schedule_before, Schedules.{schedule_permuted, exact_permuted}}}
+use Rattle.std.proofs.lemmas.Grind.{common_steps}
+use Rattle.std.{proofs.{Common.{rules, ◌≡◌, ℕ, ◌+◌, ◌-◌, ◌<◌, ◌≤◌, ◌↔◌, Bool, IsTrue, List, [], ◌∷◌, ◌++◌, length, take, drop, get_or, sym, subst, ◌∙◌, arith, length-drop, append_assoc}, lemmas.List.{take_more, take_all, take-append-drop, Sorted.{All-permutation, IsPermutation-sym, IsPermutation-append_right}}}, specs.{Prelude.All, List.Sorted.IsPermutation}}
+use Rattle.stn_net.{specs.{Difference.{Difference, NamesEvents}, Horizon.horizon_bounds, Schedule.{HasSchedule, IsSchedule}, Matrix.{Table.Table, Tightest.IsExact}}, proofs.{Closure.schedule_before, Schedules.{schedule_permuted, exact_permuted}}}
 use Rattle.stn_lift.specs.PlanSource.{PlanSource, base_bounds, events_of, planned_of, IsSoundSource}
 
 -- the bounds after those of the horizon name the events of the plan
 pub rest_named : (source : PlanSource) → IsSoundSource source → All (NamesEvents (events_of source)) (drop (events_of source) (base_bounds source))
-rest_named source sound =
-    All-right (NamesEvents (events_of source)) (take (events_of source) (base_bounds source)) (drop (events_of source) (base_bounds source))
-    (subst (All (NamesEvents (events_of source))) (sym (take-append-drop (events_of source) (base_bounds source))) sound.named)
+rest_named source sound = grind (arith, common_steps)
 
 -- these are the bounds beside the horizon, in some order
 abbrev pub AreOthers : PlanSource → List Difference → Type 0
@@ -28,13 +26,13 @@ pub other_named : (source : PlanSource) (others : List Difference) (count : ℕ)
     → count < length others → bound ≡ get_or others count bound → table.events ≡ events_of source → NamesEvents table.events bound
 other_named source others count bound table sound moved within here events =
     let named = All-permutation (NamesEvents (events_of source)) (drop (events_of source) (base_bounds source)) others moved (rest_named source sound) in
-    subst (λ n. NamesEvents n bound) (sym events) (subst (NamesEvents (events_of source)) (sym here) (named count bound within))
+    search rules
 
 -- the horizon bounds and the others are all, in some order
 all_permuted : (source : PlanSource) (others : List Difference) → IsSoundSource source → AreOthers source others → IsPermutation (base_bounds source) (horizon_bounds (events_of source) ++ others)
 all_permuted source others sound moved =
     let n : ℕ = events_of source in
-    let parts : horizon_bounds n ++ drop n (base_bounds source) ≡ base_bounds source = ap (λ front. front ++ drop n (base_bounds source)) (sym sound.horizon) ∙ take-append-drop n (base_bounds source) in
+    let parts : horizon_bounds n ++ drop n (base_bounds source) ≡ base_bounds source = cc (take-append-drop n (base_bounds source)) in
     subst (λ all. IsPermutation all (horizon_bounds n ++ others)) parts (IsPermutation-append_right (horizon_bounds n) (drop n (base_bounds source)) others moved)
 
 -- the matrix has taken the first of the others
@@ -43,16 +41,13 @@ pub record IsOpenedTo (source : PlanSource) (others : List Difference) (count : 
   pub events : table.events ≡ events_of source
 
 pub opened : (source : PlanSource) (others : List Difference) (table : Table) → IsExact (horizon_bounds (events_of source)) table → table.events ≡ events_of source → IsOpenedTo source others 0 table
-opened source others table exact events = record {
-  exact = subst (λ all. IsExact all table) (sym (append-nil (horizon_bounds (events_of source)))) exact;
-  events = events;
-}
+opened source others table exact events = search rules
 
 -- the planned times are a schedule of the first bounds too
 first_possible : (source : PlanSource) (others : List Difference) → IsSoundSource source → AreOthers source others → (count : ℕ) → HasSchedule (horizon_bounds (events_of source) ++ take count others)
 first_possible source others sound moved count =
     let front : List Difference = horizon_bounds (events_of source) in
-    let whole : (front ++ take count others) ++ drop count others ≡ front ++ others = append_assoc front (take count others) (drop count others) ∙ ap (λ rest. front ++ rest) (take-append-drop count others) in (
+    let whole : (front ++ take count others) ++ drop count others ≡ front ++ others = search (rules, append_assoc, take-append-drop) in (
       planned_of source,
       schedule_before (front ++ take count others) (drop count others) (planned_of source)
           (subst (λ all. IsSchedule all (planned_of source)) (sym whole)
@@ -68,8 +63,8 @@ pub opened_more : (source : PlanSource) (others : List Difference) → IsSoundSo
     → new.events ≡ old.events → IsOpenedTo source others (count + 1) new
 opened_more source others sound moved count bound old new fits within here opened possible exact events =
     let front : List Difference = horizon_bounds (events_of source) in
-    let more : front ++ take (count + 1) others ≡ (front ++ take count others) ++ bound ∷ [] =
-    ap (λ rest. front ++ rest) (take_more others count bound within ∙ ap (λ b. take count others ++ b ∷ []) (sym here)) ∙ sym (append_assoc front (take count others) (bound ∷ [])) in
+    let more : front ++ take (count + 1) others ≡ (front ++ take count others) ++ bound ∷ [] = search (rules, take_more, append_assoc)
+    in
     let does_fit : IsTrue fits = (possible (front ++ take count others) opened.exact).1 (subst HasSchedule more (first_possible source others sound moved (count + 1))) in
     record {
       exact = subst (λ all. IsExact all new) (sym more) (exact (front ++ take count others) opened.exact does_fit);

@@ -1,5 +1,5 @@
 -- The walk over the records that have become live.
-use Rattle.std.{proofs.{Common.{◌≡◌, Bool, true, false, cond, not, ◌&&◌, List, [], ◌∷◌, filter, Option, Some, None, is_some, ◌↔◌, refl, sym, ap, subst, ◌∙◌, All}, lemmas.{Bool.{false≢true, and_parts}, List.Elements.{All-head, All-nil, filter_passes, recursion_from_All}}}, specs.{List.AllByRecursion, Map.Iter.TakesFirst, FinMap.{entries, find, get}}}
+use Rattle.std.{proofs.{Common.{rules, ◌≡◌, Bool, true, false, not, ◌&&◌, List, [], ◌∷◌, filter, Option, Some, None, is_some, ◌↔◌, refl, sym, ap, subst, All}, lemmas.{Bool.{false≢true, and_parts}, List.Elements.{All-head, All-nil, filter_passes, recursion_from_All}}}, specs.{List.AllByRecursion, Map.Iter.TakesFirst, FinMap.{entries, find, get}}}
 use Rattle.stn_records.{specs.{Id.{SiteCounter, id_cmp}, declared.record.Record.Record, Content.{Content, is_live, is_replaced, live_of}, Sorted.without_ids, ContentLaws.{ids_total, ids_exact}}, proofs.{Gets.entries_from_get, Live.found_where_live}}
 use Rattle.stn_site.{specs.{Bounds.bounds_of, Growth.{is_risen, risen, KeepsLive}}, proofs.Live.{there_where_live, risen_from_bounds}}
 use Rattle.stn_replica.specs.{Walk.from_next, Work.GainsLive}
@@ -19,10 +19,7 @@ filter_twice : {X : Type 0} (p q both : X → Bool) (xs : List X) → AllByRecur
 filter_twice p q both [] h = refl
 filter_twice p q both (x ∷ xs) h =
     let rest = filter_twice p q both xs h.1 in
-    elim (p x) as (λ b. both x ≡ (b && q x) → filter q (cond b (x ∷ filter p xs) (filter p xs)) ≡ cond (both x) (x ∷ filter both xs) (filter both xs)) [
-      | true ↦ λ e i. cond (sym e i) (x ∷ rest i) (rest i)
-      | false ↦ λ e. rest ∙ ap (λ b. cond b (x ∷ filter both xs) (filter both xs)) (sym e)
-    ] h.0
+    search rules
 
 -- the records that have become live are the live ones without those that were
 pub risen_are : (old new : Content) → without_ids (live_of new) (live_of old) ≡ risen old new
@@ -56,18 +53,5 @@ gains_first old new None rest none = (
 
 -- each live record still is exactly where none has become live on the way back
 pub keeps_where_none_back : (old new : Content) (back : Bool) → (back ≡ true) ↔ GainsLive new old → (not back ≡ true) ↔ KeepsLive old new
-keeps_where_none_back old new true told = (
-  λ e. absurd (false≢true e),
-  λ keeps.
-      let gains = told.0 refl in
-      let both = and_parts (is_live old gains.0) (not (is_live new gains.0)) gains.1 in
-      absurd (false≢true (sym (ap not (keeps gains.0 both.0)) ∙ both.1)),
-)
-keeps_where_none_back old new false told = (
-  λ _ id live.
-      elim (is_live new id) as (λ b. is_live new id ≡ b → b ≡ true) [
-        | true ↦ λ _. refl
-        | false ↦ λ e. absurd (false≢true (told.1 (id, λ i. live i && not (e i))))
-      ] refl,
-  λ _. refl,
-)
+keeps_where_none_back old new true told = search rules
+keeps_where_none_back old new false told = search rules

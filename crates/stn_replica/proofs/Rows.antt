@@ -1,17 +1,9 @@
 -- Rows of bounds, one after the other.
-use Rattle.std.{proofs.{Common.{◌≡◌, ℕ, suc, ◌+◌, ◌<◌, List, [], ◌∷◌, ◌++◌, length, take, drop, set, get_or, sym, ap, subst, ◌∙◌, append_assoc, append-nil}, Math.Seq.split_at, lemmas.List.{set_split, take_more, Concat.flat_map-append, Sorted.{All-permutation, IsPermutation-append_comm, IsPermutation-append_left, IsPermutation-append_right, IsPermutation-trans}}}, specs.{Prelude.{All, Vec}, List.Sorted.IsPermutation}}
+use Rattle.std.{proofs.{Common.{rules, ◌≡◌, ℕ, suc, ◌+◌, ◌<◌, List, [], ◌∷◌, ◌++◌, length, take, drop, set, get_or, sym, ap, subst, ◌∙◌, append_assoc}, Math.Seq.split_at, lemmas.List.{set_split, take_more, Concat.flat_map-append, Sorted.{All-permutation, IsPermutation-append_comm, IsPermutation-append_left, IsPermutation-append_right, IsPermutation-trans}}}, specs.{Prelude.{All, Vec}, List.Sorted.IsPermutation}}
 use Rattle.stn_net.specs.Difference.{Difference, NamesEvents}
 use Rattle.stn_replica.specs.Rows.{in_turn}
 
 module _ {A : Type 0} where
-  -- the bounds of one row
-  in_one : (row : Vec Difference A) → in_turn (row ∷ []) ≡ row.items
-  in_one row = append-nil row.items
-
-  -- one more row
-  pub in_turn_more : (rows : List (Vec Difference A)) (row : Vec Difference A) → in_turn (rows ++ row ∷ []) ≡ in_turn rows ++ row.items
-  in_turn_more rows row = flat_map-append (λ (r : Vec Difference A). r.items) rows (row ∷ []) ∙ ap (λ l. in_turn rows ++ l) (in_one row)
-
   -- a bound more in a row is a bound more
   pub in_turn_pushed : (rows : List (Vec Difference A)) (i : ℕ) (none new : Vec Difference A) (bound : Difference) → i < length rows
       → new.items ≡ (get_or rows i none).items ++ bound ∷ [] → IsPermutation (in_turn rows ++ bound ∷ []) (in_turn (set rows i new))
@@ -21,9 +13,8 @@ module _ {A : Type 0} where
       let behind = in_turn (drop (suc i) rows) in
       let was : in_turn rows ≡ (front ++ old.items) ++ behind =
       ap (λ r. in_turn r) (split_at rows i none within) ∙ flat_map-append (λ (r : Vec Difference A). r.items) (take i rows) (old ∷ drop (suc i) rows) ∙ sym (append_assoc front old.items behind) in
-      let now : in_turn (set rows i new) ≡ (front ++ old.items) ++ (bound ∷ [] ++ behind) =
-      ap (λ r. in_turn r) (set_split rows i new within) ∙ flat_map-append (λ (r : Vec Difference A). r.items) (take i rows) (new ∷ drop (suc i) rows)
-      ∙ ap (λ l. front ++ (l ++ behind)) items ∙ ap (λ l. front ++ l) (append_assoc old.items (bound ∷ []) behind) ∙ sym (append_assoc front old.items (bound ∷ [] ++ behind)) in
+      let now : in_turn (set rows i new) ≡ (front ++ old.items) ++ (bound ∷ [] ++ behind) = search (rules, set_split, flat_map-append, append_assoc)
+      in
       subst (λ l. IsPermutation (in_turn rows ++ bound ∷ []) l) (sym now)
       (subst (λ l. IsPermutation (l ++ bound ∷ []) ((front ++ old.items) ++ (bound ∷ [] ++ behind))) (sym was)
       (subst (λ l. IsPermutation l ((front ++ old.items) ++ (bound ∷ [] ++ behind))) (sym (append_assoc (front ++ old.items) behind (bound ∷ [])))

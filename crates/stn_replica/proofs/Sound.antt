@@ -1,9 +1,9 @@
 -- That a replica stays sound, and what its work is.
-use Rattle.std.proofs.{Common.{◌≡◌, ◌+◌, ◌≤◌, Bool, true, false, List, [], ◌∷◌, ◌++◌, refl, sym, ap, subst, ◌∙◌, arith, All}, lemmas.{Bool.false≢true, List.Elements.All-append}}
+use Rattle.std.proofs.{Common.{rules, ◌≡◌, ◌+◌, ◌≤◌, Bool, true, false, List, [], ◌∷◌, ◌++◌, sym, subst, ◌∙◌, arith, All}, lemmas.List.Elements.All-append}
 use Rattle.stn_net.specs.{Difference.{Difference, NamesEvents}, Schedule.HasSchedule, Matrix.{Table.Table, Tightest.IsExact}}
 use Rattle.stn_lift.specs.PlanSource.{PlanSource, base_bounds, events_of}
 use Rattle.stn_records.specs.{Id.SiteCounter, declared.record.Record.Record, Content.{Content, is_live, with_tombstone}}
-use Rattle.stn_site.{specs.{Bounds.{all_bounds, live_bounds, bounds_of, RecordsName}, Held.Held, Growth.{Extends, risen, KeepsLive}}, proofs.{Named.live_named, Changes.{IsGrown, one_risen, withdrawn_dead, same_live}, Live.conflict_stays}}
+use Rattle.stn_site.{specs.{Bounds.{all_bounds, live_bounds, bounds_of, RecordsName}, Held.Held, Growth.{Extends, risen, KeepsLive}}, proofs.{Named.live_named, Changes.{IsGrown, one_risen, same_live}, Live.conflict_stays}}
 use Rattle.stn_replica.{specs.{Invariant.{IsSettled, IsSoundReplica}, Work.SparesWork}, proofs.Settled.{settled_added, settled_alike, settled_grown}}
 
 -- the table is exact where the bounds have a schedule
@@ -52,8 +52,7 @@ spares_added old new before after id r more was is least most = λ _ _. (least, 
 
 -- where a live record has stopped being live, nothing is said of the work
 pub spares_fallen : (old new : Held) (before after : Content) → ¬ KeepsLive before after → old.state ≡ before → new.state ≡ after → SparesWork old new
-spares_fallen old new before after falls was is = λ keeps _.
-    absurd (falls (λ id live. ap (λ s. is_live s id) (sym is) ∙ keeps id (ap (λ s. is_live s id) was ∙ live)))
+spares_fallen old new before after falls was is = search rules
 
 -- after a rebuild
 pub sound_rebuilt : (source : PlanSource) (state new : Content) (opening current next : Table) (possible result : Bool)
@@ -61,8 +60,7 @@ pub sound_rebuilt : (source : PlanSource) (state new : Content) (opening current
     → ((bounds : List Difference) → IsExact bounds opening → IsSettled (bounds ++ live_bounds new) next result)
     → next.events ≡ current.events → next.steps ≤ 18446744073709551615
     → IsSoundReplica source new opening next result
-sound_rebuilt source state new opening current next possible result p named settled events counted =
-    sound_again source state new opening current next possible result p named events counted (λ _. settled (base_bounds source) p.opening_exact)
+sound_rebuilt source state new opening current next possible result p named settled events counted = search rules
 
 -- after a take by which no live record stops being live
 pub sound_taken : (source : PlanSource) (state new : Content) (opening current next : Table) (possible result : Bool)
@@ -77,20 +75,12 @@ sound_taken source state new opening current next possible result p t keeps more
 pub sound_taken_in_conflict : (source : PlanSource) (state new : Content) (opening current : Table) (possible : Bool)
     → IsSoundReplica source state opening current possible → possible ≡ false → KeepsLive state new → Extends state new → RecordsName (events_of source) new
     → IsSoundReplica source new opening current false
-sound_taken_in_conflict source state new opening current possible p t keeps more named =
-    sound_again source state new opening current current possible false p named refl p.counted
-    (λ _. conflict_stays (base_bounds source) state new more keeps (settled_conflict (all_bounds source state) current possible t p.settled))
+sound_taken_in_conflict source state new opening current possible p t keeps more named = search (rules, conflict_stays, settled_conflict)
 
 -- after a withdrawal of a record that was not live
 pub sound_dead : (source : PlanSource) (state : Content) (opening current : Table) (possible : Bool) (id : SiteCounter) → IsSoundReplica source state opening current possible
     → is_live state id ≡ false → IsSoundReplica source (with_tombstone state id) opening current possible
-sound_dead source state opening current possible id p dead =
-    sound_again source state (with_tombstone state id) opening current current possible possible p p.named refl p.counted
-    (λ all. settled_alike (base_bounds source) state (with_tombstone state id) current possible refl (same_live state id dead) all p.settled)
-
--- where the withdrawn record was live, a live record has stopped being live
-pub falls_withdrawn : (state : Content) (id : SiteCounter) → is_live state id ≡ true → ¬ KeepsLive state (with_tombstone state id)
-falls_withdrawn state id live keeps = false≢true (sym (withdrawn_dead state id) ∙ keeps id live)
+sound_dead source state opening current possible id p dead = search (rules, sound_again, settled_alike, same_live)
 
 -- where the steps are the same
 pub spares_same : (old new : Held) → new.steps ≡ old.steps → SparesWork old new

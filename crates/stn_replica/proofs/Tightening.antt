@@ -1,5 +1,5 @@
 -- Tightening a matrix by the bounds of records, one after another.
-use Rattle.std.proofs.{Common.{◌≡◌, ◌+◌, ◌≤◌, List, [], ◌∷◌, ◌++◌, length, min, sym, ap, subst, ◌∙◌, arith, append_assoc, append-nil, length-append, All}, lemmas.List.map-append}
+use Rattle.std.proofs.{Common.{rules, ◌≡◌, ◌+◌, ◌≤◌, List, [], ◌∷◌, ◌++◌, length, min, sym, ap, subst, ◌∙◌, arith, append_assoc, append-nil, length-append, All}, lemmas.List.map-append}
 use Rattle.stn_net.{specs.{Difference.{Difference, NamesEvents}, Schedule.{HasSchedule, IsSchedule}, Matrix.{Table.Table, Tightest.IsExact}}, proofs.Closure.schedule_before}
 use Rattle.stn_records.specs.{Id.SiteCounter, declared.record.Record.Record}
 use Rattle.stn_site.{specs.Bounds.bounds_of, proofs.Walk.next_has}
@@ -23,10 +23,6 @@ module _ {records seen ahead rest : List (SiteCounter × Record)} {e : SiteCount
       let P : SiteCounter × Record → Type 0 = λ entry. NamesEvents first.events entry.1.bound in
       subst (λ events. NamesEvents events e.1.bound) (sym p.events) (next_has P records seen rest e next_among named)
 
-  -- its bound comes after those so far
-  with_next : (bounds : List Difference) → (bounds ++ bounds_of seen) ++ e.1.bound ∷ [] ≡ bounds ++ bounds_of (seen ++ e ∷ [])
-  with_next bounds = append_assoc bounds (bounds_of seen) (e.1.bound ∷ []) ∙ ap (λ back. bounds ++ back) (sym (map-append (λ entry. entry.1.bound) seen (e ∷ [])))
-
   -- the matrix takes it
   pub next_taken : (more : Table) → ((bounds : List Difference) → IsExact bounds now → IsExact (bounds ++ e.1.bound ∷ []) more)
       → more.events ≡ now.events → more.steps ≡ min (now.steps + 1) 18446744073709551615
@@ -35,7 +31,7 @@ module _ {records seen ahead rest : List (SiteCounter × Record)} {e : SiteCount
       let longer = length-append seen (e ∷ []) in
       record {
         parts = next_among ∙ sym (append_assoc seen (e ∷ []) rest);
-        exact = λ bounds exact. subst (λ all. IsExact all more) (with_next bounds) (taken (bounds ++ bounds_of seen) (p.exact bounds exact));
+        exact = λ bounds exact. subst (λ all. IsExact all more) (search (rules, append_assoc, map-append)) (taken (bounds ++ bounds_of seen) (p.exact bounds exact));
         events = events ∙ p.events;
         counted = omega (arith, p.counted);
         least = omega (arith, p.least, p.counted);
@@ -45,9 +41,8 @@ module _ {records seen ahead rest : List (SiteCounter × Record)} {e : SiteCount
   -- where the bounds so far have no schedule with it, all have none
   pub next_conflicts : (bounds : List Difference) → ¬ HasSchedule ((bounds ++ bounds_of seen) ++ e.1.bound ∷ []) → ¬ HasSchedule (bounds ++ bounds_of records)
   next_conflicts bounds none s =
-      let whole : bounds ++ bounds_of records ≡ ((bounds ++ bounds_of seen) ++ e.1.bound ∷ []) ++ bounds_of rest =
-      ap (λ all. bounds ++ bounds_of all) next_among ∙ ap (λ back. bounds ++ back) (map-append (λ entry. entry.1.bound) seen (e ∷ rest))
-      ∙ sym (append_assoc bounds (bounds_of seen) (e.1.bound ∷ bounds_of rest)) ∙ sym (append_assoc (bounds ++ bounds_of seen) (e.1.bound ∷ []) (bounds_of rest)) in
+      let whole : bounds ++ bounds_of records ≡ ((bounds ++ bounds_of seen) ++ e.1.bound ∷ []) ++ bounds_of rest = search (rules, next_among, map-append, append_assoc)
+      in
       none (s.0, schedule_before ((bounds ++ bounds_of seen) ++ e.1.bound ∷ []) (bounds_of rest) s.0 (subst (λ these. IsSchedule these s.0) whole s.1))
 
 -- at the end it has taken all

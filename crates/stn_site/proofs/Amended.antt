@@ -1,5 +1,5 @@
 -- What an amendment under a new id leaves, and why it is refused.
-use Rattle.std.{proofs.{Common.{◌≡◌, ℕ, suc, ◌+◌, ◌<◌, ◌≤◌, Bool, true, false, cond, not, ◌||◌, Some, None, is_some, refl, sym, ap, ◌∙◌, arith, leb}, lemmas.Bool.{false≢true, false_from_ne_true, eq-eqb, ne_eqb, Decides.nat_tests}}, specs.{Prelude.{option_map, ◌==◌}, Bool.then_some, FinMap.get}}
+use Rattle.std.{proofs.{Common.{rules, ◌≡◌, ℕ, suc, ◌<◌, ◌≤◌, Bool, true, false, cond, not, ◌||◌, Some, None, refl, sym, ap, ◌∙◌, arith, leb}, lemmas.Bool.{false≢true, false_from_ne_true, eq-eqb, ne_eqb, Decides.nat_tests}}, specs.{Prelude.{option_map, ◌==◌}, Bool.then_some, FinMap.get}}
 use Rattle.stn_net.specs.Difference.{Difference}
 use Rattle.stn_records.{specs.{Id.{SiteCounter, most_counter, same_ids}, Record.same_records, Maps.differ, ContentLaws.ids_decide, Refusals.{amendment_refusal, clashes, is_too_much}, Content.{most_known, Content, IsSound, is_known, known_count, next_counter, plain, with_amendment}}, proofs.Limits.amended_count}
 use Rattle.stn_records.specs.declared.faults.RecordsFault.TheVariants as records
@@ -14,10 +14,7 @@ module _ (s : Content) (id old : SiteCounter) (bound : Difference) (unknown : is
 
   -- one id more is known
   one_known : known_count amended ≡ suc (known_count s)
-  one_known =
-      let counted = amended_count s id old bound (λ z there. absurd (false≢true (ap is_some (sym nothing ∙ there)))) others in
-      let here : known_count s + cond (is_known s old) 0 1 + cond (is_known s id) 0 1 ≡ known_count s + 0 + 1 = (λ i. known_count s + cond (known i) 0 1 + cond (unknown i) 0 1) in
-      omega (arith, counted, here)
+  one_known = search (rules, amended_count)
 
   too_much_where_full : known_count s ≡ most_known → is_too_much s id old bound ≡ true
   too_much_where_full full = past (known_count amended) (omega (arith, one_known, full))

@@ -1,5 +1,5 @@
 -- The first of all bounds that times break.
-use Rattle.std.{proofs.{Common.{◌≡◌, ℕ, ℤ, pos, ◌-ℤ◌, ◌≤ℤ◌, ◌+◌, ◌-◌, ◌<◌, nat_lt, Bool, not, cond, List, length, get_or, take, Some, None, sym, ap, subst, ◌∙◌, arith, length-append, length-take, All}, lemmas.{Bool.{false_from_ne_true, cond-true, cond-false, le-ltb, lt-ltb, Decides.{nat_tests, Decides-and}}, Int.ints, List.{take-append-le, get_or_append_left, get_or-append-add, get_or-take, get_or_default, Sums.position_or_len_is, Elements.All-append}}, Math.Seq.take-append-add}, specs.{Prelude.{int_le, position, option_map}, List.{position_or_len, HoldsAt}, Bool.Decides}}
+use Rattle.std.{proofs.{Common.{◌≡◌, ℕ, ℤ, pos, ◌-ℤ◌, ◌≤ℤ◌, ◌+◌, ◌-◌, ◌<◌, nat_lt, Bool, not, cond, List, length, get_or, take, Some, None, sym, ap, subst, ◌∙◌, arith, length-append, length-take, All}, lemmas.{Bool.{false_from_ne_true, cond-true, cond-false, le-ltb, lt-ltb, Decides.Decides-and}, Int.ints, List.{take-append-le, get_or_append_left, get_or-append-add, get_or-take, get_or_default, Sums.position_or_len_is, Elements.All-append}}, Math.Seq.take-append-add}, specs.{Prelude.{int_le, position, option_map}, List.{position_or_len, HoldsAt}, Bool.Decides}}
 use Rattle.stn_net.specs.{Difference.Difference, Schedule.{IsSchedule, Meets}}
 use Rattle.stn_lift.specs.PlanSource.{PlanSource, base_bounds}
 use Rattle.stn_records.specs.{Id.SiteCounter, Content.Content}
@@ -66,10 +66,10 @@ any_bound : Difference
 any_bound = record { from = 0; to = 0; lo = pos 0; hi = pos 0 }
 
 place_of : (met count place : ℕ) → met ≡ place → place < count → cond (nat_lt met count) (Some met) None ≡ Some place
-place_of met count place e lt = grind (arith, nat_tests)
+place_of met count place e lt = grind arith
 
 no_place : (met count : ℕ) → met ≡ count → cond (nat_lt met count) (Some met) None ≡ None
-no_place met count e = grind (arith, nat_tests)
+no_place met count e = grind arith
 
 first_place : (time : ℕ → ℤ) (bounds : List Difference) (place : ℕ) → place < length bounds → ¬ HoldsAt (Meets time) bounds place → All (Meets time) (take place bounds)
     → position (is_broken time) bounds ≡ Some place
@@ -89,8 +89,7 @@ nothing_broken time bounds met =
 
 pub broken_some : (source : PlanSource) (state : Content) (time : ℕ → ℤ) (name : BoundName) → IsFirstBroken source state time name → Some name ≡ broken_bound source state time
 unfolding broken_bound
-broken_some source state time name first =
-    ap Some first.name ∙ sym (ap (option_map (name_in (base_bounds source) (live_ids state))) (first_place time (all_bounds source state) first.place first.there first.broken first.earlier))
+broken_some source state time name first = cc (first_place time (all_bounds source state) first.place first.there first.broken first.earlier)
 
 pub broken_none : (source : PlanSource) (state : Content) (time : ℕ → ℤ) → IsSchedule (all_bounds source state) time → None ≡ broken_bound source state time
 unfolding broken_bound

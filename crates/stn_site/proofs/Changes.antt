@@ -1,8 +1,8 @@
 -- What an addition, an amendment, a withdrawal and a take make of a state.
-use Rattle.std.{proofs.{Common.{◌≡◌, ◌<◌, ◌≤◌, Bool, true, false, not, ◌&&◌, ◌||◌, List, [], ◌∷◌, ◌++◌, length, Option, Some, None, is_some, inl, ⊎_elim, refl, sym, ap, subst, ◌∙◌, arith, All}, lemmas.{Bool.{false≢true, false_from_ne_true, cases_lt, or_cases, not-true, and_parts, or_right}, List.Elements.{All-nil, All-push}, Option.same_Some}, Math.Bool.{and-false, and-not_self}}, specs.{Ordering.eq_by_cmp, FinMap.{get, insert, contains_key}}}
-use Rattle.stn_net.{specs.{Difference.{Difference, NamesEvents}, Schedule.Meets, Matrix.Table.Table}, proofs.{Closure.schedule_before, Schedules.{met_behind, schedule_with}}}
+use Rattle.std.{proofs.{Common.{rules, ◌≡◌, ◌<◌, ◌≤◌, true, false, not, ◌&&◌, ◌||◌, List, [], ◌∷◌, length, Option, Some, None, is_some, inl, ⊎_elim, refl, sym, ap, subst, ◌∙◌, arith, All}, lemmas.{Bool.{false≢true, false_from_ne_true, cases_lt, or_cases, not-true, and_parts, or_right}, List.Elements.All-nil, Option.same_Some}, Math.Bool.{and-false, and-not_self}}, specs.{Ordering.eq_by_cmp, FinMap.{get, insert, contains_key}}}
+use Rattle.stn_net.specs.Difference.{Difference}
 use Rattle.stn_records.{specs.{Id.{SiteCounter, id_cmp}, declared.record.Record.Record, ContentLaws.contents_join, Content.{Content, addition, is_live, is_replaced, is_known, plain, replaced_set, with_amendment, with_record, with_tombstone, join_contents}}, proofs.Replaced.{replaced_by_withdrawal, inserted_key, replaced_withdrawn, replaced_amended}}
-use Rattle.stn_site.{specs.{Bounds.{bounds_of, live_bounds}, Growth.{is_risen, risen, KeepsLive, Extends}}, proofs.{Counts.{unknown_absent, unknown_unreplaced}, Named.{same_id, itself, get_added}, Live.{RisenHold, keeps_unless_replaced, falls_where_replaced, live_from_bounds, bounds_from_live, risen_from_bounds, old_hold, risen_hold, new_hold}}}
+use Rattle.stn_site.{specs.{Bounds.bounds_of, Growth.{is_risen, risen, KeepsLive, Extends}}, proofs.{Counts.{unknown_absent, unknown_unreplaced}, Named.{same_id, itself, get_added}, Live.{RisenHold, keeps_unless_replaced, falls_where_replaced, risen_from_bounds}}}
 
 -- ---- an id that is replaced is not live
 pub replaced_dead : (s : Content) (id : SiteCounter) → is_replaced s id ≡ true → is_live s id ≡ false
@@ -69,10 +69,7 @@ grown_with_record s id r unknown =
 module _ (s new : Content) (id old : SiteCounter) (bound : Difference) (is : new ≡ with_amendment s id old bound) (agrees : (z : SiteCounter) → get s.replacements id ≡ Some z → z ≡ old) where
   -- the old id is replaced, and those that were
   replaced_or_old : (q : SiteCounter) → is_replaced new q ≡ (eq_by_cmp id_cmp q old || is_replaced s q)
-  replaced_or_old q =
-      ap (λ t. is_replaced t q) is
-      ∙ ap (λ m. contains_key m q) (sym (replaced_amended s id old bound agrees))
-      ∙ inserted_key (replaced_set s) old q
+  replaced_or_old q = cc (replaced_amended s id old bound agrees, inserted_key (replaced_set s) old q)
 
   -- where the old record was not live, the new one has become so, and no other changes
   pub grown_with_amendment : is_known s id ≡ false → is_known s old ≡ true → is_live s old ≡ false → IsGrown s new id (plain bound)
@@ -120,8 +117,4 @@ module _ (s : Content) (id : SiteCounter) where
 
   -- where it was not live, the same records are
   pub same_live : is_live s id ≡ false → (q : SiteCounter) → is_live (with_tombstone s id) q ≡ is_live s q
-  same_live dead q =
-      elim (eq_by_cmp id_cmp q id) as (λ b. eq_by_cmp id_cmp q id ≡ b → is_live (with_tombstone s id) q ≡ is_live s q) [
-        | true ↦ λ t. ap (λ k. is_live (with_tombstone s id) k) (same_id q id t) ∙ withdrawn_dead ∙ sym dead ∙ ap (λ k. is_live s k) (sym (same_id q id t))
-        | false ↦ λ t. ap (λ b. is_some (get s.additions q) && not b) (replaced_or_here q ∙ ap (λ b. b || is_replaced s q) t)
-      ] refl
+  same_live dead q = search (rules, replaced_or_here)

@@ -1,5 +1,5 @@
 -- What counts of a state: its additions, and the ids that are replaced.
-use Rattle.std.{proofs.{Common.{◌≡◌, ◌↔◌, true, false, Option, Some, None, is_some, inl, inr, ⊎_elim, refl, sym, ap, ◌∙◌}, lemmas.Bool.{false≢true, or_parts}}, specs.FinMap.get}
+use Rattle.std.{proofs.{Common.{rules, ◌≡◌, ◌↔◌, true, false, Option, Some, None, is_some, inl, inr, ⊎_elim, refl, sym, ap, ◌∙◌}, lemmas.Bool.{false≢true, or_parts}}, specs.FinMap.get}
 use Rattle.stn_records.{specs.{Id.SiteCounter, ContentLaws.{records_join, ids_join}, Content.{Content, AllAmend, Item, addition, withdrawal, replacement, HasItem, CountsSame, is_known, is_replaced, replaced_set}}, proofs.Replaced.{replaced_cases, replaced_by_withdrawal, replaced_by_entry}}
 use Rattle.stn_site.specs.Calls.{Replaces, CountAlike}
 
@@ -17,11 +17,7 @@ unknown_unreplaced s id e = (or_parts _ _ e).1
 
 -- and replaces nothing
 pub replaces_nothing : (s : Content) (id : SiteCounter) → AllAmend s → is_known s id ≡ false → get s.replacements id ≡ None
-replaces_nothing s id amends unknown =
-    elim (get s.replacements id) as (λ o. get s.replacements id ≡ o → o ≡ None) [
-      | None ↦ λ e. refl
-      | Some old ↦ λ e. absurd (false≢true (ap is_some (sym (unknown_absent s id unknown) ∙ (amends id old e).added.1)))
-    ] refl
+replaces_nothing s id amends unknown = search rules
 
 -- an id is replaced where an item replaces it
 pub replaced_by_items : (s : Content) (old : SiteCounter) → (is_replaced s old ≡ true) ↔ Replaces (HasItem s) old

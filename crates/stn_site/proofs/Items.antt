@@ -1,5 +1,5 @@
 -- The items of the state that calls leave.
-use Rattle.std.{proofs.{Common.{◌≡◌, ◌↔◌, ◌⊎◌, ℕ, inl, inr, ⊎_elim, true, false, cond, is_some, is_eq, Some, List, [], ◌∷◌, refl, ap, sym, subst, ◌∙◌}, lemmas.Bool.false≢true}, specs.{Cmp.Equal-is, FinMap.{get-empty, get-insert}}}
+use Rattle.std.{proofs.{Common.{rules, ◌≡◌, ◌↔◌, ◌⊎◌, ℕ, inl, inr, ⊎_elim, true, false, cond, is_some, is_eq, Some, List, [], ◌∷◌, refl, ap, sym, subst, ◌∙◌}, lemmas.Bool.false≢true}, specs.{Cmp.Equal-is, FinMap.{get-empty, get-insert}}}
 use Rattle.std.specs.FinMap as fin
 use Rattle.stn_net.specs.Difference.{Difference}
 use Rattle.stn_records.{specs.{declared.record.Record.Record, Id.{SiteCounter, id_cmp}, ContentLaws.{ids_total, ids_exact, contents_join}, Content.{Content, Item, AllAmend, addition, withdrawal, replacement, HasItem, CountsSame, is_known, join_contents, no_content, one_amendment, one_record, one_tombstone, plain, with_amendment, with_record, with_tombstone, next_counter}}, proofs.{OneItem.{inserted_here, record_joins, amendment_joins, tombstone_joins}, Counters.next_is_new}}
@@ -57,14 +57,14 @@ pub addition_items : (s : Content) (id : SiteCounter) (one : Record) → is_know
 addition_items s id one unknown item =
     let union = contents_join.union s (one_record id one) (with_record s id one)
     (record_joins s id one (λ z there. absurd (false≢true (ap is_some (sym (unknown_absent s id unknown) ∙ there))))) item in
-    (λ h. ⊎_elim inl (λ x. inr ((one_addition id one item).0 x)) (union.0 h), λ h. union.1 (⊎_elim inl (λ x. inr ((one_addition id one item).1 x)) h))
+    search (rules, one_addition)
 
 -- an amendment that is joined is two items more
 pub amendment_brought : (s new : Content) (id old : SiteCounter) (bound : Difference) → join_contents s (one_amendment id old bound) ≡ Some new
     → (item : Item) → HasItem new item ↔ (HasItem s item ⊎ ((item ≡ addition id (plain bound)) ⊎ (item ≡ replacement id old)))
 amendment_brought s new id old bound joins item =
     let union = contents_join.union s (one_amendment id old bound) new joins item in
-    (λ h. ⊎_elim inl (λ x. inr ((two_items id old bound item).0 x)) (union.0 h), λ h. union.1 (⊎_elim inl (λ x. inr ((two_items id old bound item).1 x)) h))
+    search (rules, two_items)
 
 -- an amendment under an id that is not known is two items more
 pub amendment_items : (s : Content) (id old : SiteCounter) (bound : Difference) → AllAmend s → is_known s id ≡ false
@@ -77,14 +77,12 @@ amendment_items s id old bound amends unknown =
 
 pub record_brought : (s new : Content) (site : ℕ) (id : SiteCounter) (one : Record) → id ≡ record { site = site; counter = next_counter s site } → new ≡ with_record s id one
     → (item : Item) → HasItem new item ↔ (HasItem s item ⊎ (item ≡ addition id one))
-record_brought s new site id one next is item =
-    let unknown : is_known s id ≡ false = subst (λ (i : SiteCounter). is_known s i ≡ false) (sym next) (next_is_new s site (next_counter s site) refl) in
-    subst (λ (n : Content). HasItem n item ↔ (HasItem s item ⊎ (item ≡ addition id one))) (sym is) (addition_items s id one unknown item)
+record_brought s new site id one next is item = search (rules, next_is_new, addition_items)
 
 pub withdrawal_brought : (s new : Content) (id : SiteCounter) → new ≡ with_tombstone s id → (item : Item) → HasItem new item ↔ (HasItem s item ⊎ (item ≡ withdrawal id))
 withdrawal_brought s new id is item =
     let union = contents_join.union s (one_tombstone id) new (tombstone_joins s id ∙ ap Some (sym is)) item in
-    (λ h. ⊎_elim inl (λ x. inr ((one_withdrawal id item).0 x)) (union.0 h), λ h. union.1 (⊎_elim inl (λ x. inr ((one_withdrawal id item).1 x)) h))
+    search (rules, one_withdrawal)
 
 -- a call leaves the items that were there and those that it brought
 pub one_brought : (old : Held) (call : Accepted) (new : Content) → LeavesState old call new → (item : Item) → HasItem new item ↔ (HasItem old.state item ⊎ Brought call item)
@@ -95,14 +93,10 @@ one_brought old (took other) new left item = contents_join.union old.state other
 
 -- three parts in a row
 pub regroup : {A B C N L : Type 0} → (L ↔ (N ⊎ C)) → (N ↔ (A ⊎ B)) → L ↔ (A ⊎ (B ⊎ C))
-regroup last first = (
-  λ h. ⊎_elim (λ n. ⊎_elim inl (λ b. inr (inl b)) (first.0 n)) (λ c. inr (inr c)) (last.0 h),
-  λ h. ⊎_elim (λ a. last.1 (inl (first.1 (inl a)))) (λ rest. ⊎_elim (λ b. last.1 (inl (first.1 (inr b)))) (λ c. last.1 (inr c)) rest) h,
-)
+regroup last first = search rules
 
 all_brought : (old new : Held) (calls : List Accepted) → AllLeave old calls new → (item : Item) → HasItem new.state item ↔ (HasItem old.state item ⊎ Took calls item)
-all_brought old new [] same item =
-    (λ h. inl (subst (λ (h : Held). HasItem h.state item) same h), λ h. ⊎_elim (λ x. subst (λ (h : Held). HasItem h.state item) (sym same) x) (λ none. absurd none) h)
+all_brought old new [] same item = search rules
 all_brought old new (call ∷ calls) left item =
     regroup (all_brought left.0 new calls left.2 item) (one_brought old call left.0.state left.1.state item)
 
@@ -110,7 +104,7 @@ all_brought old new (call ∷ calls) left item =
 pub state_is_union : (calls : List Accepted) (held : Held) → CameBy calls held → (item : Item) → HasItem held.state item ↔ Took calls item
 state_is_union calls held came item =
     let all = all_brought came.first held calls came.steps item in
-    (λ h. ⊎_elim (λ x. absurd (nothing_there item (subst (λ (s : Content). HasItem s item) came.nothing x))) (λ t. t) (all.0 h), λ t. all.1 (inr t))
+    search (rules, nothing_there)
 
 -- calls that brought the same items leave the same state
 pub same_state : (ours theirs : List Accepted) (one other : Held) → CameBy ours one → CameBy theirs other → TookSameItems ours theirs → one.state ≡ other.state

@@ -1,17 +1,12 @@
 -- How long the parts of a report's lines are.
-use Rattle.std.{proofs.{Common.{◌≡◌, ℕ, ◌+◌, ◌/◌, ◌%◌, ◌^◌, ◌<◌, ◌≤◌, Bool, true, false, cond, eqb, List, ◌++◌, length, ℤ, pos, negsuc, Result, Ok, Err, OnOk, refl, ap, subst, ◌∙◌, arith, codes, length-append}, lemmas.{Int.ints, Fmt.length-decimal-le_wide}}, specs.{Prelude.unsigned_abs, Int.{is_negative, RustNames.FitsSigned}, Fmt.{decimal, sign_text}}}
+use Rattle.std.{proofs.{Common.{rules, ◌≡◌, ℕ, ◌+◌, ◌/◌, ◌%◌, ◌^◌, ◌<◌, ◌≤◌, Bool, true, false, cond, eqb, List, ◌++◌, length, ℤ, pos, negsuc, Result, Ok, Err, OnOk, refl, ap, subst, ◌∙◌, arith, codes, length-append}, lemmas.{Int.ints, Fmt.length-decimal-le_wide}}, specs.{Prelude.unsigned_abs, Int.RustNames.FitsSigned, Fmt.decimal}}
 use mir.Syntax.{w64}
-use Rattle.stn_time.{specs.{Text.{whole_text, three_digits, printed}, Time.IsWithinHorizon, TimeOf.time_of}, proofs.{Forms.read-time, Prints.decimal-whole_text}}
+use Rattle.stn_time.{specs.{Text.{whole_text, printed}, Time.IsWithinHorizon, TimeOf.time_of}, proofs.{Forms.read-time, Prints.decimal-whole_text}}
 use Rattle.stn_net.specs.Event.{event_text}
-use Rattle.stn_records.specs.Id.{SiteCounter, id_text}
 
 -- a number of 16 bits, and one of 32
 pub short_number : (n : ℕ) → n < 2 ^ 16 → length (decimal n) ≤ 5
 short_number n small = length-decimal-le_wide 5 n (omega arith) (omega arith) (omega arith)
-
-sign_length : (negative : Bool) → length (sign_text negative) ≤ 1
-sign_length true = omega arith
-sign_length false = omega arith
 
 whole_length : (n : ℕ) → n < 10 ^ 16 → length (whole_text n) ≤ 16
 whole_length n small = subst (λ text. length text ≤ 16) (decimal-whole_text n (omega arith)) (length-decimal-le_wide 16 n (omega arith) (omega arith) (omega arith))
@@ -19,16 +14,11 @@ whole_length n small = subst (λ text. length text ≤ 16) (decimal-whole_text n
 -- a number of milliseconds
 millis_length : (millis : ℤ) → unsigned_abs millis < 2 ^ 63 + 1 → length (printed millis) ≤ 21
 unfolding printed
-millis_length millis small =
-    let size = unsigned_abs millis in
-    let whole = whole_length (size / 1000) (omega arith) in
-    let sign = sign_length (is_negative millis) in
-    let rest = codes "." ++ three_digits (size % 1000) in
-    omega (arith, length-append (sign_text (is_negative millis)) (whole_text (size / 1000) ++ rest), length-append (whole_text (size / 1000)) rest)
+millis_length millis small = search (rules, whole_length, length-append)
 
 fits_size : (millis : ℤ) → FitsSigned w64 millis → unsigned_abs millis < 2 ^ 63 + 1
-fits_size (pos n) fits = omega (arith, ints, fits)
-fits_size (negsuc n) fits = omega (arith, ints, fits)
+fits_size (pos n) fits = omega arith
+fits_size (negsuc n) fits = omega arith
 
 -- one of 64 bits
 pub sum_length : (millis : ℤ) → FitsSigned w64 millis → length (printed millis) ≤ 21
@@ -51,11 +41,6 @@ event_cases event few false false = omega (arith, short_number (event / 2) (omeg
 -- an event
 pub event_length : (event : ℕ) → event ≤ 512 → length (event_text event) ≤ 6
 event_length event few = event_cases event few (eqb event 0) (eqb (event % 2) 1)
-
--- an id
-pub id_length : (id : SiteCounter) → id.site ≤ 64 → id.counter < 2 ^ 16 → length (id_text id) ≤ 11
-id_length id site counter =
-    omega (arith, short_number id.site (omega arith), short_number id.counter counter, length-append (decimal id.site ++ codes ".") (decimal id.counter), length-append (decimal id.site) (codes "."))
 
 -- what a text of so many bytes adds
 pub length_appended : (new old text : List ℕ) → new ≡ old ++ text → length new ≡ length old + length text

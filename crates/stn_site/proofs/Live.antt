@@ -1,6 +1,6 @@
 -- The live records of a state, and those that become live from one state to the next.
-use Rattle.std.{proofs.{Common.{◌≡◌, Bool, true, false, cond, not, ◌&&◌, List, [], ◌∷◌, ◌++◌, filter, Option, Some, None, is_some, refl, sym, ap, subst, ◌∙◌, All}, lemmas.{Bool.{false≢true, and_parts}, List.Elements.{All-from_recursion, recursion_from_All}, Option.same_Some}, Math.Bool.and-false}, specs.{List.AllByRecursion, FinMap.{entries, get, contains_key}}}
-use Rattle.stn_net.{specs.{Difference.{Difference, NamesEvents}, Schedule.{HasSchedule, Meets}, Matrix.Table.Table}, proofs.{Closure.schedule_before, Schedules.{met_behind, schedule_with}}}
+use Rattle.std.{proofs.{Common.{rules, ◌≡◌, Bool, true, false, cond, not, ◌&&◌, List, [], ◌∷◌, ◌++◌, filter, Option, Some, None, is_some, refl, sym, ap, ◌∙◌, All}, lemmas.{Bool.{false≢true, and_parts}, List.Elements.{All-from_recursion, recursion_from_All}}, Math.Bool.and-false}, specs.{List.AllByRecursion, FinMap.{entries, get, contains_key}}}
+use Rattle.stn_net.{specs.{Difference.Difference, Schedule.{HasSchedule, Meets}}, proofs.{Closure.schedule_before, Schedules.{met_behind, schedule_with}}}
 use Rattle.stn_records.{specs.{Id.SiteCounter, declared.record.Record.Record, ContentLaws.{ids_total, ids_exact}, Content.{Content, is_live, is_replaced, live_of}}, proofs.Gets.{entries_from_get, get_from_entries}}
 use Rattle.stn_site.{proofs.Named.{records_from_bounds, bounds_from_records}, specs.{Bounds.{bounds_of, live_bounds}, Growth.{is_risen, risen, KeepsLive, Extends}}}
 
@@ -81,14 +81,7 @@ module _ (P : Difference → Type 0) (old new : Content) (extends : Extends old 
   risen_hold f id r there is = f id r there (and_parts (is_live new id) (not (is_live old id)) is).0
 
   pub new_hold : LiveHold P old → RisenHold P old new → LiveHold P new
-  new_hold f g id r there live =
-      elim (is_live old id) as (λ b. is_live old id ≡ b → P r.bound) [
-        | true ↦ λ t.
-            let before = there_where_live (get old.additions id) (not (is_replaced old id)) t in
-            let same = same_Some before.0 r (sym (extends id before.0 before.1) ∙ there) in
-            subst (λ (x : Record). P x.bound) same (f id before.0 before.1 t)
-        | false ↦ λ t. g id r there (ap (λ b. b && not (is_live old id)) live ∙ ap not t)
-      ] refl
+  new_hold f g id r there live = search rules
 
 -- bounds without a schedule have none with more
 pub conflict_stays : (base : List Difference) (old new : Content) → Extends old new → KeepsLive old new
@@ -99,12 +92,7 @@ conflict_stays base old new extends keeps none s =
 
 -- where no id that is replaced now was live, each record that was live still is
 pub keeps_unless_replaced : (old new : Content) → Extends old new → ((id : SiteCounter) → is_replaced new id ≡ true → is_live old id ≡ false) → KeepsLive old new
-keeps_unless_replaced old new extends dead id live =
-    let there = there_where_live (get old.additions id) (not (is_replaced old id)) live in
-    elim (is_replaced new id) as (λ b. is_replaced new id ≡ b → (is_some (get new.additions id) && not b) ≡ true) [
-      | true ↦ λ e. absurd (false≢true (sym (dead id e) ∙ live))
-      | false ↦ λ e. ap (λ o. is_some o && true) (extends id there.0 there.1)
-    ] refl
+keeps_unless_replaced old new extends dead id live = search rules
 
 -- where an id that is replaced now was live, it no longer is
 pub falls_where_replaced : (old new : Content) (id : SiteCounter) → is_replaced new id ≡ true → is_live old id ≡ true → ¬ KeepsLive old new

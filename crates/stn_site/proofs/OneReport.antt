@@ -1,10 +1,10 @@
 -- A plan and a state have one report.
-use Rattle.std.{proofs.{Common.{◌≡◌, ℕ, zero, suc, ◌+◌, ◌⊎◌, List, [], ◌∷◌, ◌++◌, codes, Bool, Some, length, map, inl, inr, sym, ap, subst, ◌∙◌, ⊎_elim}, lemmas.List.Elements.All-take}, specs.List.flat_map}
+use Rattle.std.{proofs.{Common.{rules, ◌≡◌, ℕ, zero, suc, ◌+◌, ◌⊎◌, List, [], ◌∷◌, ◌++◌, Bool, Some, length, map, inl, inr, sym, subst, ◌∙◌, ⊎_elim}, lemmas.List.Elements.All-take}, specs.List.flat_map}
 use Rattle.stn_net.{specs.{Difference.Difference, Schedule.{HasSchedule, Meets}}, proofs.WindowEnds.one_window}
 use Rattle.stn_lift.specs.PlanSource.{PlanSource, base_bounds, events_of, steps_of}
 use Rattle.stn_records.specs.{Id.SiteCounter, declared.record.Record.Record, Content.{Content, live_of, replaced_count}}
 use Rattle.stn_conflict.specs.{declared.links.Link.Link, Arcs.{weight_of, IsNegativeCycle}, Named.IsNamedCycle}
-use Rattle.stn_site.specs.{Bounds.{all_bounds, bounds_of, live_bounds}, Names.live_ids, Lines.{line, plan_line, records_line, window_line, conflict_line, link_line}, Report.{is_done, says_done, IsWindowLines, IsWindowsPart, IsConflictPart, IsReport, heading}}
+use Rattle.stn_site.specs.{Bounds.bounds_of, Lines.{plan_line, records_line, conflict_line, link_line}, Report.{says_done, IsWindowLines, IsWindowsPart, IsConflictPart, IsReport}}
 
 abbrev Entries : Type 0
 Entries = List (SiteCounter × Record)
@@ -14,7 +14,7 @@ one_lines bounds done s zero text other p q = p ∙ sym q
 one_lines bounds done s (suc n) text other p q =
     let ends = one_window bounds (suc n) p.1 p.2 q.1 q.2 s p.4 q.4 in
     let before = one_lines bounds done s n p.0 q.0 p.3 q.3 in
-    p.5 ∙ (λ i. before i ++ window_line (suc n) (ends.0 i) (ends.1 i) (done (suc n))) ∙ sym q.5
+    cc
 
 -- bounds with a named cycle have no schedule
 no_schedule : (bounds : List Difference) (links : List Link) → IsNamedCycle bounds links → ¬ HasSchedule bounds
@@ -25,24 +25,12 @@ no_schedule bounds (link ∷ links) p s =
 one_rest : (source : PlanSource) (state : Content)
     → ((bounds : List Difference) → (one other : List Link) → IsNamedCycle bounds one → IsNamedCycle bounds other → one ≡ other)
     → (rest other : List ℕ) → IsWindowsPart source state rest ⊎ IsConflictPart source state rest → IsWindowsPart source state other ⊎ IsConflictPart source state other → rest ≡ other
-one_rest source state unique rest other p q =
-    ⊎_elim
-    (λ mine. ⊎_elim
-    (λ theirs. mine.whole ∙ ap (λ lines. line (codes "ok") ++ lines) (one_lines (all_bounds source state) (is_done state) mine.possible (events_of source) mine.lines theirs.lines mine.windows theirs.windows) ∙ sym theirs.whole)
-    (λ theirs. absurd (no_schedule (all_bounds source state) theirs.links theirs.named mine.possible)) q)
-    (λ mine. ⊎_elim
-    (λ theirs. absurd (no_schedule (all_bounds source state) mine.links mine.named theirs.possible))
-    (λ theirs. mine.whole
-    ∙ ap (λ links. conflict_line (weight_of (all_bounds source state) links) ++ flat_map (link_line (base_bounds source) (live_ids state) (live_bounds state)) links)
-    (unique (all_bounds source state) mine.links theirs.links mine.named theirs.named)
-    ∙ sym theirs.whole) q)
-    p
+one_rest source state unique rest other p q = search (rules, one_lines, no_schedule)
 
 -- where a list of bounds has one named cycle at most, a plan and a state have one report
 pub one_report : ((bounds : List Difference) → (one other : List Link) → IsNamedCycle bounds one → IsNamedCycle bounds other → one ≡ other)
     → (source : PlanSource) (state : Content) (text other : List ℕ) → IsReport source state text → IsReport source state other → text ≡ other
-one_report unique source state text other p q =
-    p.whole ∙ ap (λ rest. heading source state ++ rest) (one_rest source state unique p.rest q.rest p.part q.part) ∙ sym q.whole
+one_report unique source state text other p q = cc (one_rest source state unique p.rest q.rest p.part q.part)
 
 -- equal states have one report
 pub same_states : (source : PlanSource) (s t : Content) (text other : List ℕ)

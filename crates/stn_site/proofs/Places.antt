@@ -1,5 +1,5 @@
 -- A walk over the records of a state, one after another.
-use Rattle.std.{proofs.{Common.{◌≡◌, ℕ, ◌+◌, ◌<◌, ◌≤◌, List, [], ◌∷◌, ◌++◌, length, get_or, take, sym, ap, subst, ◌∙◌, All}, lemmas.List.{take_all, take_more, Elements.{All-push, All-same, All-get_or}}}, specs.FinMap.entries}
+use Rattle.std.{proofs.{Common.{rules, ◌≡◌, ℕ, ◌+◌, ◌<◌, List, [], ◌∷◌, ◌++◌, length, get_or, take, sym, ap, subst, ◌∙◌, All}, lemmas.List.{take_more, Elements.{All-push, All-same, All-get_or}}}, specs.FinMap.entries}
 use Rattle.stn_records.specs.{Id.SiteCounter, declared.record.Record.Record, Content.{Content, RecordMap}}
 
 -- the records that are walked are those of the state
@@ -7,20 +7,11 @@ pub walked_are : (s held : Content) (additions : RecordMap) (items : List (SiteC
 walked_are s held additions items all part whole = all ∙ ap entries (part ∙ ap (λ (t : Content). t.additions) whole)
 
 module _ {X : Type 0} where
-  -- with the next one, one more has been seen
-  pub one_more_seen : (all items : List X) (place : ℕ) (e : X) → items ≡ all → place < length items → e ≡ get_or items place e → take (place + 1) all ≡ take place all ++ e ∷ []
-  one_more_seen all items place e same within at =
-      subst (λ xs. take (place + 1) xs ≡ take place xs ++ e ∷ []) same (take_more items place e within ∙ ap (λ x. take place items ++ x ∷ []) (sym at))
-
   -- what holds of each one seen, and of the next, holds of one more
   pub seen_with : (P : X → Type 0) (all items : List X) (place : ℕ) (e : X) → items ≡ all → place < length items → e ≡ get_or items place e
       → All P (take place all) → P e → All P (take (place + 1) all)
   seen_with P all items place e same within at seen this =
-      All-same P (take (place + 1) all) (take place all ++ e ∷ []) (one_more_seen all items place e same within at) (All-push P (take place all) e seen this)
-
-  -- after the last all have been seen
-  pub all_seen : (all items : List X) (place : ℕ) → items ≡ all → length items ≤ place → take place all ≡ all
-  all_seen all items place same past = take_all place all (subst (λ xs. length xs ≤ place) same past)
+      All-same P (take (place + 1) all) (take place all ++ e ∷ []) (search (rules, take_more)) (All-push P (take place all) e seen this)
 
   -- what holds of all holds of the next
   pub next_of : (P : X → Type 0) (all items : List X) (place : ℕ) (e : X) → items ≡ all → place < length items → e ≡ get_or items place e → All P all → P e

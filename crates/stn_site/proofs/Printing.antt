@@ -1,10 +1,10 @@
 -- The parts of a report, from what was appended.
-use Rattle.std.{proofs.{Common.{◌≡◌, ℕ, ℤ, suc, ◌+◌, Bool, None, IsNone, IsSome, List, [], ◌∷◌, ◌++◌, length, map, Option, Some, IfSome, refl, sym, ap, subst, ◌∙◌, add-one, All}, lemmas.List.length-map}, specs.{Prelude.{Result, Ok, Err, is_ok, OnOk, OnErr, if◌then◌else◌}, List.flat_map}}
+use Rattle.std.{proofs.{Common.{rules, ◌≡◌, ℕ, ℤ, ◌+◌, Bool, None, IsNone, IsSome, List, [], ◌∷◌, ◌++◌, length, map, Option, Some, IfSome, refl, sym, ap, subst, ◌∙◌, All}, lemmas.List.length-map}, specs.{Prelude.{Result, Ok, Err, is_ok, OnOk, OnErr, if◌then◌else◌}, List.flat_map}}
 use Rattle.stn_net.specs.{Difference.{Difference, NamesEvents}, Windows.Window.IsWindow}
 use Rattle.stn_lift.specs.PlanSource.{PlanSource, base_bounds}
 use Rattle.stn_records.specs.{Id.SiteCounter, declared.record.{Mark.Mark, Record.Record}, Content.{Content, live_of, listed}}
 use Rattle.stn_conflict.specs.{declared.links.Link.Link, Arcs.{weight_of, IsNegativeCycle}, Named.IsNamedCycle}
-use Rattle.stn_site.{specs.{Bounds.{all_bounds, live_bounds, RecordsName}, Names.live_ids, Lines.{window_line, conflict_line, link_line}, Report.{IsWindowLines, IsConflictPart}}, proofs.Named.live_named}
+use Rattle.stn_site.{specs.{Bounds.{live_bounds, RecordsName}, Names.live_ids, Lines.{window_line, conflict_line, link_line}, Report.{IsWindowLines, IsConflictPart}}, proofs.Named.live_named}
 
 abbrev pub Listed : Type 0
 Listed = SiteCounter × Mark × Difference
@@ -13,9 +13,7 @@ Listed = SiteCounter × Mark × Difference
 pub one_more_line : (bounds : List Difference) (done : ℕ → Bool) (n event : ℕ) (earliest latest : ℤ) (text : List ℕ)
     → IsWindowLines bounds done n text → event ≡ n + 1 → IsWindow bounds event earliest latest
     → IsWindowLines bounds done (n + 1) (text ++ window_line event earliest latest (done event))
-one_more_line bounds done n event earliest latest text before is window =
-    let e : event ≡ suc n = is ∙ add-one n in
-    rw (add-one, e) (text, earliest, latest, before, subst (λ k. IsWindow bounds k earliest latest) e window, refl)
+one_more_line bounds done n event earliest latest text before is window = search rules
 
 ids_listed : (records : List (SiteCounter × Record)) → map (λ (entry : Listed). entry.0) (map listed records) ≡ map (λ entry. entry.0) records
 ids_listed [] = refl
@@ -45,14 +43,7 @@ pub conflict_part : (source : PlanSource) (state : Content) (base others : List 
     → base ≡ base_bounds source → ids ≡ live_ids state → others ≡ live_bounds state
     → IsNamedCycle (base ++ others) links → IsNegativeCycle (base ++ others) links → sum ≡ weight_of (base ++ others) links
     → IsConflictPart source state (conflict_line sum ++ flat_map (link_line base ids others) links)
-conflict_part source state base others ids links sum b i o named negative s =
-    let all : base ++ others ≡ all_bounds source state = ap (λ front. front ++ others) b ∙ ap (λ back. base_bounds source ++ back) o in
-    record {
-      links = links;
-      named = subst (λ bounds. IsNamedCycle bounds links) all named;
-      negative = subst (λ bounds. IsNegativeCycle bounds links) all negative;
-      whole = λ k. conflict_line ((s ∙ ap (λ bounds. weight_of bounds links) all) k) ++ flat_map (link_line (b k) (i k) (o k)) links;
-    }
+conflict_part source state base others ids links sum b i o named negative s = search rules
 
 -- what a text that is appended whole or not at all leaves
 pub appended_ok : {T E : Type 0} (r : Result T E) (new old text : List ℕ) → new ≡ (if is_ok r then old ++ text else old) → OnOk r (new ≡ old ++ text)

@@ -1,10 +1,10 @@
 -- The first cause that refuses each call, from what its parts answer.
-use Rattle.std.{proofs.{Common.{◌≡◌, ◌≢◌, ℕ, ℤ, ◌<◌, ◌≤◌, ◌<ℤ◌, ◌≤ℤ◌, int_lt, inl, inr, ⊎_elim, Bool, true, false, not, ◌&&◌, leb, ltb, Option, Some, None, is_some, refl, sym, ap, ◌∙◌, arith}, lemmas.{Bool.{false≢true, cases_lt, false_from_ne_true, true_from_ne_false, and_parts, and_from, leb-true, le-leb, eq-eqb, ne_eqb, le-ltb, Decides.{nat_tests, Decides-by_and}}, Int.ints}}, specs.{Prelude.{unwrap_or, ◌==◌, option_map}, Bool.{Decides, then_some}, Option.option_or, List.list_all, FinMap.entries}}
-use Rattle.stn_net.specs.{Difference.{Difference, NamesEvents, IsBoundWithin, IsFaultOf}, declared.bound.BoundFault.{BoundFault, TheVariants.{NoEvent, SameEvent, Crossed}}, Windows.Rehearsal.fixed_at}
+use Rattle.std.{proofs.{Common.{rules, ◌≡◌, ◌≢◌, ℕ, ℤ, ◌<◌, ◌≤◌, ◌<ℤ◌, ⊎_elim, Bool, true, false, not, ◌&&◌, leb, ltb, Option, Some, None, refl, sym, ap, ◌∙◌, arith}, lemmas.{Bool.{false≢true, cases_lt, le-ltb, Decides.{nat_tests, Decides-by_and}}, Int.ints}}, specs.{Prelude.{unwrap_or, ◌==◌, option_map}, Bool.{Decides, then_some}, Option.option_or, List.list_all, FinMap.entries}}
+use Rattle.stn_net.specs.{Difference.{Difference, NamesEvents, IsBoundWithin, IsFaultOf}, declared.bound.BoundFault.{BoundFault, TheVariants.{NoEvent, SameEvent, Crossed}}}
 use Rattle.stn_lift.specs.PlanSource.{events_of}
-use Rattle.stn_records.{specs.{Id.{most_counter, SiteCounter}, declared.{record.Record.Record, faults.RecordsFault.RecordsFault}, Refusals.{addition_refusal as records_add, join_refusal as records_take, withdrawal_refusal as records_withdraw}, Content.{most_known, Content, is_known, known_count, known_in_either, next_counter, dispute_contents, content_taken}}, proofs.{Outcomes.too_many, FirstCauses.{add_new, take_free}, Holding.held_agrees}}
+use Rattle.stn_records.{specs.{Id.{most_counter, SiteCounter}, declared.{record.Record.Record, faults.RecordsFault.RecordsFault}, Refusals.{addition_refusal as records_add, join_refusal as records_take, withdrawal_refusal as records_withdraw}, Content.{most_known, Content, is_known, known_count, known_in_either, next_counter, dispute_contents, content_taken}}, proofs.{Outcomes.too_many, FirstCauses.take_free, Holding.held_agrees}}
 use Rattle.stn_records.specs.declared.faults.RecordsFault.TheVariants as records
-use Rattle.stn_site.{specs.{declared.faults.ReplicaFault.{ReplicaFault, TheVariants.{Bound, CounterSpent, Full, Unknown, Clash, Memory}}, Bounds.RecordsName, FaultsOf.of_records_fault, Held.{Held, difference}, Refusals.{names_events, bound_refusal, next_refusal, add_refusal, amend_refusal, done_refusal, withdraw_refusal, records_name, take_refusal}}, proofs.Counts.unknown_absent}
+use Rattle.stn_site.specs.{declared.faults.ReplicaFault.{ReplicaFault, TheVariants.{Bound, CounterSpent, Full, Unknown, Clash, Memory}}, Bounds.RecordsName, FaultsOf.of_records_fault, Held.{Held, difference}, Refusals.{names_events, bound_refusal, next_refusal, add_refusal, amend_refusal, done_refusal, withdraw_refusal, records_name, take_refusal}}
 
 -- the first of several causes stands, or another is asked for
 first_stands : {X : Type 0} (stands : Bool) (cause : X) (others : Option X) → stands ≡ true → option_or (then_some stands cause) others ≡ Some cause
@@ -41,65 +41,31 @@ next_counted held counter = first_passes (ltb most_counter (next_counter held.st
 -- a record under the site's next id is refused only for want of room
 pub next_added : (held : Held) (one : Record) (id : SiteCounter) → next_counter held.state held.site ≤ most_counter → is_known held.state id ≡ false
     → option_map of_records_fault (records_add held.state id one) ≡ next_refusal held
-next_added held one id counter unknown =
-    ap (option_map of_records_fault)
-    (add_new held.state id one (unknown_absent held.state id unknown) ∙ ap (λ k. then_some (not k && (known_count held.state == most_known)) records.Full) unknown)
-    ∙ mapped (known_count held.state == most_known) records.Full ∙ sym (next_counted held counter)
+next_added held one id counter unknown = search rules
 
 names_decides : (events : ℕ) (bound : Difference) → Decides (names_events events bound) (NamesEvents events bound)
-names_decides events bound = (
-  λ e. let both = and_parts (leb bound.from events) (leb bound.to events) e in record { from = leb-true bound.from events both.0; to = leb-true bound.to events both.1 },
-  λ named. and_from (leb bound.from events) (leb bound.to events) (le-leb bound.from events named.from) (le-leb bound.to events named.to),
-)
-
--- ---- bounds
-int_less : (a b : ℤ) → a <ℤ b → int_lt a b ≡ true
-int_less a b h = true_from_ne_false (int_lt a b) (λ e. let over : b ≤ℤ a = omega (arith, ints) in omega (arith, ints))
-
-names_not : (events : ℕ) (bound : Difference) → ¬ NamesEvents events bound → names_events events bound ≡ false
-names_not events bound unnamed = false_from_ne_true (names_events events bound) (λ e. unnamed ((names_decides events bound).0 e))
+names_decides events bound = search rules
 
 -- the first fault of a difference refuses it
 pub bound_refused : (events : ℕ) (bound : Difference) (fault : BoundFault) → IsFaultOf events bound fault → bound_refusal events bound ≡ Some fault
-bound_refused events bound NoEvent past =
-    first_stands (not (names_events events bound)) NoEvent _
-    (ap not (names_not events bound (λ named. ⊎_elim (λ h. omega (arith, h, named.from)) (λ h. omega (arith, h, named.to)) past)))
-bound_refused events bound SameEvent same =
-    first_passes (not (names_events events bound)) NoEvent _ (ap not ((names_decides events bound).1 same.0))
-    ∙ first_stands (bound.from == bound.to) SameEvent _ (eq-eqb bound.from bound.to same.1)
-bound_refused events bound Crossed crossed =
-    first_passes (not (names_events events bound)) NoEvent _ (ap not ((names_decides events bound).1 crossed.0))
-    ∙ first_passes (bound.from == bound.to) SameEvent _ (ne_eqb bound.from bound.to crossed.1)
-    ∙ ap (λ b. then_some b Crossed) (int_less bound.hi bound.lo crossed.2)
+bound_refused events bound NoEvent past = search rules
+bound_refused events bound SameEvent same = search rules
+bound_refused events bound Crossed crossed = search rules
 
 -- a bound of the plan has no fault
 bound_passes : (events : ℕ) (bound : Difference) → IsBoundWithin events bound → bound_refusal events bound ≡ None
-bound_passes events bound within =
-    first_passes (not (names_events events bound)) NoEvent _ (ap not ((names_decides events bound).1 within.named))
-    ∙ first_passes (bound.from == bound.to) SameEvent _ (ne_eqb bound.from bound.to within.differs)
-    ∙ ap (λ b. then_some b Crossed) (false_from_ne_true (int_lt bound.hi bound.lo) (λ e. omega (arith, ints, within.ordered)))
+bound_passes events bound within = search rules
 
 -- so an addition of it is refused as the next record is, and an amendment by it, where the old id is known
 pub add_passes : (held : Held) (bound : Difference) → IsBoundWithin (events_of held.source) bound → add_refusal held bound ≡ next_refusal held
 add_passes held bound within = ap (λ o. option_or (option_map Bound o) (next_refusal held)) (bound_passes (events_of held.source) bound within)
 
 pub amend_known : (held : Held) (old : SiteCounter) (bound : Difference) → IsBoundWithin (events_of held.source) bound → is_known held.state old ≡ true → amend_refusal held old bound ≡ next_refusal held
-amend_known held old bound within known =
-    ap (λ o. option_or (option_map Bound o) (option_or (then_some (not (is_known held.state old)) Unknown) (next_refusal held))) (bound_passes (events_of held.source) bound within)
-    ∙ first_passes (not (is_known held.state old)) Unknown (next_refusal held) (ap not known)
-
-pub amend_unknown : (held : Held) (old : SiteCounter) (bound : Difference) → IsBoundWithin (events_of held.source) bound → is_known held.state old ≡ false → amend_refusal held old bound ≡ Some Unknown
-amend_unknown held old bound within unknown =
-    ap (λ o. option_or (option_map Bound o) (option_or (then_some (not (is_known held.state old)) Unknown) (next_refusal held))) (bound_passes (events_of held.source) bound within)
-    ∙ first_stands (not (is_known held.state old)) Unknown (next_refusal held) (ap not unknown)
+amend_known held old bound within known = search rules
 
 -- an addition of a difference with a fault is refused, and an amendment by it
 pub add_refused : (held : Held) (bound : Difference) (fault : BoundFault) → IsFaultOf (events_of held.source) bound fault → add_refusal held bound ≡ Some (Bound fault)
 add_refused held bound fault is = ap (λ o. option_or (option_map Bound o) (next_refusal held)) (bound_refused (events_of held.source) bound fault is)
-
-pub amend_refused : (held : Held) (old : SiteCounter) (bound : Difference) (fault : BoundFault) → IsFaultOf (events_of held.source) bound fault → amend_refusal held old bound ≡ Some (Bound fault)
-amend_refused held old bound fault is =
-    ap (λ o. option_or (option_map Bound o) (option_or (then_some (not (is_known held.state old)) Unknown) (next_refusal held))) (bound_refused (events_of held.source) bound fault is)
 
 -- a record of an event that was executed
 pub done_refused : (held : Held) (event : ℕ) → (ltb 0 event && leb event (events_of held.source)) ≡ false → done_refusal held event ≡ Some (Bound NoEvent)
@@ -133,14 +99,11 @@ named_take held other named =
     first_passes (not (records_name (events_of held.source) other)) (Bound NoEvent) _ (ap not ((records_name-decides (events_of held.source) other).1 named))
 
 pub unnamed_take : (held : Held) (other : Content) → ¬ RecordsName (events_of held.source) other → take_refusal held other ≡ Some (Bound NoEvent)
-unnamed_take held other unnamed =
-    first_stands (not (records_name (events_of held.source) other)) (Bound NoEvent) _
-    (ap not (false_from_ne_true (records_name (events_of held.source) other) (λ e. unnamed ((records_name-decides (events_of held.source) other).0 e))))
+unnamed_take held other unnamed = search (rules, records_name-decides)
 
 pub agreed_take : (held : Held) (other : Content) → RecordsName (events_of held.source) other → dispute_contents held.state other ≡ None
     → take_refusal held other ≡ then_some (ltb most_known (known_in_either held.state other)) Full
-agreed_take held other named agreed =
-    named_take held other named ∙ ap (λ o. option_or (option_map Clash o) (then_some (ltb most_known (known_in_either held.state other)) Full)) agreed
+agreed_take held other named agreed = cc (named_take held other named)
 
 -- so what another site holds is refused by the records
 pub taken_in : (held : Held) (other : Content) → RecordsName (events_of held.source) other → option_map of_records_fault (records_take held.state other) ≡ take_refusal held other
@@ -156,11 +119,9 @@ taken_in held other named =
 pub can_hold : (held : Held) (other : Content) → RecordsName (events_of held.source) other → content_taken held.state other ≡ Some held.state → take_refusal held other ≡ None
 can_hold held other named is =
     let agreed = held_agrees held.state other is in
-    let few : known_in_either held.state other ≤ most_known = elim (cases_lt most_known (known_in_either held.state other)) [
-      | inl many ↦ absurd (false≢true (ap is_some (sym (too_many held.state other agreed many) ∙ is)))
-      | inr few ↦ few
-    ] in
-    let_through (records_take held.state other) (take_refusal held other) (taken_in held other named) (take_free held.state other agreed few)
+    let few : known_in_either held.state other ≤ most_known = search (rules, cases_lt, false≢true, too_many)
+    in
+    search (rules, let_through, taken_in, take_free)
 
 -- ---- withdrawals
 pub withdrawn : (held : Held) (id : SiteCounter) → option_map of_records_fault (records_withdraw held.state id) ≡ withdraw_refusal held id
@@ -171,43 +132,14 @@ pub or_none : {X : Type 0} (o p : Option X) → option_or o p ≡ None → (o �
 or_none None p e = (refl, e)
 or_none (Some x) p e = absurd (cc)
 
-pub mapped_none : {X Y : Type 0} (f : X → Y) (o : Option X) → option_map f o ≡ None → o ≡ None
-mapped_none f None e = refl
-mapped_none f (Some x) e = absurd (cc)
-
 pub untested : {X : Type 0} (b : Bool) (x : X) → then_some (not b) x ≡ None → b ≡ true
 untested true x e = refl
 untested false x e = absurd (cc)
-
--- a bound that is accepted is about the plan's events
-sound_named : (held : Held) (bound : Difference) → option_map Bound (bound_refusal (events_of held.source) bound) ≡ None → NamesEvents (events_of held.source) bound
-sound_named held bound e =
-    let sound : bound_refusal (events_of held.source) bound ≡ None = mapped_none Bound (bound_refusal (events_of held.source) bound) e in
-    (names_decides (events_of held.source) bound).0 (untested (names_events (events_of held.source) bound) NoEvent (or_none (then_some (not (names_events (events_of held.source) bound)) NoEvent) _ sound).0)
-
-pub accepted_named : (held : Held) (bound : Difference) → add_refusal held bound ≡ None → NamesEvents (events_of held.source) bound
-accepted_named held bound e = sound_named held bound (or_none (option_map Bound (bound_refusal (events_of held.source) bound)) (next_refusal held) e).0
-
--- so is an event that was executed
-pub executed_named : (held : Held) (time : ℤ) (event : ℕ) → done_refusal held event ≡ None → NamesEvents (events_of held.source) (fixed_at time event)
-executed_named held time event e =
-    let within : (ltb 0 event && leb event (events_of held.source)) ≡ true =
-    untested (ltb 0 event && leb event (events_of held.source)) (Bound NoEvent) (or_none (then_some (not (ltb 0 event && leb event (events_of held.source))) (Bound NoEvent)) (next_refusal held) e).0 in
-    record { from = omega arith; to = least event (events_of held.source) within }
-  where
-    least : (event events : ℕ) → (ltb 0 event && leb event events) ≡ true → event ≤ events
-    least event events e = grind (arith, nat_tests)
 
 -- and an id that may be withdrawn is known
 pub accepted_known : (held : Held) (id : SiteCounter) → withdraw_refusal held id ≡ None → is_known held.state id ≡ true
 accepted_known held id e = untested (is_known held.state id) Unknown e
 
--- so is the bound of an amendment that is accepted
-pub amended_named : (held : Held) (old : SiteCounter) (bound : Difference) → amend_refusal held old bound ≡ None → NamesEvents (events_of held.source) bound
-amended_named held old bound e = sound_named held bound (or_none (option_map Bound (bound_refusal (events_of held.source) bound)) _ e).0
-
 -- and its old id is known
 pub amended_known : (held : Held) (old : SiteCounter) (bound : Difference) → amend_refusal held old bound ≡ None → is_known held.state old ≡ true
-amended_known held old bound e =
-    untested (is_known held.state old) Unknown
-    (or_none (then_some (not (is_known held.state old)) Unknown) (next_refusal held) (or_none (option_map Bound (bound_refusal (events_of held.source) bound)) _ e).1).0
+amended_known held old bound e = search rules

@@ -1,5 +1,5 @@
 -- What a rehearsal of all bounds says of a replica's plan.
-use Rattle.std.{proofs.{Common.{◌≡◌, ℕ, ℤ, true, false, ◌+◌, ◌≤◌, Bool, List, length, get_or, take, map, not, ap, ◌∙◌, arith, get_or-take}, lemmas.{Bool.false≢true, Int.ints, List.{Elements.All-filter, FromFn.fill_by_all}}}, specs.{List.range_with_len, FinMap.entries}}
+use Rattle.std.{proofs.{Common.{rules, ◌≡◌, ℕ, ℤ, true, false, ◌+◌, ◌≤◌, Bool, List, length, get_or, take, map, not, ap, ◌∙◌, arith, get_or-take}, lemmas.{Bool.false≢true, Int.ints, List.{Elements.All-filter, FromFn.fill_by_all}}}, specs.{List.range_with_len, FinMap.entries}}
 use Rattle.stn_net.{specs.{Difference.Difference, Schedule.{IsSchedule, Meets}, Windows.{Dispatch.CanWaitUntil, Rehearsal.{IsRehearsal, NeverFalls, RunsEachOnce, HasScheduleThrough}}}, proofs.Schedules.met_behind}
 use Rattle.stn_lift.specs.PlanSource.{PlanSource, base_bounds, events_of}
 use Rattle.stn_records.{specs.{Id.SiteCounter, Record.{IsProper, is_done_mark as marks_done}, declared.record.{Mark.{Mark, TheVariants.{Plain, Done}}, Record.Record}, Content.{Content, AllProper, live_of, is_replaced}, ContentLaws.{ids_total, ids_exact}}, proofs.Gets.entries_from_get}
@@ -34,13 +34,4 @@ keeps_recorded source state times all_proper schedule = λ k d h done.
 pub rest_of_plan : (source : PlanSource) (state : Content) (done : List Bool) (now : ℤ) (runs : List (ℤ × ℕ)) → AllProper state.additions
     → IsRehearsal (all_bounds source state) done now runs → RunsEachOnce done runs → NeverFalls now runs
     → CanWaitUntil (all_bounds source state) done now → HasScheduleThrough (all_bounds source state) runs → IsRestWith source state done now runs
-rest_of_plan source state done now runs all_proper rehearsal once rising in_time through = record {
-  rehearsal = rehearsal;
-  once = once;
-  rising = rising;
-  in_time = in_time;
-  times = through.0;
-  schedule = through.1;
-  running = through.2;
-  recorded = keeps_recorded source state through.0 all_proper through.1;
-}
+rest_of_plan source state done now runs all_proper rehearsal once rising in_time through = search (rules, keeps_recorded)

@@ -10,7 +10,7 @@ soonest_runs-requires-clause-few g c =
     let source = c.args.plan.now.source in
     let found : AreSoonestOf (all_bounds source c.args.plan.now.state) (events_of source) c.args.done.now c.args.now c.in-Soonest.times.items =
     rw c.in-Soonest.is at c.in_ok-look_ahead.ensures in
-    omega (arith, ap length c.deref.ensures.value, found.long, found.few)
+    omega arith
 
 pub returns-in-Overdue-clause-fault : goal.returns-in-Overdue-clause-fault
 returns-in-Overdue-clause-fault g c =

@@ -1,4 +1,4 @@
-use Rattle.std.{proofs.{Common.{◌≡◌, ◌++◌, map, ap, ◌∙◌}, lemmas.List.Filters.dedup_is}, specs.FinMap.entries}
+use Rattle.std.{proofs.{Common.{rules, ◌≡◌, ◌++◌, map, ap, ◌∙◌}, lemmas.List.Filters.dedup_is}, specs.FinMap.entries}
 use Rattle.stn_records.specs.{Id.SiteCounter, declared.record.Record.Record, Content.Content}
 use Rattle.stn_questions.proofs.KnownOnce.{same_numbers, listed_ids, known_once}
 use Rattle.stn_questions.proofs.records.known_ids.Goals as goal
@@ -11,8 +11,8 @@ returns g c =
     let held : c.state-state.result.now ≡ state = c.state-state.ensures.value in
     let added : c.entries.result.now ≡ entries state.additions = c.entries.ensures.value ∙ ap entries (c.additions.ensures ∙ ap (λ (s : Content). s.additions) held) in
     let gone : c.entries-2.result.now ≡ entries state.tombstones = c.entries-2.ensures.value ∙ ap entries (c.tombstones.ensures ∙ ap (λ (s : Content). s.tombstones) held) in
-    let old : c.entries-3.result.now ≡ entries state.replacements = c.entries-3.ensures.value ∙ ap entries (c.replacements.ensures ∙ ap (λ (s : Content). s.replacements) held) in
-    let all : listed ≡ listed_ids state = c.in_ok-ids.ensures
-    ∙ (λ i. map (λ (e : SiteCounter × Record). e.0) (added i) ++ map (λ (e : SiteCounter × Unit {0}). e.0) (gone i) ++ map (λ (e : SiteCounter × SiteCounter). e.1) (old i)) in
+    let old : c.entries-3.result.now ≡ entries state.replacements = cc in
+    let all : listed ≡ listed_ids state = search rules
+    in
     known_once state listed sorted c.dedup.new.self.items all c.sort_unstable.ensures.permutation c.sort_unstable.ensures.sorted
     (dedup_is same_numbers sorted c.dedup.new.self.items c.dedup.ensures.filtered)

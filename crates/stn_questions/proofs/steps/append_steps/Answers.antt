@@ -1,4 +1,4 @@
-use Rattle.std.proofs.{Common.{◌≡◌, ◌≤◌, ◌++◌, Ok, length, sym, ap, subst, ◌∙◌, arith}, lemmas.Result.IfOk-equal}
+use Rattle.std.proofs.{Common.{rules, ◌≡◌, ◌≤◌, ◌++◌, Ok, length, sym, ap, subst, ◌∙◌, arith}, lemmas.Result.IfOk-equal}
 use Rattle.stn_lift.specs.{BaseBounds.duration_of, Plan.Steps.plan_of, PlanSource.{bare, files, plan_source, activities_of, IsSoundSource}}
 use Rattle.stn_questions.{specs.{Durations.least_of, Steps.{planned_steps, step_lines, steps_text}}, proofs.{Lasting.plan_was_read, Listing.step_lines-same}}
 use Rattle.stn_questions.proofs.steps.append_steps.Goals as goal
@@ -14,9 +14,7 @@ append_planned-requires g c =
     }
 
 pub returns-in-Bare : goal.returns-in-Bare
-returns-in-Bare g c =
-    let is : c.args.base.now ≡ bare c.in-Bare.steps = sym c.source.ensures.source ∙ ap plan_source c.in-Bare.is in
-    IfOk-equal c.append_numbers.result _ _ _ c.append_numbers.ensures (ap (λ source. c.args.out.now.items ++ steps_text source) (sym is))
+returns-in-Bare g c = search rules
 
 pub returns-in-Files : goal.returns-in-Files
 returns-in-Files g c =
@@ -25,8 +23,6 @@ returns-in-Files g c =
     let least = least_of c.durations_of.result.now in
     let is : c.args.base.now ≡ files domain plan = sym c.source.ensures.source ∙ ap plan_source c.in-Files.is in
     let durations = c.durations_of.ensures domain plan is in
-    let lines : step_lines least 0 (planned_steps c.deref.result.now) ≡ steps_text c.args.base.now =
-    ap (λ text. step_lines least 0 (planned_steps text)) c.deref.ensures.value
-    ∙ step_lines-same least (duration_of (activities_of domain plan)) 0 (planned_steps plan) (λ place within. durations.lasting place (omega arith))
-    ∙ ap steps_text (sym is) in
-    IfOk-equal c.append_planned.result _ _ _ c.append_planned.ensures (ap (λ text. c.args.out.now.items ++ text) lines)
+    let lines : step_lines least 0 (planned_steps c.deref.result.now) ≡ steps_text c.args.base.now = search (rules, step_lines-same)
+    in
+    search rules

@@ -1,17 +1,13 @@
-use Rattle.std.proofs.{Common.{length, drop, sym, ap, subst, ◌∙◌, arith}, lemmas.List.take_rest}
+use Rattle.std.proofs.{Common.{rules, length, drop, sym, ap, subst, ◌∙◌, arith}, lemmas.List.take_rest}
 use Rattle.stn_lift.{specs.PlanSource.{base_bounds, events_of, IsSoundSource}, proofs.PlanHorizon.horizon_within}
 use Rattle.stn_questions.{specs.Durations.AreDurations, proofs.Lasting.durations_last}
 use Rattle.stn_questions.proofs.steps.durations_of.Goals as goal
 
 pub slice_bounds-result-count : goal.slice_bounds-result-count
-slice_bounds-result-count g c =
-    let base = c.args.base.now in
-    omega (arith, c.from-first.ensures, c.events.ensures.value, horizon_within base c.bounds.ensures.sound, ap length c.bounds.ensures.value)
+slice_bounds-result-count g c = search (rules, horizon_within)
 
 pub slice_bounds-result-start : goal.slice_bounds-result-start
-slice_bounds-result-start g c =
-    let base = c.args.base.now in
-    omega (arith, c.from-first.ensures, c.events.ensures.value, horizon_within base c.bounds.ensures.sound, ap length c.bounds.ensures.value)
+slice_bounds-result-start g c = search (rules, horizon_within)
 
 pub returns : goal.returns
 returns g c = λ domain plan e.

@@ -1,18 +1,11 @@
-use Rattle.std.proofs.{Common.{◌≡◌, ◌+◌, List, [], ◌∷◌, ◌++◌, ap, sym, subst, ◌∙◌}, lemmas.Bool.iff_false}
-use Rattle.stn_net.specs.Difference.{Difference}
+use Rattle.std.proofs.{Common.{rules, ◌≡◌, ◌+◌, [], ◌∷◌, ◌++◌, ap, sym, subst, ◌∙◌}, lemmas.Bool.iff_false}
 use Rattle.stn_conflict.specs.Listing.{ListedBounds}
 use Rattle.stn_lift.specs.PlanSource.{base_bounds, events_of}
-use Rattle.stn_repairs.{specs.Dropped.AreRefused, proofs.{Listing.named_at, Refusing.{IsRefusedSoFar, none_refused, keeps_one, refuses_one, all_refused}, dropped.refused_ids.Goals.{then-not-branch+in_ok-push, else-not-branch}}}
+use Rattle.stn_repairs.proofs.{Listing.named_at, Refusing.{IsRefusedSoFar, keeps_one, refuses_one, all_refused}, dropped.refused_ids.Goals.{then-not-branch+in_ok-push, else-not-branch}}
 use Rattle.stn_repairs.proofs.dropped.refused_ids.Goals as goal
 
 pub loop-id-init : goal.loop-id-init
-loop-id-init g c =
-    let order = c.args.order.now in
-    let bounds = ap (λ (l : ListedBounds). l.bounds) c.in_ok-kept.ensures ∙ ap (λ (l : List Difference). l ++ []) c.bounds.ensures.value in
-    record {
-      events = ap (λ (l : ListedBounds). l.events) c.in_ok-kept.ensures ∙ c.events.ensures.value;
-      so_far = λ later h. rw c.new-refused.ensures.items (none_refused (base_bounds c.args.base.now) order later (subst (λ kept. AreRefused kept order later) bounds h));
-    }
+loop-id-init g c = search rules
 
 pub take-requires : goal.take-requires
 take-requires g c =

@@ -1,13 +1,10 @@
-use Rattle.std.{proofs.{Common.{[], sym, subst, ap, ◌∙◌, arith}, lemmas.{List.{take_all, Sorted.{IsPermutation-refl, IsPermutation-trans}}, Result.IfOk-weaker}}, specs.List.Sorted.IsPermutation}
+use Rattle.std.{proofs.{Common.{rules, [], sym, subst, ◌∙◌, arith}, lemmas.List.{take_all, Sorted.IsPermutation-trans}}, specs.List.Sorted.IsPermutation}
 use Rattle.stn_lift.specs.PlanSource.{events_of}
 use Rattle.stn_replica.{specs.Rows.in_turn, proofs.Rows.{in_rows_next, named_of}}
 use Rattle.stn_replica.proofs.closest.closest_first.Goals as goal
 
 pub loop-bound-init : goal.loop-bound-init
-loop-bound-init g c = record {
-  long = c.in_ok-rows.ensures.long;
-  so_far = subst (IsPermutation []) (sym c.in_ok-rows.ensures.empty) (IsPermutation-refl []);
-}
+loop-bound-init g c = search rules
 
 pub planned-requires : goal.planned-requires
 planned-requires g c =
@@ -35,4 +32,4 @@ returns g c =
     let rows = c.loop-bound.rows.items in
     let taken : IsPermutation items (in_turn rows) = subst (λ l. IsPermutation l (in_turn rows)) (take_all c.loop-bound.bound-index items c.loop-bound-test.false) c.loop-bound.invariant.so_far in
     let all : IsPermutation bounds (in_turn rows) = IsPermutation-trans bounds items (in_turn rows) (subst (IsPermutation bounds) (sym c.deref-bound-items.ensures.value) c.in_ok-spread.ensures) taken in
-    IfOk-weaker c.joined.result _ _ (λ found is. subst (IsPermutation bounds) (sym (is ∙ ap (λ r. in_turn r) c.deref.ensures.value)) all) c.joined.ensures
+    search rules

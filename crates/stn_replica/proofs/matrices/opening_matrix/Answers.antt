@@ -1,33 +1,25 @@
-use Rattle.std.{proofs.Common.{length, ap, arith, subst, ◌∙◌}, specs.Prelude.All}
-use Rattle.stn_net.specs.{Difference.NamesEvents, Horizon.horizon_bounds, Matrix.Tightest.IsExact}
-use Rattle.stn_lift.{specs.PlanSource.{base_bounds, events_of}, proofs.PlanHorizon.horizon_within}
-use Rattle.stn_replica.proofs.Opening.{rest_named, slice_is, others_are, other_named, opened, opened_more, all_opened}
+use Rattle.std.proofs.Common.{rules, length, ap, arith, ◌∙◌}
+use Rattle.stn_lift.proofs.PlanHorizon.{horizon_within}
+use Rattle.stn_replica.proofs.Opening.{rest_named, slice_is, others_are, other_named, opened_more, all_opened}
 use Rattle.stn_replica.proofs.matrices.opening_matrix.Goals as goal
 
 pub slice_bounds-others-start : goal.slice_bounds-others-start
-slice_bounds-others-start g c = omega (arith, horizon_within c.args.base.now c.bounds.ensures.sound, ap length c.bounds.ensures.value, c.events-events.ensures.value, c.from.ensures)
+slice_bounds-others-start g c = omega (arith, horizon_within c.args.base.now c.bounds.ensures.sound, ap length c.bounds.ensures.value)
 
 pub slice_bounds-others-count : goal.slice_bounds-others-count
-slice_bounds-others-count g c = omega (arith, horizon_within c.args.base.now c.bounds.ensures.sound, ap length c.bounds.ensures.value, c.events-events.ensures.value, c.from.ensures)
+slice_bounds-others-count g c = omega (arith, horizon_within c.args.base.now c.bounds.ensures.sound, ap length c.bounds.ensures.value)
 
 pub closest_first-requires : goal.closest_first-requires
-closest_first-requires g c =
-    subst (All (NamesEvents (events_of c.args.base.now)))
-    (slice_is c.bounds.result.now (base_bounds c.args.base.now) c.from.result (events_of c.args.base.now) c.bounds.ensures.value (c.from.ensures ∙ c.events-events.ensures.value))
-    (rest_named c.args.base.now c.bounds.ensures.sound)
+closest_first-requires g c = search (rules, slice_is, rest_named)
 
 pub tighten-fits-requires : goal.tighten-fits-requires
 tighten-fits-requires g c =
     let moved = others_are c.args.base.now c.bounds.result.now c.from.result c.in_ok-closest_first.field-0.items c.deref-bound-items.result.now
     c.bounds.ensures.value (c.from.ensures ∙ c.events-events.ensures.value) c.deref-bound-items.ensures.value c.in_ok-closest_first.ensures in
-    other_named c.args.base.now c.deref-bound-items.result.now c.loop-bound.bound-index c.bound-item.result c.loop-bound.matrix
-    c.bounds.ensures.sound moved c.loop-bound-test.true c.bound-item.is c.loop-bound.invariant.events
+    search (rules, other_named)
 
 pub loop-bound-init : goal.loop-bound-init
-loop-bound-init g c =
-    opened c.args.base.now c.deref-bound-items.result.now c.in_ok-matrix.matrix
-    (subst (λ n. IsExact (horizon_bounds n) c.in_ok-matrix.matrix) c.events-events.ensures.value c.in_ok-matrix.ensures.exact)
-    (c.in_ok-matrix.ensures.events ∙ c.events-events.ensures.value)
+loop-bound-init g c = search rules
 
 pub loop-bound-preserved : goal.loop-bound-preserved
 loop-bound-preserved g c =

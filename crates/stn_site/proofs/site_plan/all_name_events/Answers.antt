@@ -1,16 +1,11 @@
-use Rattle.std.{proofs.{Common.{refl, subst, All}, lemmas.Bool.false≢true}, specs.FinMap.entries}
+use Rattle.std.proofs.lemmas.List.{take_all}
+use Rattle.std.{proofs.Common.{rules, refl, subst, All}, specs.FinMap.entries}
 use Rattle.stn_net.specs.Difference.{NamesEvents}
-use Rattle.stn_site.proofs.Places.{walked_are, seen_with, all_seen, next_of}
+use Rattle.stn_site.proofs.Places.{walked_are, seen_with}
 use Rattle.stn_site.proofs.site_plan.all_name_events.Goals as goal
 
 pub returns-then-not-names_events : goal.returns-then-not-names_events
-returns-then-not-names_events g c =
-    let items = walked_are c.args.records.now c.state.result.now c.additions.result.now c.entries-record-items.result.now c.entries-record-items.ensures.value c.additions.ensures c.state.ensures.value in (
-      λ no. absurd (false≢true no),
-      λ named. absurd (false≢true (c.if-not-names_events.ensures.1
-          (next_of (λ entry. NamesEvents c.args.events entry.1.bound) (entries c.args.records.now.additions) c.entries-record-items.result.now c.loop-record.record-index c.loop-record-item.result items
-          c.loop-record-test.true c.loop-record-item.is named))),
-    )
+returns-then-not-names_events g c = search rules
 
 pub loop-record-preserved : goal.loop-record-preserved
 loop-record-preserved g c =
@@ -22,6 +17,6 @@ pub returns : goal.returns
 returns g c =
     let items = walked_are c.args.records.now c.state.result.now c.additions.result.now c.entries-record-items.result.now c.entries-record-items.ensures.value c.additions.ensures c.state.ensures.value in (
       λ _. subst (All (λ entry. NamesEvents c.args.events entry.1.bound))
-          (all_seen (entries c.args.records.now.additions) c.entries-record-items.result.now c.loop-record.record-index items c.loop-record-test.false) c.loop-record.invariant,
+          (search (rules, take_all)) c.loop-record.invariant,
       λ _. refl,
     )

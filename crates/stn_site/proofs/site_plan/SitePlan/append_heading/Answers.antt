@@ -4,4 +4,4 @@ use Rattle.stn_site.proofs.Count.{live_within}
 use Rattle.stn_site.proofs.site_plan.SitePlan.append_heading.Goals as goal
 
 pub overflow_cast-count : goal.overflow_cast-count
-overflow_cast-count g c = omega (arith, live_within c.args.self.now.state, ap length c.requires, ap known_count c.records.ensures.value, c.replaced_count-replaced.ensures.limited)
+overflow_cast-count g c = omega (arith, live_within c.args.self.now.state, ap length c.requires, ap known_count c.records.ensures.value)

@@ -16,7 +16,7 @@ loop-before-preserved g c =
     let place : c.from.result + 1 ≡ event = ap (λ n. n + 1) c.from.ensures ∙ sym is in
     let mark : c.from-in-loop-before.result + 1 ≡ event = ap (λ n. n + 1) c.from-in-loop-before.ensures ∙ sym is in
     let within : event ≤ events_of source = omega (arith, is, events, c.loop-before-test.true) in
-    let known : event ≤ most_events = omega (arith, within, events, c.events-before-end.ensures.small) in
+    let known : event ≤ most_events = omega arith in
     let here : (other : ℤ × ℤ) → slice_index_or windows (c.from.result + 1) other ≡ window_at windows event =
     λ other. get_or_default windows (c.from.result + 1) other (pos 0, pos 0) (omega (arith, place, within, c.requires.one_each)) ∙ ap (window_at windows) place in
     let flag : slice_index_or c.done_flags-done.result (c.from-in-loop-before.result + 1) false ≡ is_done state event =

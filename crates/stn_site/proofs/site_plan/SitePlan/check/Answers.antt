@@ -1,4 +1,4 @@
-use Rattle.std.{proofs.Common.{◌≡◌, refl, ap, ◌∙◌}, specs.Rc.rc_value}
+use Rattle.std.{proofs.Common.{rules, ◌≡◌, refl, ap, ◌∙◌}, specs.Rc.rc_value}
 use Rattle.stn_net.specs.Schedule.{IsSchedule, times_of}
 use Rattle.stn_lift.specs.PlanSource.{base_bounds}
 use Rattle.stn_site.proofs.{Broken.{broken_in_plan, broken_in_records, none_broken, broken_some, broken_none, broken_no_schedule}, site_plan.SitePlan.check.{Given.Over, Goals.After-bounds}}
@@ -30,4 +30,4 @@ returns-in-None g c =
     let is = bounds_are g (goal.at.returns-in-None g c).After-bounds in
     let s : IsSchedule c.bounds.result.now (times_of c.args.times.now) = c.in_default.ensures.none.0 refl in
     let met = none_broken (rc_value c.self.inside.base) c.self.inside.records c.bounds.result.now (times_of c.args.times.now) is s c.in-None.ensures.none in
-    rw (← c.self.view_is) (record { first = broken_none (rc_value c.self.inside.base) c.self.inside.records (times_of c.args.times.now) met; schedule = met })
+    search (rules, broken_none)

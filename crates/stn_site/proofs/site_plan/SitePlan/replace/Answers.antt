@@ -9,7 +9,7 @@ pub prove-unreachable-requires : goal.prove-unreachable-requires
 prove-unreachable-requires g c =
     let unknown = rw (← c.self.view_is) at c.in_ok-id.ensures.unknown in
     let nothing = replaces_nothing c.self.inside.records c.in_ok-id.id c.state.ensures.sound.amends unknown in
-    let found : c.get.result ≡ None = c.get.ensures ∙ ap (λ m. get m c.in_ok-id.id) (c.replacements.ensures ∙ ap (λ (s : Content). s.replacements) c.state.ensures.value) ∙ nothing in
+    let found : c.get.result ≡ None = cc in
     false≢true (ap is_some (sym found) ∙ c.if-prove.ensures)
 
 pub returns-in_err-amend : goal.returns-in_err-amend

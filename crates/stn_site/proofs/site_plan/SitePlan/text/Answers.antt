@@ -1,11 +1,11 @@
-use Rattle.std.proofs.Common.{◌≡◌, ◌++◌, inl, inr, ap, ◌∙◌}
+use Rattle.std.proofs.Common.{rules, ◌≡◌, ◌++◌, inl, inr, ap, ◌∙◌}
 use Rattle.stn_site.{specs.Report.heading, proofs.site_plan.SitePlan.text.Goals.{in-Some+in_ok-append_windows-in-Some, in-None+in_ok-append_conflict-in-None}}
 use Rattle.stn_site.proofs.site_plan.SitePlan.text.Goals as goal
 
 pub returns-clause-report : goal.returns-clause-report
 returns-clause-report g c =
     let first = heading c.args.self.now.source c.args.self.now.state in
-    let front : c.append_heading.new.out.items ≡ first = c.in_ok-append_heading.ensures.text ∙ ap (λ l. l ++ first) c.new-text.ensures.items in
+    let front : c.append_heading.new.out.items ≡ first = search rules in
     elim c.match-windows.branch [
       | in-Some+in_ok-append_windows-in-Some w ↦
           let part = w.in_ok-append_windows-in-Some.ensures.part in
