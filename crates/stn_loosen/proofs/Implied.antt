@@ -1,5 +1,5 @@
 -- Which bounds a matrix shows to be implied, and the matrix with one bound more.
-use Rattle.std.proofs.{Common.{◌≡◌, ◌≢◌, ℤ, ◌≤ℤ◌, neg_ℤ, ◌↔◌, Bool, IsTrue, List, [], ◌∷◌, ◌++◌, length, sym, ap, subst, ◌∙◌, append_assoc, length-append, arith}, lemmas.Int.ints}
+use Rattle.std.proofs.{Common.{rules, ◌≡◌, ◌≢◌, ℤ, ◌≤ℤ◌, neg_ℤ, ◌↔◌, Bool, IsTrue, List, [], ◌∷◌, ◌++◌, length, sym, ap, subst, ◌∙◌, append_assoc, length-append, arith}, lemmas.Int.ints}
 use Rattle.stn_net.{specs.{Difference.{Difference, NamesEvents}, Horizon.horizon_bounds, Schedule.{IsSchedule, HasSchedule}, Matrix.{Table.{Table, far_of}, Tightest.{IsTightest, IsExact}}}, proofs.Closure.schedule_before}
 use Rattle.stn_conflict.specs.Listing.{ListedBounds}
 use Rattle.stn_records.specs.Content.{most_known}
@@ -12,9 +12,7 @@ implied_from bounds bound there back forth home above below time s =
     (omega (arith, ints, home.bound time s), omega (arith, ints, forth.bound time s))
 
 pub upper_from : (bounds : List Difference) (bound : Difference) (there : ℤ) → IsTightest bounds bound.from bound.to there → Imply bounds bound → there ≤ℤ bound.hi
-upper_from bounds bound there forth implied =
-    let met = implied forth.attained.0 forth.attained.1 in
-    omega (arith, ints, met.1, forth.attained.2)
+upper_from bounds bound there forth implied = search rules
 
 pub lower_from : (bounds : List Difference) (bound : Difference) (back : ℤ) → IsTightest bounds bound.to bound.from back → Imply bounds bound → back ≤ℤ neg_ℤ bound.lo
 lower_from bounds bound back home implied =
@@ -49,8 +47,8 @@ searched_first records table network taken whole = record { whole = whole; apart
 pub searched_more : (records more : List Difference) (bound : Difference) (table : Table) (old new : ListedBounds) → IsSearched records table old → more ≡ records ++ bound ∷ []
     → new ≡ record old { bounds = old.bounds ++ bound ∷ [] } → IsSearched more table new
 searched_more records more bound table old new h made pushed =
-    let all : made_bounds (loosening_of table records) ++ bound ∷ [] ≡ made_bounds (loosening_of table more) =
-    append_assoc (horizon_bounds table.events) records (bound ∷ []) ∙ ap (λ l. made_bounds (loosening_of table l)) (sym made) in
+    let all : made_bounds (loosening_of table records) ++ bound ∷ [] ≡ made_bounds (loosening_of table more) = search (rules, append_assoc)
+    in
     record {
       whole = pushed ∙ ap (λ (l : ListedBounds). record l { bounds = l.bounds ++ bound ∷ [] }) h.whole
           ∙ ap (λ (l : List Difference). record { events = table.events; bounds = l }) all;
@@ -65,7 +63,7 @@ pub taken_more : (records more : List Difference) (bound : Difference) (old new 
     → new.events ≡ old.events → AreTaken more new
 taken_more records more bound old new fits is left taken there possible exact same =
     let front : List Difference = made_bounds (loosening_of old records) in
-    let whole : front ++ bound ∷ [] ≡ made_bounds (with_more (loosening_of old records) (bound ∷ [])) = append_assoc (horizon_bounds old.events) records (bound ∷ []) in
+    let whole : front ++ bound ∷ [] ≡ made_bounds (with_more (loosening_of old records) (bound ∷ [])) = simp append_assoc in
     let fit : IsTrue fits = (possible front taken.exact).1 (subst HasSchedule (sym whole) there) in
     record {
       exact = subst (λ l. IsExact l new) (whole ∙ ap (λ l. made_bounds (loosening_of old l)) (sym is) ∙ ap (λ n. horizon_bounds n ++ more) (sym same)) (exact front taken.exact fit);

@@ -1,5 +1,5 @@
 -- Orders that are kept, and those that are left out.
-use Rattle.std.{proofs.{Common.{◌≡◌, inl, inr, ⊎_elim, List, [], ◌∷◌, ◌++◌, sym, ap, subst, ◌∙◌, append_assoc, append-nil}, lemmas.List.Elements.All-head}, specs.List.AllByRecursion}
+use Rattle.std.{proofs.{Common.{rules, ◌≡◌, inl, inr, ⊎_elim, List, [], ◌∷◌, ◌++◌, sym, ap, subst, ◌∙◌, append_assoc}, lemmas.List.Elements.All-head}, specs.List.AllByRecursion}
 use Rattle.stn_net.{specs.{Difference.Difference, Schedule.{Meets, IsSchedule}}, proofs.{Closure.schedule_before, Schedules.met_behind}}
 use Rattle.stn_loosen.specs.Loosened.{Imply, AreKept}
 
@@ -8,10 +8,7 @@ kept_same bounds kept others first is = ap (λ l. bounds ++ l) is ∙ sym (appen
 
 -- what is kept of more
 pub AreKept-join : (bounds first second one other : List Difference) → AreKept bounds first one → AreKept (bounds ++ one) second other → AreKept bounds (first ++ second) (one ++ other)
-AreKept-join bounds [] second one other none are =
-    let same : bounds ++ one ≡ bounds = ap (λ l. bounds ++ l) none ∙ append-nil bounds in
-    let whole : other ≡ one ++ other = sym (ap (λ l. l ++ other) none) in
-    subst (AreKept bounds second) whole (subst (λ l. AreKept l second other) same are)
+AreKept-join bounds [] second one other none are = search rules
 AreKept-join bounds (order ∷ first) second one other kept are =
     ⊎_elim
     (λ p. inl (p.0, AreKept-join bounds first second one other p.1 are))

@@ -1,10 +1,11 @@
 -- No duration of a plan is negative.
-use Rattle.std.{specs.{Prelude.int_lt, List.AllByRecursion, Result.result_unwrap_or}, proofs.{Common.{◌≡◌, ℕ, ℤ, pos, ◌+◌, ◌+ℤ◌, ◌≤ℤ◌, zero, suc, Bool, true, false, cond, not, ◌==◌, find, List, [], ◌∷◌, length, Option, Some, None, Result, Ok, Err, refl, subst, arith, All}, lemmas.{Int.ints, List.Elements.{All-from_recursion, All-nil}}}}
+use Rattle.std.proofs.lemmas.Grind.{common_steps}
+use Rattle.std.{specs.{Prelude.int_lt, List.AllByRecursion, Result.result_unwrap_or}, proofs.{Common.{◌≡◌, ℕ, ℤ, pos, ◌+◌, ◌+ℤ◌, ◌≤ℤ◌, zero, suc, Bool, true, false, cond, not, ◌==◌, find, List, [], ◌∷◌, length, Option, Some, None, Result, Ok, Err, refl, subst, arith, All}, lemmas.List.Elements.All-nil}}
 use Rattle.stn_time.{specs.Time.horizon, proofs.Each.each_pushed}
 use Rattle.stn_text.{specs.Faults.{◌>>=◌}, proofs.Readings.bind_ok}
-use Rattle.stn_pddl.{specs.{Tree.Names.is_same_word, declared.fault.DomainFault.DomainFault, Schemas.ActionSchema, Domains.{domain_of, action_named}, Sound.IsSound}, proofs.SoundActions.{domain-sound, found-sound}}
+use Rattle.stn_pddl.{specs.{Tree.Names.is_same_word, declared.fault.DomainFault.DomainFault, Schemas.ActionSchema, Domains.action_named, Sound.IsSound}, proofs.SoundActions.{domain-sound, found-sound}}
 use Rattle.stn_net.specs.Difference.{Difference}
-use Rattle.stn_lift.{specs.{declared.{plan.fault.PlanFault.PlanFault, fault.LiftFault.{LiftFault, TheVariants.{Arity, DurationDiffers, PastHorizon}}}, Plan.Steps.{PlannedStep, plan_of}, BaseBounds.{duration_bound, duration_bounds, duration_of}, Activities.{Activity, activity, differs, with_action, with_found, activity_of, activities}, PlanSource.{PlanSource, bare, files, of_lift, steps_in, lifted, activities_of}}}
+use Rattle.stn_lift.specs.{declared.{plan.fault.PlanFault.PlanFault, fault.LiftFault.{LiftFault, TheVariants.{Arity, DurationDiffers, PastHorizon}}}, Plan.Steps.PlannedStep, BaseBounds.{duration_bound, duration_bounds, duration_of}, Activities.{Activity, activity, differs, with_action, with_found, activity_of, activities}, PlanSource.{PlanSource, bare, files, of_lift, steps_in, lifted, activities_of}}
 use Rattle.stn_loosen.specs.Loosened.{durations_of}
 
 -- the step takes some time, or none
@@ -54,7 +55,7 @@ steps_last (Ok actions) (Ok steps) sound = by (activities actions 0 steps) (λ f
     by (Err fault) h = tt
 
 lasts_at : (steps : List Activity) → AllByRecursion Lasts steps → (place : ℕ) → pos 0 ≤ℤ duration_of steps place
-lasts_at [] all place = omega (arith, ints)
+lasts_at [] all place = omega arith
 lasts_at (step ∷ steps) all zero = all.0
 lasts_at (step ∷ steps) all (suc place) = lasts_at steps all.1 place
 
@@ -68,7 +69,4 @@ bounds_last duration lasts (suc before) =
 pub durations_last : (source : PlanSource) → All (λ bound. pos 0 ≤ℤ bound.lo) (durations_of source)
 unfolding activities_of lifted
 durations_last (bare steps) = All-nil (λ (bound : Difference). pos 0 ≤ℤ bound.lo)
-durations_last (files domain plan) =
-    let steps : List Activity = activities_of domain plan in
-    let all : AllByRecursion Lasts steps = steps_last (domain_of domain) (plan_of plan) (λ actions is. domain-sound domain actions is) in
-    All-from_recursion (λ (bound : Difference). pos 0 ≤ℤ bound.lo) (duration_bounds (duration_of steps) (length steps)) (bounds_last (duration_of steps) (lasts_at steps all) (length steps))
+durations_last (files domain plan) = grind (arith, common_steps, steps_last, domain-sound, bounds_last, lasts_at)

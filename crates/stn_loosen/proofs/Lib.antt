@@ -1,5 +1,4 @@
 pub mod Lists
-pub mod Bounds
 pub mod Kept
 pub mod Lasting
 pub mod ThreeParts

@@ -1,5 +1,5 @@
 -- Each schedule of a plan is one of the loosened plan.
-use Rattle.std.{proofs.{Common.{◌≡◌, ℕ, ℤ, pos, ◌≤◌, ◌≤ℤ◌, List, ◌++◌, sym, subst, arith, All}, lemmas.{Int.{ints, clamps}, List.{Sorted.All-permutation, Elements.{All-append, All-map, All-from_recursion, recursion_from_All}}}}, specs.{Prelude.slice_index_or, List.{AllByRecursion, Sorted.IsPermutation}}}
+use Rattle.std.{proofs.{Common.{rules, ◌≡◌, ℕ, ℤ, pos, ◌≤◌, ◌≤ℤ◌, List, ◌++◌, sym, subst, All}, lemmas.List.{Sorted.All-permutation, Elements.{All-append, All-map, All-from_recursion, recursion_from_All}}}, specs.{Prelude.slice_index_or, List.{AllByRecursion, Sorted.IsPermutation}}}
 use Rattle.stn_net.{proofs.Widest.horizon_times, specs.{Difference.{Difference, NamesEvents}, Horizon.horizon_bounds, Schedule.{Meets, IsSchedule}}}
 use Rattle.stn_time.{specs.Time.horizon, proofs.Each.{All-left, All-right}}
 use Rattle.stn_lift.specs.PlanSource.{PlanSource, events_of, base_bounds, IsSoundSource}
@@ -15,8 +15,7 @@ within time events origin met = horizon_times events time (record { origin = ori
 -- with slack a duration is met where it is met without
 loose_met : (slack : Slack) → IsSlack slack → (time : ℕ → ℤ) (bound : Difference) → pos 0 ≤ℤ bound.lo → IsWithin (time bound.from) → IsWithin (time bound.to)
     → Meets time bound → Meets time (loose slack bound)
-loose_met slack sound time bound lasts from to met =
-    (omega (arith, ints, clamps, lasts, sound.early, met.0, met.1), omega (arith, ints, clamps, sound.late, from.0, to.1, met.0, met.1))
+loose_met slack sound time bound lasts from to met = search rules
 
 module _ (source : PlanSource) (sound : IsSoundSource source) where
   pub durations_named : All (NamesEvents (events_of source)) (durations_of source)

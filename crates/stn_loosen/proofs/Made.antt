@@ -1,5 +1,5 @@
 -- Records that are made one after the other.
-use Rattle.std.{proofs.{Common.{◌≡◌, ℕ, ℤ, ◌+◌, ◌<◌, inr, List, [], ◌∷◌, ◌++◌, map, length, take, drop, get_or, refl, sym, ap, subst, ◌∙◌, arith, append_assoc, append-nil, length-append}, lemmas.List.{map_more, map-append, take_more, take-append-drop, Elements.{All-from_recursion, recursion_from_All}}}, specs.List.AllByRecursion}
+use Rattle.std.{proofs.{Common.{rules, ◌≡◌, ℕ, ℤ, ◌+◌, ◌<◌, inr, List, [], ◌∷◌, ◌++◌, map, length, take, drop, get_or, refl, sym, ap, subst, ◌∙◌, arith, append_assoc, append-nil, length-append}, lemmas.List.{map_more, map-append, take_more, take-append-drop, Elements.{All-from_recursion, recursion_from_All}}}, specs.List.AllByRecursion}
 use Rattle.stn_time.proofs.Each.{each_parted}
 use Rattle.stn_net.{specs.{Difference.Difference, Horizon.horizon_bounds, Schedule.{Meets, IsSchedule, HasSchedule}}, proofs.{Closure.schedule_before, Schedules.{met_behind, schedule_with}}}
 use Rattle.stn_loosen.{specs.{Slack.{Slack, loose}, Loosened.AreKept, Making.{Loosening, made_bounds, with_more, AreMadeBehind, IsCauseOf, IsCauseWith}, Stepped.{IsCauseBehind, IsCauseIn}, declared.fault.LoosenFault.{LoosenFault, TheVariants.{Full, NotRobust, Memory}}}, proofs.Kept.{AreKept-join, kept_hold}}
@@ -19,8 +19,7 @@ module _ (slack : Slack) (old now : Loosening) (durations : List Difference) (pl
   made_more =
       let next : bound ≡ loose slack (get_or durations place duration) = is ∙ ap (loose slack) here in
       let more = ap (λ b. map (loose slack) (take place durations) ++ b ∷ []) next ∙ sym (map_more (loose slack) durations place duration within) in
-      ap (λ m. with_more m (bound ∷ [])) made
-      ∙ ap (λ l. record old { records = l }) (append_assoc old.records (map (loose slack) (take place durations)) (bound ∷ []) ∙ ap (λ l. old.records ++ l) more)
+      search (rules, append_assoc)
 
   pub duration_possible : HasSchedule (made_bounds (with_more old (map (loose slack) durations))) → HasSchedule (made_bounds (with_more now (bound ∷ [])))
   duration_possible possible =
@@ -28,8 +27,8 @@ module _ (slack : Slack) (old now : Loosening) (durations : List Difference) (pl
       let rest = map (loose slack) (drop (place + 1) durations) in
       let parts : map (loose slack) durations ≡ first ++ rest =
       ap (map (loose slack)) (sym (take-append-drop (place + 1) durations)) ∙ map-append (loose slack) (take (place + 1) durations) (drop (place + 1) durations) in
-      let whole : with_more old (map (loose slack) durations) ≡ with_more (with_more now (bound ∷ [])) rest =
-      ap (λ l. record old { records = l }) (ap (λ l. old.records ++ l) parts ∙ sym (append_assoc old.records first rest)) ∙ ap (λ m. with_more m rest) (sym made_more) in
+      let whole : with_more old (map (loose slack) durations) ≡ with_more (with_more now (bound ∷ [])) rest = search (rules, append_assoc, made_more)
+      in
       front_schedule (with_more now (bound ∷ [])) rest (subst (λ m. HasSchedule (made_bounds m)) whole possible)
 
 pub nothing_more : (made : Loosening) → made ≡ with_more made []
@@ -57,7 +56,7 @@ module _ (old middle : Loosening) (first second : List Difference) (made : AreMa
       let more : AllByRecursion (Meets time) second = (each_parted (Meets time) second others met.1).0 in
       let kept : AllByRecursion (Meets time) made.0 = kept_hold (Meets time) front first made.0 made.2 met.0 in
       let here : IsSchedule (front ++ made.0) time = schedule_with front made.0 time (schedule_before front all time whole) (All-from_recursion (Meets time) made.0 kept) in
-      let there : IsSchedule (made_bounds middle) time = subst (λ l. IsSchedule l time) (sym (ap made_bounds made.1 ∙ bounds_more old made.0)) here in (
+      let there : IsSchedule (made_bounds middle) time = search (rules, bounds_more) in (
         time,
         subst (λ l. IsSchedule l time) (sym (bounds_more middle second)) (schedule_with (made_bounds middle) second time there (All-from_recursion (Meets time) second more)),
       )
@@ -86,9 +85,7 @@ module _ (stand_for : List Difference → List Difference) (join : (some others 
   next = ap stand_for (take_more bounds place bound within ∙ ap (λ b. take place bounds ++ b ∷ []) (sym here)) ∙ join (take place bounds) (bound ∷ [])
 
   all : stand_for bounds ≡ stand_for (take place bounds) ++ (stand_for (bound ∷ []) ++ stand_for (drop (place + 1) bounds))
-  all =
-      ap stand_for (sym (take-append-drop (place + 1) bounds)) ∙ join (take (place + 1) bounds) (drop (place + 1) bounds)
-      ∙ ap (λ l. l ++ stand_for (drop (place + 1) bounds)) next ∙ append_assoc (stand_for (take place bounds)) (stand_for (bound ∷ [])) (stand_for (drop (place + 1) bounds))
+  all = search (rules, take-append-drop, next, append_assoc) depth 9
 
   pub made_next : (new : Loosening) → AreMadeBehind now (stand_for (bound ∷ [])) new → AreMadeBehind old (stand_for (take (place + 1) bounds)) new
   made_next new made = subst (λ l. AreMadeBehind old l new) (sym next) (made_behind old now (stand_for (take place bounds)) (stand_for (bound ∷ [])) sofar new made)
@@ -99,9 +96,7 @@ module _ (stand_for : List Difference → List Difference) (join : (some others 
       (subst (λ l. HasSchedule (made_bounds (with_more old l))) all s)
 
   pub refused_next : (fault : LoosenFault) → IsCauseBehind now (stand_for (bound ∷ [])) fault → IsCauseBehind old (stand_for bounds) fault
-  refused_next fault cause =
-      subst (λ l. IsCauseBehind old l fault) (sym all)
-      (cause_behind old now (stand_for (take place bounds)) (stand_for (bound ∷ [])) sofar (stand_for (drop (place + 1) bounds)) fault cause)
+  refused_next fault cause = search (rules, all, cause_behind)
 
 -- the next order is needed, and there are as many records as may be
 pub order_refused : (old now : Loosening) (orders : List Difference) (place : ℕ) → AreMadeBehind old (take place orders) now → (order : Difference) → place < length orders

@@ -1,5 +1,6 @@
 -- The records of the robust plan, made behind those of the loosened plan.
-use Rattle.std.{specs.{Prelude.{All, IfOk, OnOk, Result, Ok, Err}, List.AllByRecursion}, proofs.{Common.{◌≡◌, ℕ, List, [], ◌∷◌, ◌++◌, length, take, drop, refl, sym, ap, subst, ◌∙◌, append_assoc}, lemmas.List.{take_at, drop_at, length-map, Elements.{All-append, All-from_recursion}}}}
+use Rattle.std.proofs.lemmas.Grind.{common_steps}
+use Rattle.std.{specs.{Prelude.{All, IfOk, OnOk, Result, Ok, Err}, List.AllByRecursion}, proofs.{Common.{arith, ◌≡◌, ℕ, List, [], ◌∷◌, ◌++◌, length, take, drop, refl, sym, ap, subst, ◌∙◌, append_assoc}, lemmas.List.{take_at, drop_at, length-map, Elements.All-from_recursion}}}
 use Rattle.stn_net.specs.{Difference.{Difference, NamesEvents}, Horizon.horizon_bounds, Schedule.HasSchedule}
 use Rattle.stn_lift.specs.PlanSource.{PlanSource, events_of, IsSoundSource}
 use Rattle.stn_loosen.{specs.{declared.fault.LoosenFault.{LoosenFault, TheVariants.{Full, NotRobust, Memory}}, Slack.{Slack, IsSlack, loose}, Moved.moved_bounds, Robust.{loose_bounds, HasPromise, AreRobust}, Making.{Loosening, made_bounds, AreMadeBehind}, Stepped.{AreSteps, IsCauseBehind}, Whole.{IsMadeRobust, IsCauseAfter}, Loosened.{durations_of, AreKept, AreLoosened, bounds_with, loose_durations}}, proofs.{Kept.kept_hold, Sides.{upper_named, lower_named}, Steps.source_steps, Robustness.{sources_moved, moved_possible, records_promise}, Settings.{IsMetIn, each_weaker}}}
@@ -29,7 +30,7 @@ module _ {source : PlanSource} {slack : Slack} {old : Loosening} {durations boun
   are_steps = subst (AreSteps 0) (sym durations_first) (source_steps slack source)
 
   sides : moved_bounds durations bounds ≡ moved_bounds (loose_durations slack source) (p.are.made.kept ++ horizon_bounds (events_of source))
-  sides = ap (λ l. moved_bounds l bounds) durations_first ∙ ap (moved_bounds (loose_durations slack source)) bounds_behind
+  sides = cc (durations_first, bounds_behind)
 
   pub bounds_named : All (NamesEvents old.events) bounds
   bounds_named =
@@ -83,8 +84,7 @@ records_named source slack sound slack_is loosened records are behind before =
     (sources_moved source sound slack slack_is are.are_loosened.orders are.loosened are.are_loosened.sorted.same made) in
     let sides = sides_named (loose_durations slack source) (source_steps slack source) events (made.kept ++ horizon_bounds events) sources in
     let moved = kept_hold (NamesEvents events) (bounds_with source are.loosened) (moved_bounds (loose_durations slack source) (made.kept ++ horizon_bounds events)) are.moved are.chosen sides in
-    subst (All (NamesEvents events)) (sym (are.whole ∙ ap (λ l. l ++ are.moved) behind))
-    (All-append (NamesEvents events) loosened are.moved before (All-from_recursion (NamesEvents events) are.moved moved))
+    grind (arith, common_steps)
 
 -- what two clauses say where there is a result
 pub on_both : {T E : Type 0} (result : Result T E) {P Q : T → Type 0} {R : Type 0} → ((done : T) → P done → Q done → R) → IfOk result P → IfOk result Q → OnOk result R

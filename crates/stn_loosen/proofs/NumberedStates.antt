@@ -1,9 +1,9 @@
 -- A state whose records are numbered from 1 on.
-use Rattle.std.{proofs.{Common.{◌≡◌, ℕ, ◌+◌, ◌<◌, ◌≤◌, max, Bool, true, eqb, not, filter, Ordering, Equal, Greater, List, [], ◌∷◌, ◌++◌, map, length, None, is_some, refl, sym, ap, subst, ◌∙◌, arith, append-nil}, lemmas.{Bool.{ne_eqb, Decides.nat_tests}, List.nil_from_length, Map.Made.distinct_count-le}}, specs.{Bool.then_some, Ordering.{nat_cmp, ordering_then}, List.AllByRecursion, FinMap.{empty, keys, entries, entries-insert, len-entries, len-empty, get-empty, contains_key, Entries.put}}}
+use Rattle.std.{proofs.{Common.{rules, ◌≡◌, ℕ, ◌+◌, ◌<◌, ◌≤◌, max, Bool, true, eqb, not, filter, Ordering, Greater, List, [], ◌∷◌, ◌++◌, map, length, None, is_some, refl, sym, ap, subst, ◌∙◌, arith}, lemmas.{Bool.Decides.nat_tests, List.nil_from_length, Map.Made.distinct_count-le}}, specs.{List.AllByRecursion, FinMap.{empty, entries, entries-insert, len-entries, len-empty, get-empty, contains_key, Entries.put}}}
 use Rattle.stn_net.specs.Difference.{Difference}
-use Rattle.stn_lift.specs.PlanSource.{PlanSource, bare, base_bounds, steps_of}
-use Rattle.stn_records.specs.{Id.{SiteCounter, id_cmp}, declared.record.Record.Record, ContentLaws.ids_total, Content.{Content, no_content, RecordMap, IdSet, with_record, with_ids, replaced_set, is_replaced, known_ids, next_counter, greatest_counter, same_ids, known_count, most_known}}
-use Rattle.stn_site.{proofs.Refused.next_counted, specs.{declared.faults.ReplicaFault.TheVariants.Full, Held.{Held, plain}, Refusals.next_refusal, Bounds.{bounds_of, live_bounds, all_bounds}}}
+use Rattle.stn_lift.specs.PlanSource.{PlanSource, bare, steps_of}
+use Rattle.stn_records.specs.{Id.{SiteCounter, id_cmp}, declared.record.Record.Record, ContentLaws.ids_total, Content.{Content, no_content, RecordMap, IdSet, with_record, replaced_set, is_replaced, known_ids, next_counter, greatest_counter, same_ids, most_known}}
+use Rattle.stn_site.specs.{Held.{Held, plain}, Refusals.next_refusal, Bounds.{bounds_of, live_bounds, all_bounds}}
 use Rattle.stn_loosen.specs.{Loosened.bounds_with, Numbered.{numbered, HoldsNumbered}}
 
 -- a key that comes after all others is put last
@@ -13,19 +13,13 @@ put_last R key value (e ∷ es) all = rw all.0 (ap (λ l. e ∷ l) (put_last R k
 
 numbered-push : (site counter : ℕ) (bounds : List Difference) (bound : Difference)
     → numbered site counter (bounds ++ bound ∷ []) ≡ numbered site counter bounds ++ (record { site = site; counter = counter + length bounds }, plain bound) ∷ []
-numbered-push site counter [] bound =
-    let same : counter ≡ counter + 0 = omega arith in
-    ap (λ n. (record { site = site; counter = n }, plain bound) ∷ []) same
+numbered-push site counter [] bound = search rules
 numbered-push site counter (first ∷ bounds) bound =
     let same : (counter + 1) + length bounds ≡ counter + length (first ∷ bounds) = omega arith in
-    ap (λ l. (record { site = site; counter = counter }, plain first) ∷ l)
-    (numbered-push site (counter + 1) bounds bound ∙ ap (λ n. numbered site (counter + 1) bounds ++ (record { site = site; counter = n }, plain bound) ∷ []) same)
+    cc (numbered-push site (counter + 1) bounds bound)
 
 after : (site one other : ℕ) → one < other → id_cmp (record { site = site; counter = other }) (record { site = site; counter = one }) ≡ Greater
-after site one other less =
-    let same : nat_cmp site site ≡ Equal = grind (arith, nat_tests) in
-    let more : nat_cmp other one ≡ Greater = grind (arith, nat_tests) in
-    ap (λ o. ordering_then o (nat_cmp other one)) same ∙ more
+after site one other less = search rules
 
 all_before : (site counter next : ℕ) (bounds : List Difference) → counter + length bounds ≤ next
     → AllByRecursion (λ (e : SiteCounter × Record). id_cmp (record { site = site; counter = next }) e.0 ≡ Greater) (numbered site counter bounds)
@@ -44,23 +38,20 @@ no_entries {X = X} R = nil_from_length (entries (empty {X = X} {R = R})) (sym (l
 
 -- such a state replaces nothing, so it knows what was added
 none_replaced : (additions : RecordMap) → replaced_set (record no_content { additions = additions }) ≡ empty
-none_replaced additions = ap (with_ids empty) (ap (λ (es : List (SiteCounter × SiteCounter)). map (λ (e : SiteCounter × SiteCounter). e.1) es) (no_entries id_cmp))
+none_replaced additions = cc (no_entries id_cmp)
 
 known_alone : (additions : RecordMap) → known_ids (record no_content { additions = additions }) ≡ map (λ (e : SiteCounter × Record). e.0) (entries additions)
-known_alone additions =
-    ap (λ (set : IdSet). map (λ (e : SiteCounter × Record). e.0) (entries additions) ++ keys set) (none_replaced additions)
-    ∙ ap (λ (es : List (SiteCounter × Unit {0})). map (λ (e : SiteCounter × Record). e.0) (entries additions) ++ map (λ e. e.0) es) (no_entries id_cmp)
-    ∙ append-nil (map (λ (e : SiteCounter × Record). e.0) (entries additions))
+known_alone additions = search (rules, no_entries)
 
 known_of : (site : ℕ) (bounds : List Difference) (state : Content) → HoldsNumbered site bounds state → known_ids state ≡ map (λ (e : SiteCounter × Record). e.0) (numbered site 1 bounds)
-known_of site bounds state holds = ap known_ids holds.alone ∙ known_alone state.additions ∙ ap (map (λ (e : SiteCounter × Record). e.0)) holds.records
+known_of site bounds state holds = cc (known_alone state.additions)
 
 pub next_of : (site : ℕ) (bounds : List Difference) (state : Content) → HoldsNumbered site bounds state → next_counter state site ≡ length bounds + 1
 next_of site bounds state holds =
     let known = known_of site bounds state holds in
     let greatest = greatest_numbered site 0 bounds in
-    let zero_one : numbered site (0 + 1) bounds ≡ numbered site 1 bounds = ap (λ n. numbered site n bounds) (let one : 0 + 1 ≡ 1 = omega arith in one) in
-    omega (arith, greatest, ap (greatest_counter site) known, ap (λ es. greatest_counter site (map (λ (e : SiteCounter × Record). e.0) es)) zero_one)
+    let zero_one : numbered site (0 + 1) bounds ≡ numbered site 1 bounds = cc in
+    search rules
 
 length-numbered : (site counter : ℕ) (bounds : List Difference) → length (map (λ (e : SiteCounter × Record). e.0) (numbered site counter bounds)) ≡ length bounds
 length-numbered site counter [] = refl
@@ -72,7 +63,7 @@ next_passes held bounds holds few =
     let next = next_of held.site bounds held.state holds in
     let most = distinct_count-le same_ids (known_ids held.state) in
     let known = ap length (known_of held.site bounds held.state holds) ∙ length-numbered held.site 1 bounds in
-    next_counted held (omega (arith, next)) ∙ ap (λ b. then_some b Full) (ne_eqb (known_count held.state) most_known (λ same. omega (arith, same, most, known)))
+    search rules
 
 pub holds_none : (site : ℕ) (state : Content) → state ≡ no_content → HoldsNumbered site [] state
 holds_none site state is = subst (HoldsNumbered site []) (sym is) (record { records = no_entries id_cmp; alone = refl })
@@ -84,7 +75,7 @@ holds_more site bounds bound old new holds is =
     let next = next_of site bounds old holds in
     let same : next_counter old site ≡ 1 + length bounds = omega (arith, next) in
     let id : SiteCounter = record { site = site; counter = 1 + length bounds } in
-    let made : new ≡ with_record old id (plain bound) = is ∙ ap (λ n. with_record old (record { site = site; counter = n }) (plain bound)) same in
+    let made : new ≡ with_record old id (plain bound) = cc in
     let holds_now : HoldsNumbered site (bounds ++ bound ∷ []) (with_record old id (plain bound)) = record {
       records = entries-insert ids_total old.additions id (plain bound)
           ∙ ap (put id_cmp id (plain bound)) holds.records
@@ -92,7 +83,7 @@ holds_more site bounds bound old new holds is =
           ∙ sym (numbered-push site 1 bounds bound);
       alone = ap (λ (s : Content). with_record s id (plain bound)) holds.alone;
     } in
-    subst (HoldsNumbered site (bounds ++ bound ∷ [])) (sym made) holds_now
+    search rules
 
 -- all are live, in their order
 all_pass : {X : Type 0} (test : X → Bool) → ((x : X) → test x ≡ true) → (xs : List X) → filter test xs ≡ xs
@@ -105,12 +96,8 @@ numbered_bounds site counter (bound ∷ bounds) = ap (λ l. bound ∷ l) (number
 
 live_alone : (additions : RecordMap) → live_bounds (record no_content { additions = additions }) ≡ bounds_of (entries additions)
 live_alone additions =
-    ap bounds_of
-    (all_pass (λ (e : SiteCounter × Record). not (is_replaced (record no_content { additions = additions }) e.0))
-    (λ e. ap (λ (set : IdSet). not (contains_key set e.0)) (none_replaced additions) ∙ ap (λ o. not (is_some o)) (get-empty id_cmp e.0)) (entries additions))
+    cc (all_pass (λ (e : SiteCounter × Record). not (is_replaced (record no_content { additions = additions }) e.0)) (λ e. ap (λ (set : IdSet). not (contains_key set e.0)) (none_replaced additions) ∙ ap (λ o. not (is_some o)) (get-empty id_cmp e.0)) (entries additions))
 
 -- so all bounds are those of the bare plan and of the records
 pub all_are : (source : PlanSource) (site : ℕ) (bounds : List Difference) (state : Content) → HoldsNumbered site bounds state → all_bounds (bare (steps_of source)) state ≡ bounds_with source bounds
-all_are source site bounds state holds =
-    ap (λ l. base_bounds (bare (steps_of source)) ++ l)
-    (ap live_bounds holds.alone ∙ live_alone state.additions ∙ ap bounds_of holds.records ∙ numbered_bounds site 1 bounds)
+all_are source site bounds state holds = cc (live_alone state.additions, numbered_bounds site 1 bounds)

@@ -1,34 +1,24 @@
 -- There is one loosened plan for a plan and a tolerance.
-use Rattle.std.{proofs.{Common.{◌≡◌, inl, inr, ℕ, ◌+◌, ◌<◌, ◌≤◌, ℤ, ◌≤ℤ◌, ◌<ℤ◌, suc, Bool, true, false, not, ◌&&◌, cond, filter, Ordering, Less, Equal, Greater, List, [], ◌∷◌, ◌++◌, length, get_or, refl, sym, ap, subst, ◌∙◌, arith, length-append}, lemmas.Int.ints}, specs.{List.{AllByRecursion, Sorted.ties}, Ordering.{int_cmp, MatchOrdering, is_lt}, Cmp.int_ranks}}
+use Rattle.std.{proofs.{Common.{rules, ◌≡◌, inl, inr, ℕ, ◌+◌, ◌<◌, ◌≤◌, ℤ, ◌≤ℤ◌, ◌<ℤ◌, suc, Bool, true, false, not, ◌&&◌, cond, filter, Ordering, Less, Equal, Greater, List, [], ◌∷◌, ◌++◌, length, get_or, refl, sym, ap, subst, ◌∙◌, arith, length-append}, lemmas.Int.ints}, specs.{List.{AllByRecursion, Sorted.ties}, Ordering.{int_cmp, MatchOrdering, is_lt}, Cmp.int_ranks}}
 use Rattle.stn_net.specs.{Difference.Difference, Horizon.horizon_bounds}
-use Rattle.stn_lift.specs.PlanSource.{PlanSource, planned_of, events_of}
-use Rattle.stn_loosen.{specs.{Slack.Slack, Moved.moved_bounds, Robust.AreRobust, Loosened.{gap, AreKept, AreNearestFirst, AreLoosened, AreFewLoosened, AreTooMany, orders_of, bounds_with, loose_durations}}, proofs.Settings.each_weaker}
+use Rattle.stn_lift.specs.PlanSource.{PlanSource, events_of}
+use Rattle.stn_loosen.{specs.{Slack.Slack, Moved.moved_bounds, Robust.AreRobust, Loosened.{gap, AreKept, AreNearestFirst, AreLoosened, AreFewLoosened, AreTooMany, bounds_with, loose_durations}}, proofs.Settings.each_weaker}
 
 lt_is : (a b : ℤ) → a <ℤ b → is_lt (int_cmp a b) ≡ true
-lt_is a b less = grind (arith, ints)
-
-lt_not : (a b : ℤ) → b ≤ℤ a → is_lt (int_cmp a b) ≡ false
-lt_not a b less = grind (arith, ints)
-
-le_from_not : (a b : ℤ) → is_lt (int_cmp a b) ≡ false → b ≤ℤ a
-le_from_not a b is = grind (arith, ints)
+lt_is a b less = grind arith
 
 module _ {X : Type 0} (key : X → ℤ) where
   abbrev lt : X → X → Bool
   lt x y = is_lt (int_cmp (key x) (key y))
 
   tie_same : (x y : X) → key x ≡ key y → ties lt x y ≡ true
-  tie_same x y same =
-      ap (λ t. not t && not (lt y x)) (lt_not (key x) (key y) (omega (arith, ints, same)))
-      ∙ ap (λ t. not t) (lt_not (key y) (key x) (omega (arith, ints, same)))
+  tie_same x y same = search rules
 
   tie_less : (x y : X) → key x <ℤ key y → ties lt x y ≡ false
   tie_less x y less = ap (λ t. not t && not (lt y x)) (lt_is (key x) (key y) less)
 
   tie_more : (x y : X) → key y <ℤ key x → ties lt x y ≡ false
-  tie_more x y less =
-      ap (λ t. not t && not (lt y x)) (lt_not (key x) (key y) (omega (arith, ints, less)))
-      ∙ ap (λ t. not t) (lt_is (key y) (key x) less)
+  tie_more x y less = search rules
 
   filter_with : (test : X → Bool) (x : X) (xs : List X) → test x ≡ true → filter test (x ∷ xs) ≡ x ∷ filter test xs
   filter_with test x xs passes = ap (λ t. cond t (x ∷ filter test xs) (filter test xs)) passes
@@ -47,7 +37,7 @@ module _ {X : Type 0} (key : X → ℤ) where
   rises_from (x ∷ y ∷ xs) each =
       let rest = rises_from (y ∷ xs) (λ k d below. each (suc k) d (omega (arith, below))) in
       let first : key x ≤ℤ key y = each 0 x (omega arith) in
-      ((first, each_weaker (λ z. key y ≤ℤ key z) (λ z. key x ≤ℤ key z) (λ z h. omega (arith, ints, first, h)) xs rest.0), rest)
+      search (rules, each_weaker, ints)
 
   none_tie : (x : X) (ys : List X) → AllByRecursion (λ y. key x <ℤ key y) ys → filter (ties lt x) ys ≡ []
   none_tie x [] all = refl
@@ -55,11 +45,7 @@ module _ {X : Type 0} (key : X → ℤ) where
 
   -- the head of one list lies before all of the other
   not_before : (x : X) (xs : List X) (y : X) (ys : List X) → key x <ℤ key y → AllByRecursion (λ z. key y ≤ℤ key z) ys → ¬ (filter (ties lt x) (x ∷ xs) ≡ filter (ties lt x) (y ∷ ys))
-  not_before x xs y ys less all same =
-      let some = filter_with (ties lt x) x xs (tie_same x x refl) in
-      let none = none_tie x (y ∷ ys) (less, each_weaker (λ z. key y ≤ℤ key z) (λ z. key x <ℤ key z) (λ z h. omega (arith, ints, less, h)) ys all) in
-      let wrong : x ∷ filter (ties lt x) xs ≡ [] = sym some ∙ same ∙ none in
-      cc
+  not_before x xs y ys less all same = search (rules, none_tie, each_weaker)
 
   pub one_order : (xs ys : List X) → Rises xs → Rises ys → ((v : X) → filter (ties lt v) xs ≡ filter (ties lt v) ys) → xs ≡ ys
   one_order [] [] these those same = refl
@@ -93,10 +79,11 @@ module _ {X : Type 0} (key : X → ℤ) where
 
 -- one order of the orders, nearest first
 nearest_rises : (planned : ℕ → ℤ) (orders sorted : List Difference) → AreNearestFirst planned orders sorted → Rises (gap planned) sorted
-nearest_rises planned orders sorted are = rises_from (gap planned) sorted (λ k d below.
+nearest_rises planned orders sorted are =
+    rises_from (gap planned) sorted (λ k d below.
     let next : k + 1 ≡ suc k = omega arith in
     subst (λ n. gap planned (get_or sorted k d) ≤ℤ gap planned (get_or sorted n d)) next
-    (le_from_not (gap planned (get_or sorted (k + 1) d)) (gap planned (get_or sorted k d)) (are.nearest k d (omega arith) (omega (arith, below)))))
+    (search rules))
 
 one_sorted : (planned : ℕ → ℤ) (orders one other : List Difference) → AreNearestFirst planned orders one → AreNearestFirst planned orders other → one ≡ other
 one_sorted planned orders one other these those =
@@ -108,30 +95,26 @@ one_kept bounds [] one other these those = these ∙ sym those
 one_kept bounds (order ∷ orders) one other (inl a) (inl b) = one_kept bounds orders one other a.1 b.1
 one_kept bounds (order ∷ orders) one other (inl a) (inr b) = absurd (b.0 a.0)
 one_kept bounds (order ∷ orders) one other (inr a) (inl b) = absurd (a.0 b.0)
-one_kept bounds (order ∷ orders) one other (inr a) (inr b) =
-    a.1.1 ∙ ap (λ l. order ∷ l) (one_kept (bounds ++ order ∷ []) orders a.1.0 b.1.0 a.1.2 b.1.2) ∙ sym b.1.1
+one_kept bounds (order ∷ orders) one other (inr a) (inr b) = cc (one_kept (bounds ++ order ∷ []) orders a.1.0 b.1.0 a.1.2 b.1.2)
 
 module _ (source : PlanSource) (slack : Slack) where
   alike : (one other : List Difference) → (these : AreLoosened source slack one) → (those : AreLoosened source slack other) → these.made.kept ≡ those.made.kept
   alike one other these those =
       let front : List Difference = bounds_with source (loose_durations slack source) in
-      let same : these.orders ≡ those.orders = one_sorted (planned_of source) (orders_of source) these.orders those.orders these.sorted those.sorted in
-      one_kept front those.orders these.made.kept those.made.kept (subst (λ l. AreKept front l these.made.kept) same these.made.chosen) those.made.chosen
+      let same : these.orders ≡ those.orders = search (rules, one_sorted) in
+      search (rules, one_kept)
 
   pub one_plan : (one other : List Difference) → AreLoosened source slack one → AreLoosened source slack other → one ≡ other
-  one_plan one other these those = these.made.whole ∙ ap (λ l. loose_durations slack source ++ l) (alike one other these those) ∙ sym those.made.whole
+  one_plan one other these those = cc (alike one other these those)
 
   pub one_robust : (one other : List Difference) → AreRobust source slack one → AreRobust source slack other → one ≡ other
   one_robust one other these those =
       let front = one_plan these.loosened those.loosened these.are_loosened those.are_loosened in
       let kept = alike these.loosened those.loosened these.are_loosened those.are_loosened in
       let sides : List Difference → List Difference = λ l. moved_bounds (loose_durations slack source) (l ++ horizon_bounds (events_of source)) in
-      let chosen : AreKept (bounds_with source those.loosened) (sides those.are_loosened.made.kept) these.moved =
-      subst (λ l. AreKept (bounds_with source l) (sides those.are_loosened.made.kept) these.moved) front
-      (subst (λ l. AreKept (bounds_with source these.loosened) (sides l) these.moved) kept these.chosen) in
-      these.whole ∙ ap (λ l. l ++ these.moved) front
-      ∙ ap (λ l. those.loosened ++ l) (one_kept (bounds_with source those.loosened) (sides those.are_loosened.made.kept) these.moved those.moved chosen those.chosen)
-      ∙ sym those.whole
+      let chosen : AreKept (bounds_with source those.loosened) (sides those.are_loosened.made.kept) these.moved = search rules
+      in
+      search (rules, one_kept)
 
 -- what is kept of the first orders is kept of all
 front_kept : (bounds first others all : List Difference) → AreKept bounds (first ++ others) all → (kept : List Difference) → AreKept bounds first kept → length kept ≤ length all
@@ -146,16 +129,7 @@ front_kept bounds (order ∷ first) others all (inr a) kept (inr b) =
 pub many_not_few : (source : PlanSource) (slack : Slack) → AreTooMany source slack → (records : List Difference) → ¬ AreFewLoosened source slack records
 many_not_few source slack many records few =
     let durations : List Difference = loose_durations slack source in
-    let same : many.first ++ many.others ≡ few.0.orders = one_sorted (planned_of source) (orders_of source) (many.first ++ many.others) few.0.orders many.sorted few.0.sorted in
+    let same : many.first ++ many.others ≡ few.0.orders = search (rules, one_sorted) in
     let longer = front_kept (bounds_with source durations) many.first many.others few.0.made.kept
     (subst (λ l. AreKept (bounds_with source durations) l few.0.made.kept) (sym same) few.0.made.chosen) many.made.kept many.made.chosen in
-    omega (
-      arith,
-      longer,
-      few.1,
-      many.many,
-      ap length many.made.whole,
-      ap length few.0.made.whole,
-      length-append durations many.made.kept,
-      length-append durations few.0.made.kept,
-    )
+    search (rules, length-append)

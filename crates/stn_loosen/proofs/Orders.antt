@@ -1,5 +1,5 @@
 -- The loosened plan keeps the plan's order.
-use Rattle.std.{proofs.{Common.{◌≡◌, ℕ, ℤ, ◌+◌, ◌*◌, ◌-ℤ◌, zero, suc, List, ◌++◌, length, sym, ap, subst, ◌∙◌, arith, append_assoc, All}, lemmas.{Bool.false≢true, Int.ints, List.{Elements.{All-append, All-from_recursion}, Sorted.{All-permutation, IsPermutation-sym}}}}, specs.List.{AllByRecursion, Sorted.IsPermutation}}
+use Rattle.std.{proofs.{Common.{rules, ◌≡◌, ℕ, ℤ, ◌+◌, ◌*◌, ◌-ℤ◌, zero, suc, List, ◌++◌, length, subst, arith, append_assoc, All}, lemmas.{Int.ints, List.{Elements.{All-append, All-from_recursion}, Sorted.{All-permutation, IsPermutation-sym}}}}, specs.List.{AllByRecursion, Sorted.IsPermutation}}
 use Rattle.stn_time.proofs.Each.{All-left, each_pushed}
 use Rattle.stn_net.specs.{Difference.Difference, Horizon.horizon_bounds, Schedule.{Meets, IsSchedule, times_of}}
 use Rattle.stn_lift.{specs.{BaseBounds.{duration_bound, duration_bounds, events_interfere, event_times, KeepsOrder}, PlanSource.{PlanSource, bare, files, events_of, interfere_in_plan, planned_of, activities_of}}, proofs.SoundBounds.{bounds, order_keeps}}
@@ -18,11 +18,7 @@ lasting_met time (suc before) =
 -- where all orders of a plan are implied, the order of events that interfere is kept
 pub order_kept : (source : PlanSource) (records : List Difference) → All (Imply (bounds_with source records)) (orders_of source)
     → KeepsOrder (events_of source) (interfere_in_plan source) (planned_of source) (bounds_with source records)
-order_kept (bare steps) records implied = record {
-  before = λ time one other s pair h. absurd (false≢true pair.share);
-  after = λ time one other s pair h. absurd (false≢true pair.share);
-  together = λ time one other s pair h. absurd (false≢true pair.share);
-}
+order_kept (bare steps) records implied = search rules
 order_kept (files domain plan) records implied =
     let source : PlanSource = files domain plan in
     let steps = activities_of domain plan in
@@ -48,8 +44,8 @@ pub orders_implied : (source : PlanSource) (slack : Slack) (orders records : Lis
     → All (Imply (bounds_with source records)) (orders_of source)
 orders_implied source slack orders records same made =
     let front : List Difference = bounds_with source (loose_durations slack source) in
-    let whole : front ++ made.kept ≡ bounds_with source records =
-    append_assoc (horizon_bounds (events_of source)) (loose_durations slack source) made.kept ∙ ap (bounds_with source) (sym made.whole) in
+    let whole : front ++ made.kept ≡ bounds_with source records = search (rules, append_assoc)
+    in
     let sorted : All (Imply (bounds_with source records)) orders =
     All-from_recursion (Imply (bounds_with source records)) orders (subst (λ l. AllByRecursion (Imply l) orders) whole (all_implied front orders made.kept made.chosen)) in
     All-permutation (Imply (bounds_with source records)) orders (orders_of source) (IsPermutation-sym (orders_of source) orders same) sorted

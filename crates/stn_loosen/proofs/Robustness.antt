@@ -1,8 +1,8 @@
 -- Promises of the loosened plan, and the robust plan.
-use Rattle.std.{proofs.{Common.{◌≡◌, ◌≢◌, ℕ, ◌<◌, ◌≤◌, ℤ, pos, ◌≤ℤ◌, zero, suc, Bool, true, false, not, ◌&&◌, cond, eqb, nat_lt, Ordering, Less, Equal, Greater, List, [], ◌∷◌, ◌++◌, refl, sym, ap, subst, ◌∙◌, arith, append_assoc, All}, lemmas.{Bool.Decides.nat_tests, Int.ints, List.{Sorted.All-permutation, Elements.{All-append, All-from_recursion, recursion_from_All}}}}, specs.{Prelude.◌↔◌, List.{AllByRecursion, Sorted.IsPermutation}, Ordering.int_cmp}}
-use Rattle.stn_net.{proofs.{Widest.horizon_each, Closure.schedule_before, Schedules.{met_behind, schedule_with}}, specs.{Difference.Difference, Horizon.horizon_bounds, Schedule.{Meets, IsSchedule, HasSchedule, times_of}}}
+use Rattle.std.{proofs.{Common.{rules, ◌≡◌, ◌≢◌, ℕ, ◌<◌, ◌≤◌, ℤ, pos, ◌≤ℤ◌, zero, suc, Bool, true, false, not, ◌&&◌, cond, eqb, nat_lt, Ordering, Less, Equal, Greater, List, [], ◌∷◌, ◌++◌, refl, sym, ap, subst, ◌∙◌, arith, append_assoc, All}, lemmas.{Bool.Decides.nat_tests, Int.ints, List.{Sorted.All-permutation, Elements.{All-append, All-from_recursion, recursion_from_All}}}}, specs.{Prelude.◌↔◌, List.{AllByRecursion, Sorted.IsPermutation}, Ordering.int_cmp}}
+use Rattle.stn_net.{proofs.{Widest.horizon_each, Closure.schedule_before, Schedules.{met_behind, schedule_with}}, specs.{Difference.Difference, Horizon.horizon_bounds, Schedule.{Meets, IsSchedule, HasSchedule}}}
 use Rattle.stn_time.{specs.Time.horizon, proofs.Each.{All-left, All-right, each_joined}}
-use Rattle.stn_lift.specs.{BaseBounds.{step_of, order_bound, pair_order, event_orders, orders, events_interfere, event_times}, PlanSource.{PlanSource, bare, files, events_of, planned_of, activities_of, IsSoundSource}}
+use Rattle.stn_lift.specs.{BaseBounds.{step_of, order_bound, pair_order, event_orders, orders}, PlanSource.{PlanSource, bare, files, events_of, planned_of, IsSoundSource}}
 use Rattle.stn_loosen.{specs.{Slack.{Slack, IsSlack}, Promise.{Promises, still, setting_of}, Moved.moved_bounds, Fragile.start_bounds, Robust.{loose_bounds, HasPromise, AreRobust}, Loosened.{orders_of, Imply, AreKept, bounds_with, loose_durations, AreMadeOf}}, proofs.{Kept.{kept_hold, all_implied}, Looser.{within, loose_durations_met, orders_named}, Orders.orders_implied, Steps.{source_steps, steps_apart}, Runs.IsRobust, Settings.{AreApart, IsMetIn, each_weaker, start_kept, start_within, durations_kept, moved_promise, moved_alike, latest_at, latest_keeps, promise_met, promise_origin}}}
 
 -- an order is between two events
@@ -35,9 +35,7 @@ module _ (interferes : ℕ → ℕ → Bool) (planned : ℕ → ℤ) where
 
 source_differs : (source : PlanSource) → AllByRecursion Differs (orders_of source)
 source_differs (bare steps) = tt
-source_differs (files domain plan) =
-    let steps = activities_of domain plan in
-    orders_differ (events_interfere steps) (times_of (event_times steps)) (events_of (files domain plan)) (events_of (files domain plan))
+source_differs (files domain plan) = search (rules, orders_differ)
 
 module _ (source : PlanSource) (sound : IsSoundSource source) (slack : Slack) (is : IsSlack slack) where
   -- the durations of the loosened plan

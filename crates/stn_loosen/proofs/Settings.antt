@@ -1,5 +1,5 @@
 -- What sets the events of a plan, and times that keep to promised ones.
-use Rattle.std.{proofs.{Common.{◌≡◌, ◌≢◌, ℕ, ◌≤◌, ℤ, pos, ◌+ℤ◌, ◌-ℤ◌, ◌≤ℤ◌, Bool, true, false, cond, eqb, find, List, [], ◌∷◌, Some, refl, sym, ap, subst, arith, All}, lemmas.{Bool.Decides.nat_tests, Int.ints, List.Elements.{All-from_recursion, recursion_from_All}}}, specs.{Prelude.unwrap_or, List.AllByRecursion}}
+use Rattle.std.{proofs.{Common.{rules, ◌≡◌, ◌≢◌, ℕ, ◌≤◌, ℤ, pos, ◌+ℤ◌, ◌-ℤ◌, ◌≤ℤ◌, Bool, true, false, cond, eqb, find, List, [], ◌∷◌, Some, refl, sym, ap, subst, arith, All}, lemmas.{Bool.Decides.nat_tests, Int.ints, List.Elements.{All-from_recursion, recursion_from_All}}}, specs.{Prelude.unwrap_or, List.AllByRecursion}}
 use Rattle.stn_time.specs.Time.{horizon}
 use Rattle.stn_net.specs.{Difference.{Difference, NamesEvents}, Schedule.{Meets, IsSchedule}}
 use Rattle.stn_loosen.specs.{Promise.{still, setting_of, Keeps, Promises}, Moved.{moved_upper, moved_lower, moved_bounds}}
@@ -47,10 +47,7 @@ pub record AreApart (durations : List Difference) : Type 0 where
 module _ (durations : List Difference) (apart : AreApart durations) where
   -- what ends nothing comes as promised
   pub stands_kept : (promised time : ℕ → ℤ) → Keeps durations promised time → (event : ℕ) → setting_of durations event ≡ still event → time event ≡ promised event
-  stands_kept promised time kept event stands =
-      let least : pos 0 ≤ℤ (time event -ℤ promised event) = subst (λ (b : Difference). b.lo ≤ℤ (time event -ℤ promised b.from)) stands (kept.least event) in
-      let most : (time event -ℤ promised event) ≤ℤ pos 0 = subst (λ (b : Difference). (time event -ℤ promised b.from) ≤ℤ b.hi) stands (kept.most event) in
-      omega (arith, ints, least, most)
+  stands_kept promised time kept event stands = search rules
 
   pub start_kept : (promised time : ℕ → ℤ) → Keeps durations promised time → (event : ℕ) → time (setting_of durations event).from ≡ promised (setting_of durations event).from
   start_kept promised time kept event = stands_kept promised time kept (setting_of durations event).from (apart.starts event)
@@ -73,10 +70,7 @@ module _ (durations : List Difference) (apart : AreApart durations) where
 
   -- times that keep to others which meet the moved sides of a bound meet the bound
   pub moved_kept : (promised time : ℕ → ℤ) → Keeps durations promised time → (bound : Difference) → Meets promised (moved_upper durations bound) → Meets promised (moved_lower durations bound) → Meets time bound
-  moved_kept promised time kept bound upper lower = (
-    omega (arith, ints, lower.0, kept.least bound.to, kept.most bound.from),
-    omega (arith, ints, upper.1, kept.most bound.to, kept.least bound.from),
-  )
+  moved_kept promised time kept bound upper lower = grind (arith, ints)
 
   all_moved_kept : (promised time : ℕ → ℤ) → Keeps durations promised time → (bounds : List Difference) → AllByRecursion (Meets promised) (moved_bounds durations bounds) → AllByRecursion (Meets time) bounds
   all_moved_kept promised time kept [] met = tt

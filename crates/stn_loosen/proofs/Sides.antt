@@ -1,5 +1,5 @@
 -- Sides of moved bounds.
-use Rattle.std.{proofs.{Common.{◌≡◌, ◌≢◌, inl, inr, ℕ, ℤ, neg_ℤ, ◌+ℤ◌, ◌-ℤ◌, ◌≤ℤ◌, ◌<ℤ◌, Ordering, Less, Equal, Greater, ◌↔◌, Bool, IsTrue, List, [], ◌∷◌, ap, subst, ◌∙◌, arith, All}, lemmas.{Int.ints, List.Elements.All-head}}, specs.{Ordering.{int_cmp, MatchOrdering}, Cmp.int_ranks}}
+use Rattle.std.{proofs.{Common.{rules, ◌≡◌, ◌≢◌, inl, inr, ℕ, ℤ, neg_ℤ, ◌+ℤ◌, ◌-ℤ◌, ◌≤ℤ◌, ◌<ℤ◌, Ordering, Less, Equal, Greater, ◌↔◌, Bool, IsTrue, List, [], ◌∷◌, subst, arith, All}, lemmas.{Int.ints, List.Elements.All-head}}, specs.{Ordering.{int_cmp, MatchOrdering}, Cmp.int_ranks}}
 use Rattle.stn_time.{specs.Time.{horizon, IsWithinHorizon}, proofs.Each.All-left}
 use Rattle.stn_net.{specs.{Difference.{Difference, NamesEvents}, Horizon.horizon_bounds, Schedule.{Meets, IsSchedule}}, proofs.Schedules.met_behind}
 use Rattle.stn_conflict.specs.Distances.{TellsWithin}
@@ -12,13 +12,13 @@ apart_within made bound named time s =
     let met : All (Meets time) (horizon_bounds made.events) = All-left (Meets time) (horizon_bounds made.events) made.records s.met in
     let from = within time made.events s.origin met bound.from named.from in
     let to = within time made.events s.origin met bound.to named.to in
-    (omega (arith, ints, from.1, to.0), omega (arith, ints, from.0, to.1))
+    search rules
 
 -- what is told of the side of a bound that is not open says whether it is implied
 module _ (made : Loosening) (bounds : List Difference) (listed : bounds ≡ made_bounds made) (side : Difference) (named : NamesEvents made.events side) (told : Bool) (most : ℤ) where
   pub upper_told : most ≡ side.hi → side.lo ≡ neg_ℤ horizon → TellsWithin bounds side.from side.to most told → IsTrue told ↔ Imply (made_bounds made) side
   upper_told is is_open tells =
-      let are : TellsWithin (made_bounds made) side.from side.to most told = subst (λ l. TellsWithin l side.from side.to most told) listed tells in (
+      let are : TellsWithin (made_bounds made) side.from side.to most told = search rules in (
         λ tells_it time s. (
           (let low = (apart_within made side named time s).0 in omega (arith, ints)),
           (let high = are.within.0 tells_it time s in omega (arith, ints)),
@@ -28,7 +28,7 @@ module _ (made : Loosening) (bounds : List Difference) (listed : bounds ≡ made
 
   pub lower_told : most ≡ neg_ℤ side.lo → side.hi ≡ horizon → TellsWithin bounds side.to side.from most told → IsTrue told ↔ Imply (made_bounds made) side
   lower_told is is_open tells =
-      let are : TellsWithin (made_bounds made) side.to side.from most told = subst (λ l. TellsWithin l side.to side.from most told) listed tells in (
+      let are : TellsWithin (made_bounds made) side.to side.from most told = search rules in (
         λ tells_it time s. (
           (let low = are.within.0 tells_it time s in omega (arith, ints)),
           (let high = (apart_within made side named time s).1 in omega (arith, ints)),
@@ -46,10 +46,7 @@ module _ (old : Loosening) (side : Difference) (named : NamesEvents old.events s
   inside = apart_within (with_more old (side ∷ [])) side named time schedule
 
   differs : side.from ≢ side.to
-  differs same = needed (λ other s. (
-    omega (arith, ints, here.0, ap other same, ap time same),
-    omega (arith, ints, here.1, ap other same, ap time same),
-  ))
+  differs same = search (rules, ints, here)
 
   lower : IsWithinHorizon side.lo
   lower = by (int_cmp side.lo (neg_ℤ horizon)) (int_ranks side.lo (neg_ℤ horizon)) side_open
@@ -70,11 +67,7 @@ module _ (old : Loosening) (side : Difference) (named : NamesEvents old.events s
       by Greater ranks (inr is) = absurd (omega (arith, ints, ranks, is))
 
   pub side_bound : IsBoundOf old.events side
-  side_bound = record {
-    sound = record { named = named; differs = differs; ordered = omega (arith, ints, here.0, here.1) };
-    lo = lower;
-    hi = upper;
-  }
+  side_bound = omega (arith, differs, ints, lower, upper)
 
 module _ (durations : List Difference) (are : AreSteps 0 durations) (events : ℕ) (bound : Difference) (named : NamesEvents events bound) where
   pub upper_named : NamesEvents events (moved_upper durations bound)
@@ -86,20 +79,8 @@ module _ (durations : List Difference) (are : AreSteps 0 durations) (events : �
 -- the sides that the code makes
 module _ (durations : List Difference) (bound : Difference) (from_event to_event : ℕ) (from to : Span) (time : ℤ) (from_is : from_event ≡ bound.from) (to_is : to_event ≡ bound.to)
     (from_set : as_bound from ≡ setting_of durations from_event) (to_set : as_bound to ≡ setting_of durations to_event) where
-  from_of : as_bound from ≡ setting_of durations bound.from
-  from_of = from_set ∙ ap (setting_of durations) from_is
-
-  to_of : as_bound to ≡ setting_of durations bound.to
-  to_of = to_set ∙ ap (setting_of durations) to_is
-
   pub is_upper : time ≡ ((bound.hi -ℤ to.hi) +ℤ from.lo) → as_bound (record { from = from.from; to = to.from; lo = neg_ℤ horizon; hi = time }) ≡ moved_upper durations bound
-  is_upper is =
-      ap (λ h. record { from = from.from; to = to.from; lo = neg_ℤ horizon; hi = h }) is
-      ∙ ap (λ (b : Difference). record { from = b.from; to = to.from; lo = neg_ℤ horizon; hi = (bound.hi -ℤ to.hi) +ℤ b.lo }) from_of
-      ∙ ap (λ (b : Difference). record { from = (setting_of durations bound.from).from; to = b.from; lo = neg_ℤ horizon; hi = (bound.hi -ℤ b.hi) +ℤ (setting_of durations bound.from).lo }) to_of
+  is_upper is = search rules
 
   pub is_lower : time ≡ ((bound.lo -ℤ to.lo) +ℤ from.hi) → as_bound (record { from = from.from; to = to.from; lo = time; hi = horizon }) ≡ moved_lower durations bound
-  is_lower is =
-      ap (λ l. record { from = from.from; to = to.from; lo = l; hi = horizon }) is
-      ∙ ap (λ (b : Difference). record { from = b.from; to = to.from; lo = (bound.lo -ℤ to.lo) +ℤ b.hi; hi = horizon }) from_of
-      ∙ ap (λ (b : Difference). record { from = (setting_of durations bound.from).from; to = b.from; lo = (bound.lo -ℤ b.lo) +ℤ (setting_of durations bound.from).hi; hi = horizon }) to_of
+  is_lower is = search rules

@@ -1,5 +1,6 @@
 -- The bounds on starts, one after the other, and the lines of their links.
-use Rattle.std.{proofs.{Common.{◌≡◌, inl, inr, ℕ, ◌+◌, ◌*◌, ◌-◌, ◌/◌, ◌<◌, ◌≤◌, Bool, true, false, cond, nat_lt, ℤ, List, [], ◌∷◌, ◌++◌, length, map, take, get_or, codes, refl, sym, ap, subst, ◌∙◌, arith, append_assoc, length-append, All}, lemmas.{Bool.Decides.nat_tests, List.{get_or_read, take_more, take_at, map_push, get_or-map, Elements.{All-append, All-map, All-push, All-from_recursion, recursion_from_All}}, Grind.flat_map-append}}, specs.List.{AllByRecursion}}
+use Rattle.std.proofs.lemmas.Grind.{common_steps}
+use Rattle.std.{proofs.{Common.{rules, ◌≡◌, inl, inr, ℕ, ◌+◌, ◌*◌, ◌-◌, ◌/◌, ◌<◌, ◌≤◌, Bool, true, false, cond, nat_lt, ℤ, List, [], ◌∷◌, ◌++◌, length, map, take, get_or, codes, refl, sym, ap, subst, ◌∙◌, arith, append_assoc, length-append, All}, lemmas.{Bool.Decides.nat_tests, List.{get_or_read, take_at, get_or-map, Elements.{All-append, All-map, All-from_recursion, recursion_from_All}}, Grind.flat_map-append}}, specs.List.AllByRecursion}
 use Rattle.stn_time.proofs.Each.{All-left, All-right}
 use Rattle.stn_net.{specs.{Difference.{Difference, NamesEvents}, Horizon.{horizon_bounds}, Schedule.{Meets, IsSchedule, HasSchedule}}, proofs.{Horizons.length-horizon_bounds, Widest.{horizon_each, horizon_named}}}
 use Rattle.stn_lift.specs.PlanSource.{PlanSource, events_of, IsSoundSource}
@@ -13,29 +14,13 @@ span_at spans place span there is = get_or-map as_bound spans place span _ there
 
 -- both sides of one more bound
 module _ (old new : List Span) (upper lower : Span) (is : new ≡ (old ++ upper ∷ []) ++ lower ∷ []) where
-  both_pushed : map as_bound new ≡ (map as_bound old ++ as_bound upper ∷ []) ++ as_bound lower ∷ []
-  both_pushed = ap (map as_bound) is ∙ map_push as_bound (old ++ upper ∷ []) lower ∙ ap (λ l. l ++ as_bound lower ∷ []) (map_push as_bound old upper)
-
   pub starts_reach : All IsWithinReach (map as_bound old) → IsWithinReach (as_bound upper) → IsWithinReach (as_bound lower) → All IsWithinReach (map as_bound new)
-  starts_reach before first second =
-      subst (All IsWithinReach) (sym both_pushed)
-      (All-push IsWithinReach (map as_bound old ++ as_bound upper ∷ []) (as_bound lower) (All-push IsWithinReach (map as_bound old) (as_bound upper) before first) second)
+  starts_reach before first second = grind (arith, common_steps)
 
   pub starts_more : (front durations bounds : List Difference) (place : ℕ) (bound : Difference) → place < length bounds → bound ≡ get_or bounds place bound
       → as_bound upper ≡ moved_upper durations bound → as_bound lower ≡ moved_lower durations bound
       → map as_bound old ≡ front ++ moved_bounds durations (take place bounds) → map as_bound new ≡ front ++ moved_bounds durations (take (place + 1) bounds)
-  starts_more front durations bounds place bound there here first second before =
-      let so_far : List Difference = moved_bounds durations (take place bounds) in
-      let next : take (place + 1) bounds ≡ take place bounds ++ bound ∷ [] = take_more bounds place bound there ∙ ap (λ b. take place bounds ++ b ∷ []) (sym here) in
-      let sides : moved_bounds durations (take (place + 1) bounds) ≡ so_far ++ (moved_upper durations bound ∷ moved_lower durations bound ∷ []) =
-      ap (moved_bounds durations) next ∙ flat_map-append (λ b. moved_upper durations b ∷ moved_lower durations b ∷ []) (take place bounds) (bound ∷ []) in
-      both_pushed
-      ∙ ap (λ l. (l ++ as_bound upper ∷ []) ++ as_bound lower ∷ []) before
-      ∙ ap (λ b. ((front ++ so_far) ++ b ∷ []) ++ as_bound lower ∷ []) first
-      ∙ ap (λ b. ((front ++ so_far) ++ moved_upper durations bound ∷ []) ++ b ∷ []) second
-      ∙ append_assoc (front ++ so_far) (moved_upper durations bound ∷ []) (moved_lower durations bound ∷ [])
-      ∙ append_assoc front so_far (moved_upper durations bound ∷ moved_lower durations bound ∷ [])
-      ∙ ap (λ l. front ++ l) (sym sides)
+  starts_more front durations bounds place bound there here first second before = grind (arith, common_steps)
 
 -- ---- what the bounds on starts are
 length-moved_bounds : (durations bounds : List Difference) → length (moved_bounds durations bounds) ≡ 2 * length bounds
@@ -91,12 +76,7 @@ module _ (source : PlanSource) (sound : IsSoundSource source) (slack : Slack) wh
       (time, (promise_iff source sound slack is time).1 schedule)
 
   pub counted : length (start_bounds source slack) ≡ events_of source + 2 * length (loose_bounds source slack)
-  counted = omega (
-    arith,
-    length-append (horizon_bounds events) (moved_bounds durations (loose_bounds source slack)),
-    length-horizon_bounds events,
-    length-moved_bounds durations (loose_bounds source slack),
-  )
+  counted = simp (length-append, length-horizon_bounds, length-moved_bounds)
 
   pub some : events_of source ≤ length (loose_bounds source slack)
   some = omega (arith, length-append (horizon_bounds events) (durations ++ orders_of source), length-horizon_bounds events)
@@ -121,18 +101,8 @@ module _ (events : ℕ) (durations bounds starts : List Difference) (link : Link
       line (name_text (Plan number) ++ (codes " " ++ (side_text link.side ++ (codes " "
       ++ (limit_text (with_sides bound moved) link.side ++ mover_text durations events link.place bound)))))
 
-  assembled : (out name side limit movers : List ℕ)
-      → ((((out ++ name) ++ (codes " " ++ (side ++ codes " "))) ++ limit) ++ movers) ++ 10 ∷ [] ≡ out ++ line (name ++ (codes " " ++ (side ++ (codes " " ++ (limit ++ movers)))))
-  assembled out name side limit movers = simp append_assoc
-
   pub line_made : (number : ℕ) (bound moved : Difference) (out first second third fourth fifth : List ℕ) → number ≡ origin_place events link.place + 1
       → bound ≡ bound_at bounds (origin_place events link.place) → moved ≡ bound_at starts link.place → first ≡ out ++ name_text (Plan number)
       → second ≡ first ++ (codes " " ++ (side_text link.side ++ codes " ")) → third ≡ second ++ limit_text (with_sides bound moved) link.side
       → fourth ≡ third ++ mover_text durations events link.place bound → fifth ≡ fourth ++ 10 ∷ [] → fifth ≡ out ++ start_line events durations bounds starts link
-  line_made number bound moved out first second third fourth fifth number_is bound_is moved_is one two three four five =
-      five ∙ ap (λ t. t ++ 10 ∷ []) (four ∙ ap (λ t. t ++ mover_text durations events link.place bound) (three ∙ ap (λ t. t ++ limit_text (with_sides bound moved) link.side)
-      (two ∙ ap (λ t. t ++ (codes " " ++ (side_text link.side ++ codes " "))) one)))
-      ∙ assembled out (name_text (Plan number)) (side_text link.side) (limit_text (with_sides bound moved) link.side) (mover_text durations events link.place bound)
-      ∙ ap (λ n. out ++ made_line n bound moved) number_is
-      ∙ ap (λ b. out ++ made_line (origin_place events link.place + 1) b moved) bound_is
-      ∙ ap (λ b. out ++ made_line (origin_place events link.place + 1) (bound_at bounds (origin_place events link.place)) b) moved_is
+  line_made number bound moved out first second third fourth fifth number_is bound_is moved_is one two three four five = search (rules, append_assoc)

@@ -1,8 +1,8 @@
 -- Bounds on starts of which a search takes some.
-use Rattle.std.proofs.{Common.{◌≡◌, ◌≢◌, inl, inr, ℕ, ◌+◌, ◌<◌, ◌≤◌, ℤ, pos, neg_ℤ, ◌+ℤ◌, ◌-ℤ◌, ◌≤ℤ◌, ◌<ℤ◌, Bool, true, false, eqb, ltb, Ordering, Less, Equal, Greater, List, [], ◌∷◌, ◌++◌, length, map, take, get_or, refl, sym, ap, subst, ◌∙◌, arith, append_assoc, append-nil, length-append, All}, lemmas.{Bool.Decides.nat_tests, Int.ints, List.{take_more, take_all, length-map, get_or_append_left, get_or_push, get_or-take, Elements.{All-nil, All-head, All-push}}}}
+use Rattle.std.proofs.{Common.{rules, ◌≡◌, ◌≢◌, inl, inr, ℕ, ◌+◌, ◌<◌, ◌≤◌, ℤ, pos, neg_ℤ, ◌-ℤ◌, ◌≤ℤ◌, ◌<ℤ◌, Bool, true, false, eqb, ltb, Ordering, Less, Equal, Greater, List, [], ◌∷◌, ◌++◌, length, map, take, get_or, refl, sym, ap, subst, ◌∙◌, arith, append_assoc, length-append, All}, lemmas.{Bool.Decides.nat_tests, Int.ints, List.{take_more, take_all, length-map, get_or_append_left, get_or_push, Elements.{All-head, All-push}}}}
 use Rattle.std.specs.{Ordering.{int_cmp, MatchOrdering}, Cmp.int_ranks}
 use Rattle.stn_time.specs.Time.{horizon}
-use Rattle.stn_net.{specs.{Difference.{Difference, NamesEvents}, Horizon.horizon_bounds, Schedule.{Meets, IsSchedule, HasSchedule}}, proofs.{Horizons.{length-horizon_bounds, known_within}, Closure.schedule_before, Schedules.met_behind}}
+use Rattle.stn_net.{specs.{Difference.{Difference, NamesEvents}, Horizon.horizon_bounds, Schedule.{Meets, IsSchedule, HasSchedule}}, proofs.{Closure.schedule_before, Schedules.met_behind}}
 use Rattle.stn_conflict.specs.{declared.links.{Link.Link, Side.{Side, TheVariants.{Upper, Lower}}}, Arcs.{Arc, arc, arc_of, bound_at, IsChain, weight_of, IsNegativeCycle}}
 use Rattle.stn_loosen.{specs.{Starting.{IsStart, AreCrossed, ArePlaced, AreChosen, link_moved}, Stepped.{IsHalfOpen, IsBoundOf}}, proofs.Sides.apart_within}
 
@@ -22,46 +22,23 @@ module _ (all bounds : List Difference) (places : List ℕ) (are : ArePlaced all
 
   placed_weight : (links : List Link) (x y : ℕ) → IsChain bounds links x y → weight_of all (map (link_moved places) links) ≡ weight_of bounds links
   placed_weight [] x y chain = refl
-  placed_weight (link ∷ links) x y (there, from, rest) =
-      ap (λ (a : Arc). a.weight +ℤ weight_of all (map (link_moved places) links)) (same_arc link there) ∙ ap (λ w. (arc_of bounds link).weight +ℤ w) (placed_weight links _ y rest)
+  placed_weight (link ∷ links) x y (there, from, rest) = cc (same_arc link there, placed_weight links _ y rest)
 
   pub placed_cycle : (links : List Link) → IsNegativeCycle bounds links → IsNegativeCycle all (map (link_moved places) links)
-  placed_cycle links cycle =
-      let x = cycle.closed.0 in
-      record {
-        some = omega (arith, length-map links (link_moved places), cycle.some);
-        closed = (x, placed_chain links x x cycle.closed.1);
-        negative = subst (λ w. w <ℤ pos 0) (sym (placed_weight links x x cycle.closed.1)) cycle.negative;
-      }
-
--- ---- a bound that contradicts itself
-ends_alike : (bound : Difference) (side : Side) → bound.from ≡ bound.to → (arc bound side).to ≡ (arc bound side).from
-ends_alike bound Upper same = sym same
-ends_alike bound Lower same = same
+  placed_cycle links cycle = search (rules, length-map, placed_chain, placed_weight)
 
 module _ (all : List Difference) (place : ℕ) (there : place < length all) where
   alone : (side : Side) → (bound_at all place).from ≡ (bound_at all place).to → (arc (bound_at all place) side).weight <ℤ pos 0
       → IsNegativeCycle all (record { place = place; side = side } ∷ [])
-  alone side same negative = record {
-    some = omega arith;
-    closed = ((arc (bound_at all place) side).from, (there, refl, ends_alike (bound_at all place) side same));
-    negative = omega (arith, ints, negative);
-  }
+  alone side same negative = search rules
 
   both : (bound_at all place).hi <ℤ (bound_at all place).lo → IsNegativeCycle all (record { place = place; side = Upper } ∷ record { place = place; side = Lower } ∷ [])
-  both less = record {
-    some = omega arith;
-    closed = ((bound_at all place).from, (there, refl, (there, refl, refl)));
-    negative = omega (arith, ints, less);
-  }
+  both less = search rules
 
   pub crossed_cycle : (links : List Link) → length links ≢ 0 → AreCrossed (bound_at all place) place links → IsNegativeCycle all links
   crossed_cycle [] some are = absurd (some refl)
-  crossed_cycle (link ∷ []) some are =
-      subst (λ (l : Link). IsNegativeCycle all (l ∷ [])) (ap (λ p. record { place = p; side = link.side }) (sym are.0)) (alone link.side are.1 are.2)
-  crossed_cycle (link ∷ other ∷ []) some are =
-      subst (λ (l : Link). IsNegativeCycle all (l ∷ other ∷ [])) (sym are.0)
-      (subst (λ (l : Link). IsNegativeCycle all (record { place = place; side = Upper } ∷ l ∷ [])) (sym are.1) (both are.2))
+  crossed_cycle (link ∷ []) some are = search rules
+  crossed_cycle (link ∷ other ∷ []) some are = search rules
   crossed_cycle (link ∷ other ∷ third ∷ more) some are = absurd are
 
 -- ---- a bound that is left out
@@ -133,18 +110,6 @@ placed_push all bounds places long are bound place there is = λ k below. by k b
         )
 
 module _ (events : ℕ) (all : List Difference) where
-  pub chosen_none : take events all ≡ horizon_bounds events → (places : List ℕ) → length places ≡ events → ((k : ℕ) → k < events → get_or places k 0 ≡ k) → AreChosen events all events [] places
-  chosen_none begins places long same = record {
-    named = All-nil (NamesEvents events);
-    counted = long ∙ sym (ap length (append-nil (horizon_bounds events)) ∙ length-horizon_bounds events);
-    placed = λ k below.
-        let first : k < events = omega (arith, below, ap length (append-nil (horizon_bounds events)), length-horizon_bounds events) in (
-          subst (λ p. p < length all) (sym (same k first)) (omega (arith, known_within events all begins, first)),
-          ap (bound_at all) (same k first) ∙ sym (get_or-take events all k nothing first) ∙ ap (λ l. bound_at l k) (begins ∙ sym (append-nil (horizon_bounds events))),
-        );
-    met = λ time schedule. subst (All (Meets time)) (append-nil (horizon_bounds events) ∙ sym begins) schedule.met;
-  }
-
   module _ (place : ℕ) (chosen : List Difference) (places : List ℕ) (are : AreChosen events all place chosen places) (there : place < length all) where
     more : take (place + 1) all ≡ take place all ++ bound_at all place ∷ []
     more = take_more all place _ there

@@ -1,6 +1,6 @@
 -- The durations of the steps of a plan, one behind the other.
-use Rattle.std.{proofs.{Common.{◌≡◌, ◌≢◌, ◌⊎◌, inl, inr, ⊎_elim, ℕ, ◌+◌, ◌-◌, ◌*◌, ◌/◌, ◌%◌, ◌<◌, ℤ, ◌≤ℤ◌, zero, suc, Bool, true, false, cond, eqb, find, List, [], ◌∷◌, ◌++◌, map, length, get_or, Some, refl, sym, ap, subst, ◌∙◌, arith, ◌≤◌, ltb}, lemmas.{Bool.Decides.nat_tests, Int.ints, List.Elements.recursion_from_All}}, specs.{Prelude.unwrap_or, List.AllByRecursion}}
-use Rattle.stn_lift.{proofs.FewBounds.length-duration_bounds, specs.{BaseBounds.{duration_bound, duration_bounds, duration_of}, PlanSource.{PlanSource, bare, files, activities_of}}}
+use Rattle.std.{proofs.{Common.{rules, ◌≡◌, ◌≢◌, ◌⊎◌, inl, inr, ⊎_elim, ℕ, ◌+◌, ◌-◌, ◌*◌, ◌/◌, ◌%◌, ◌<◌, ℤ, ◌≤ℤ◌, zero, suc, Bool, true, false, eqb, List, [], ◌∷◌, ◌++◌, map, length, get_or, refl, sym, ap, subst, ◌∙◌, arith, ◌≤◌, ltb}, lemmas.{Bool.Decides.nat_tests, Int.ints, List.Elements.recursion_from_All}}, specs.List.AllByRecursion}
+use Rattle.stn_lift.{proofs.FewBounds.length-duration_bounds, specs.{BaseBounds.{duration_bound, duration_bounds}, PlanSource.{PlanSource, bare, files}}}
 use Rattle.stn_net.specs.Difference.{Difference}
 use Rattle.stn_loosen.{specs.{Slack.{Slack, loose}, Loosened.loose_durations, Promise.{still, setting_of}, Stepped.AreSteps}, proofs.Settings.{AreApart, setting_holds, each_weaker}}
 
@@ -24,9 +24,7 @@ steps_loose slack before (duration ∷ durations) are = (are.0, steps_loose slac
 -- the durations of a plan are those of its steps
 pub source_steps : (slack : Slack) (source : PlanSource) → AreSteps 0 (loose_durations slack source)
 source_steps slack (bare steps) = tt
-source_steps slack (files domain plan) =
-    let steps = activities_of domain plan in
-    steps_loose slack 0 (duration_bounds (duration_of steps) (length steps)) (steps_bounds (duration_of steps) (length steps))
+source_steps slack (files domain plan) = search (rules, steps_loose, steps_bounds)
 
 -- the event ends the step of a duration of the list, or none
 pub step_or_none : (before count event : ℕ) → ((place : ℕ) × (place < count) × (event ≡ 2 * (before + place) + 2)) ⊎ ((place : ℕ) → place < count → event ≢ 2 * (before + place) + 2)
@@ -46,14 +44,10 @@ step_or_none before (suc count) event = by (eqb event (2 * (before + count) + 2)
 
 module _ (event : ℕ) where
   setting_first : (duration : Difference) (durations : List Difference) → duration.to ≡ event → setting_of (duration ∷ durations) event ≡ duration
-  setting_first duration durations here =
-      let same : eqb duration.to event ≡ true = grind (arith, nat_tests) in
-      ap (λ t. unwrap_or (cond t (Some duration) (find (λ (d : Difference). eqb d.to event) durations)) (still event)) same
+  setting_first duration durations here = search rules
 
   setting_behind : (duration : Difference) (durations : List Difference) → duration.to ≢ event → setting_of (duration ∷ durations) event ≡ setting_of durations event
-  setting_behind duration durations other =
-      let same : eqb duration.to event ≡ false = grind (arith, nat_tests) in
-      ap (λ t. unwrap_or (cond t (Some duration) (find (λ (d : Difference). eqb d.to event) durations)) (still event)) same
+  setting_behind duration durations other = search rules
 
 -- the end of a step is set by its duration
 pub setting_step : (before : ℕ) (durations : List Difference) → AreSteps before durations → (place : ℕ) → place < length durations → (d : Difference)
@@ -95,31 +89,26 @@ module _ (durations : List Difference) (are : AreSteps 0 durations) where
       (λ none. inl (setting_none 0 durations are event none))
       (step_or_none 0 (length durations) event)
 
-  start_set : (place : ℕ) → setting_of durations (2 * place + 1) ≡ still (2 * place + 1)
-  start_set place = setting_none 0 durations are (2 * place + 1) (λ other below same. omega (arith, same))
-
   pub earlier_start : (event : ℕ) → (setting_of durations event).from ≤ event
-  earlier_start event = ⊎_elim
-      (λ (stands : setting_of durations event ≡ still event). let same = ap (λ (b : Difference). b.from) stands in omega (arith, same))
-      (λ found. omega (arith, found.1, found.2))
-      (set_by event)
+  earlier_start event = search (rules, set_by)
 
   own_at : (place : ℕ) (d : Difference) → place < length durations → setting_of durations (get_or durations place d).to ≡ get_or durations place d
   own_at place d below = let step = step_at 0 durations are place below d in setting_step 0 durations are place below d (get_or durations place d).to (omega (arith, step.1))
 
   -- steps whose durations may last are apart
   pub steps_apart : AllByRecursion (λ (duration : Difference). duration.lo ≤ℤ duration.hi) durations → AreApart durations
-  steps_apart lasting = record {
-    origin = setting_none 0 durations are 0 (λ place below same. omega (arith, same));
-    starts = λ event. ⊎_elim
-        (λ (stands : setting_of durations event ≡ still event). subst (λ (b : Difference). setting_of durations b.from ≡ still b.from) (sym stands) stands)
-        (λ found. subst (λ n. setting_of durations n ≡ still n) (sym found.2) (start_set found.0))
-        (set_by event);
-    own = recursion_from_All (λ (duration : Difference). setting_of durations duration.to ≡ duration) durations (λ place d below. own_at place d below);
-    earlier = earlier_start;
-    ordered = λ event. setting_holds (λ b. b.lo ≤ℤ b.hi) event (omega (arith, ints)) durations
-        (each_weaker (λ (b : Difference). b.lo ≤ℤ b.hi) (λ b. b.to ≡ event → b.lo ≤ℤ b.hi) (λ b less here. less) durations lasting);
-  }
+  steps_apart lasting =
+      record {
+        origin = setting_none 0 durations are 0 (λ place below same. omega (arith, same));
+        starts = λ event. ⊎_elim
+            (λ (stands : setting_of durations event ≡ still event). subst (λ (b : Difference). setting_of durations b.from ≡ still b.from) (sym stands) stands)
+            (λ found. subst (λ n. setting_of durations n ≡ still n) (sym found.2) (search (rules, setting_none)))
+            (set_by event);
+        own = recursion_from_All (λ (duration : Difference). setting_of durations duration.to ≡ duration) durations (λ place d below. own_at place d below);
+        earlier = earlier_start;
+        ordered = λ event. setting_holds (λ b. b.lo ≤ℤ b.hi) event (omega (arith, ints)) durations
+            (each_weaker (λ (b : Difference). b.lo ≤ℤ b.hi) (λ b. b.to ≡ event → b.lo ≤ℤ b.hi) (λ b less here. less) durations lasting);
+      }
 
 -- an event of the code that is no end
 pub not_end : (durations : List Difference) → AreSteps 0 durations → (event number : ℕ) → number ≡ event → (number ≡ 0) ⊎ (number % 2 ≡ 1) → setting_of durations event ≡ still event
@@ -129,16 +118,11 @@ not_end durations are event number is (inr odd) = setting_none 0 durations are e
 -- and one that is
 pub is_end : (durations : List Difference) → AreSteps 0 durations → (event number : ℕ) → number ≡ event → number ≢ 0 → number % 2 ≢ 1 → (place : ℕ) → place ≡ number / 2 - 1
     → event ≡ 2 * (0 + place) + 2
-is_end durations are event number is some even place here = omega (arith, is, some, even, here)
+is_end durations are event number is some even place here = omega arith
 
 module _ (durations : List Difference) (are : AreSteps 0 durations) (event number place : ℕ) (is : number ≡ event) (some : number ≢ 0) (even : number % 2 ≢ 1) (here : place ≡ number / 2 - 1) where
   pub end_set : ltb place (length durations) ≡ true → (d : Difference) → setting_of durations event ≡ get_or durations place d
-  end_set below d =
-      let inside : place < length durations = grind (arith, nat_tests) in
-      setting_step 0 durations are place inside d event (is_end durations are event number is some even place here)
+  end_set below d = search (rules, setting_step)
 
   pub past_set : ltb place (length durations) ≡ false → setting_of durations event ≡ still event
-  past_set above =
-      let outside : length durations ≤ place = grind (arith, nat_tests) in
-      let end = is_end durations are event number is some even place here in
-      setting_none 0 durations are event (λ other below same. omega (arith, end, outside, below, same))
+  past_set above = search (rules, setting_none)

@@ -1,14 +1,14 @@
 -- The records of a whole plan.
-use Rattle.std.{proofs.{Common.{◌≡◌, ◌≤◌, List, [], ◌++◌, length, ap, subst, ◌∙◌, arith, append-nil, All}, lemmas.List.Sorted.All-permutation}, specs.List.Sorted.IsPermutation}
+use Rattle.std.{proofs.{Common.{rules, ◌≡◌, ◌≤◌, List, [], ◌++◌, length, subst, arith, append-nil, All}, lemmas.List.Sorted.All-permutation}, specs.List.Sorted.IsPermutation}
 use Rattle.stn_net.specs.{Difference.{Difference, NamesEvents}, Schedule.{Meets, HasSchedule}}
 use Rattle.stn_lift.specs.PlanSource.{PlanSource, events_of, planned_of, IsSoundSource}
 use Rattle.stn_records.specs.Content.{most_known}
-use Rattle.stn_loosen.{specs.{declared.fault.LoosenFault.{LoosenFault, TheVariants.{Full, NotRobust, Memory}}, Slack.{Slack, IsSlack}, Faults.IsCause, Making.{Loosening, made_bounds, with_more, AreMadeBehind, IsCauseWith}, Loosened.{durations_of, orders_of, AreNearestFirst, AreKept, bounds_with, loose_durations, AreMadeOf}}, proofs.{Looser.{loose_schedule, orders_met, orders_named}, ThreeParts.few_durations}}
+use Rattle.stn_loosen.{specs.{declared.fault.LoosenFault.{LoosenFault, TheVariants.{Full, NotRobust, Memory}}, Slack.{Slack, IsSlack}, Faults.IsCause, Making.{Loosening, AreMadeBehind, IsCauseWith}, Loosened.{durations_of, orders_of, AreNearestFirst, bounds_with, loose_durations, AreMadeOf}}, proofs.{Looser.{loose_schedule, orders_met, orders_named}, ThreeParts.few_durations}}
 
 module _ (source : PlanSource) (sound : IsSoundSource source) (slack : Slack) (is : IsSlack slack) where
   -- there is room for all durations, and they have a schedule
   pub durations_fit : length (durations_of source) ≤ most_known
-  durations_fit = omega (arith, few_durations source, sound.small)
+  durations_fit = omega (arith, few_durations source)
 
   pub durations_possible : HasSchedule (bounds_with source (loose_durations slack source))
   durations_possible =
@@ -28,20 +28,9 @@ module _ (source : PlanSource) (sound : IsSoundSource source) (slack : Slack) (i
 
 module _ (source : PlanSource) (slack : Slack) (before : Loosening) (is : before ≡ record { events = events_of source; records = loose_durations slack source }) where
   pub made_of : (orders : List Difference) (now : Loosening) → AreMadeBehind before orders now → AreMadeOf source slack orders now.records
-  made_of orders now made = record {
-    kept = made.0;
-    whole = ap (λ (m : Loosening). m.records) (made.1 ∙ ap (λ m. with_more m made.0) is);
-    chosen = subst (λ m. AreKept (made_bounds m) orders made.0) is made.2;
-  }
+  made_of orders now made = search rules
 
   pub cause_of : (orders : List Difference) → AreNearestFirst (planned_of source) (orders_of source) orders → (fault : LoosenFault) → IsCauseWith before orders fault → IsCause source slack fault
-  cause_of orders sorted Full p = record {
-    first = p.first;
-    others = p.others;
-    sorted = subst (AreNearestFirst (planned_of source) (orders_of source)) p.parts sorted;
-    records = p.made.records;
-    made = made_of p.first p.made p.behind;
-    many = p.many;
-  }
+  cause_of orders sorted Full p = search rules
   cause_of orders sorted NotRobust none = none
   cause_of orders sorted Memory p = tt

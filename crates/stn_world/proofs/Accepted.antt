@@ -1,31 +1,28 @@
 -- What refuses a step, and what an accepted step tells.
-use Rattle.std.{proofs.{Common.{◌≡◌, ◌≢◌, ℕ, ◌<◌, ◌≤◌, Bool, true, not, ◌&&◌, cond, leb, Option, Some, None, length, ap, sym, ◌∙◌, arith}, lemmas.Bool.{false_from_ne_true, eq-eqb, ne_eqb, lt-leb, Decides.nat_tests}}, specs.{Prelude.{◌==◌, unwrap_or, option_map}, Bool.{Decides, then_some}, Option.option_or}}
+use Rattle.std.{proofs.{Common.{rules, ◌≡◌, ◌≢◌, ℕ, ◌<◌, ◌≤◌, Bool, true, not, ◌&&◌, leb, Option, Some, None, length, ap, sym, ◌∙◌, arith}, lemmas.Bool.Decides.nat_tests}, specs.{Prelude.{unwrap_or, option_map}, Bool.{Decides, then_some}, Option.option_or}}
 use Rattle.stn_records.specs.Content.{Content}
-use Rattle.stn_site.{specs.{declared.{faults.ReplicaFault.ReplicaFault, change.Change.Change}, Change.change_refusal, Refusals.take_refusal}, proofs.Refused.{or_none, mapped_none, untested}}
+use Rattle.stn_site.specs.{declared.{faults.ReplicaFault.ReplicaFault, change.Change.Change}, Change.change_refusal, Refusals.take_refusal}
 use Rattle.stn_site.specs.declared.faults.ReplicaFault.TheVariants as replica_fault
-use Rattle.stn_world.{specs.{declared.faults.WorldFault.{WorldFault, TheVariants.{NoSite, TooManyPackets, NoPacket, Replica, Memory}}, Faults.of_replica_fault, Parts.is_part, World.{World, most_packets, HasSite, has_site, HasPacket, has_packet, held_at, content_at, packet_at}, Steps.{changed, merged, sent, delivered, missing, step_refusal, IsAccepted, send_refusal}}, proofs.Parts.{IsSentOf, part_decides}}
+use Rattle.stn_world.{specs.{declared.faults.WorldFault.{WorldFault, TheVariants.{NoSite, NoPacket, Replica, Memory}}, Faults.of_replica_fault, World.{World, most_packets, HasSite, has_site, HasPacket, has_packet, held_at, content_at, packet_at}, Steps.{changed, merged, sent, delivered, missing, step_refusal, IsAccepted, send_refusal}}, proofs.Parts.{IsSentOf, part_decides}}
 
 both : (a b n : ℕ) → (leb a b && leb b n) ≡ true → (a ≤ b) × (b ≤ n)
 both a b n e = (grind (arith, nat_tests), grind (arith, nat_tests))
 
 within : (a b n : ℕ) → a ≤ b → b ≤ n → (leb a b && leb b n) ≡ true
-within a b n least most = grind (arith, nat_tests)
+within a b n least most = grind arith
 
 pub site_decides : (world : World) (site : ℕ) → Decides (has_site world site) (HasSite world site)
-site_decides world site =
-    (λ e. record { least = (both 1 site (length world.sites) e).0; most = (both 1 site (length world.sites) e).1 }, λ there. within 1 site (length world.sites) there.least there.most)
+site_decides world site = search rules
 
 pub packet_decides : (world : World) (number : ℕ) → Decides (has_packet world number) (HasPacket world number)
-packet_decides world number =
-    (λ e. record { least = (both 1 number (length world.packets) e).0; most = (both 1 number (length world.packets) e).1 }, λ there. within 1 number (length world.packets) there.least there.most)
+packet_decides world number = search rules
 
 -- a site that is there, and one that is not
 pub at_site : (world : World) (site : ℕ) (refusal : Option WorldFault) → HasSite world site → option_or (missing world site) refusal ≡ refusal
 at_site world site refusal there = ap (λ b. option_or (then_some (not b) NoSite) refusal) ((site_decides world site).1 there)
 
 pub no_site : (world : World) (site : ℕ) (refusal : Option WorldFault) → ¬ HasSite world site → option_or (missing world site) refusal ≡ Some NoSite
-no_site world site refusal missing =
-    ap (λ b. option_or (then_some (not b) NoSite) refusal) (false_from_ne_true (has_site world site) (λ e. missing ((site_decides world site).0 e)))
+no_site world site refusal missing = search rules
 
 -- a packet that is there, and one that is not
 pub at_packet : (world : World) (number : ℕ) (refusal : Option WorldFault) → HasPacket world number → option_or (then_some (not (has_packet world number)) NoPacket) refusal ≡ refusal
@@ -42,76 +39,44 @@ pub refused_by : (refusal : Option ReplicaFault) (fault : ReplicaFault) → faul
 refused_by None fault e = ap of_replica_fault e
 refused_by (Some cause) fault e = ap of_replica_fault e
 
--- ---- what an accepted step tells
-accepted_site : (world : World) (site : ℕ) (refusal : Option WorldFault) → option_or (missing world site) refusal ≡ None → HasSite world site × (refusal ≡ None)
-accepted_site world site refusal e =
-    let both = or_none (missing world site) refusal e in
-    ((site_decides world site).0 (untested (has_site world site) NoSite both.0), both.1)
-
 -- a change is accepted where the site is there and its replica accepts it
 pub accepted_change : (world : World) (site : ℕ) (asked : Change) → IsAccepted world (changed site asked) → HasSite world site × (change_refusal (held_at world site) asked ≡ None)
-accepted_change world site asked e =
-    let both = accepted_site world site (option_map of_replica_fault (change_refusal (held_at world site) asked)) e in
-    (both.0, mapped_none of_replica_fault (change_refusal (held_at world site) asked) both.1)
+accepted_change world site asked e = search rules
 
 pub accepted_merge : (world : World) (site other : ℕ) → IsAccepted world (merged site other) → HasSite world site × HasSite world other
-accepted_merge world site other e =
-    let first = accepted_site world site _ e in
-    (first.0, (accepted_site world other _ first.1).0)
-
--- ---- merges
-merge_there : (world : World) (site other : ℕ) → HasSite world site → HasSite world other
-    → step_refusal world (merged site other) ≡ cond (site == other) None (option_map of_replica_fault (take_refusal (held_at world site) (content_at world other)))
-merge_there world site other there other_there = at_site world site _ there ∙ at_site world other _ other_there
+accepted_merge world site other e = search rules
 
 -- a site that merges itself
 pub merge_itself : (world : World) (site other : ℕ) → HasSite world site → HasSite world other → site ≡ other → IsAccepted world (merged site other)
-merge_itself world site other there other_there same =
-    merge_there world site other there other_there ∙ ap (λ b. cond b None (option_map of_replica_fault (take_refusal (held_at world site) (content_at world other)))) (eq-eqb site other same)
+merge_itself world site other there other_there same = search rules
 
 -- two sites
 pub merge_refusal : (world : World) (site other : ℕ) → HasSite world site → HasSite world other → site ≢ other
     → step_refusal world (merged site other) ≡ option_map of_replica_fault (take_refusal (held_at world site) (content_at world other))
-merge_refusal world site other there other_there apart =
-    merge_there world site other there other_there ∙ ap (λ b. cond b None (option_map of_replica_fault (take_refusal (held_at world site) (content_at world other)))) (ne_eqb site other apart)
-
-pub merge_free : (world : World) (site other : ℕ) → HasSite world site → HasSite world other → site ≢ other → take_refusal (held_at world site) (content_at world other) ≡ None
-    → IsAccepted world (merged site other)
-merge_free world site other there other_there apart free = merge_refusal world site other there other_there apart ∙ ap (option_map of_replica_fault) free
+merge_refusal world site other there other_there apart = search rules
 
 -- the other site is not there
 pub other_missing : (world : World) (site other : ℕ) (fault : WorldFault) → HasSite world site → fault ≡ NoSite → ¬ HasSite world other
     → fault ≡ unwrap_or (step_refusal world (merged site other)) Memory
-other_missing world site other fault there is gone =
-    let cause : step_refusal world (merged site other) ≡ Some NoSite = at_site world site _ there ∙ no_site world other _ gone in
-    is ∙ ap (λ o. unwrap_or o Memory) (sym cause)
+other_missing world site other fault there is gone = search rules
 
 -- ---- sendings
 pub accepted_sending : (world : World) (site : ℕ) (part : Content) → IsAccepted world (sent site part) → HasSite world site × IsSentOf part (content_at world site)
-accepted_sending world site part e =
-    let both = accepted_site world site (then_some (not (is_part part (content_at world site))) (Replica replica_fault.Unknown)) e in
-    (both.0, (part_decides part (content_at world site)).0 (untested (is_part part (content_at world site)) (Replica replica_fault.Unknown) both.1))
+accepted_sending world site part e = search (rules, part_decides)
 
 -- a site sends a part of what it holds
 pub sending_free : (world : World) (site : ℕ) (part : Content) → HasSite world site → IsSentOf part (content_at world site) → IsAccepted world (sent site part)
-sending_free world site part there inside =
-    at_site world site (then_some (not (is_part part (content_at world site))) (Replica replica_fault.Unknown)) there
-    ∙ ap (λ b. then_some (not b) (Replica replica_fault.Unknown)) ((part_decides part (content_at world site)).1 inside)
+sending_free world site part there inside = search (rules, part_decides)
 
 -- where there is room for a packet more
 pub send_with_room : (world : World) (site : ℕ) (held : Bool) → HasSite world site → length world.packets < most_packets
     → send_refusal world site held ≡ then_some (not held) (Replica replica_fault.Unknown)
-send_with_room world site held there room =
-    at_site world site _ there
-    ∙ ap (λ b. option_or (then_some b TooManyPackets) (then_some (not held) (Replica replica_fault.Unknown))) (lt-leb most_packets (length world.packets) room)
+send_with_room world site held there room = search rules
 
 -- ---- deliveries
 pub accepted_delivery : (world : World) (site number : ℕ) → IsAccepted world (delivered site number)
     → HasSite world site × (HasPacket world number × (take_refusal (held_at world site) (packet_at world number) ≡ None))
-accepted_delivery world site number e =
-    let first = accepted_site world site _ e in
-    let second = or_none (then_some (not (has_packet world number)) NoPacket) _ first.1 in
-    (first.0, ((packet_decides world number).0 (untested (has_packet world number) NoPacket second.0), mapped_none of_replica_fault (take_refusal (held_at world site) (packet_at world number)) second.1))
+accepted_delivery world site number e = search rules
 
 pub delivery_refusal : (world : World) (site number : ℕ) → HasSite world site → HasPacket world number
     → step_refusal world (delivered site number) ≡ option_map of_replica_fault (take_refusal (held_at world site) (packet_at world number))

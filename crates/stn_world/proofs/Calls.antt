@@ -1,8 +1,8 @@
 -- A call of a site's replica, as a step of the world.
-use Rattle.std.{proofs.{Common.{◌≡◌, ℕ, ◌+◌, ◌-◌, ◌<◌, Bool, true, List, [], ◌∷◌, ◌++◌, length, Option, None, Result, Ok, Err, get_or, set, refl, ap, sym, subst, ◌∙◌, arith, length-append}, lemmas.{List.set-get_or, Result.err_from_is_err_and}}, specs.{Prelude.{option_map, unwrap_or, ⊤, MatchResult, IfOk, IfErr, OnOk, OnErr}, Option.option_or, Result.IsErrAnd}}
+use Rattle.std.{proofs.{Common.{◌≡◌, ℕ, ◌+◌, ◌-◌, ◌<◌, Bool, true, List, [], ◌∷◌, ◌++◌, length, Option, None, Result, Ok, Err, get_or, set, refl, ap, sym, subst, ◌∙◌, arith, length-append}, lemmas.{List.set-get_or, Result.err_from_is_err_and, Grind.common_steps}}, specs.{Prelude.{option_map, unwrap_or, ⊤, MatchResult, IfOk, IfErr, OnOk, OnErr}, Option.option_or, Result.IsErrAnd}}
 use Rattle.stn_lift.specs.PlanSource.{PlanSource}
 use Rattle.stn_records.specs.{Id.SiteCounter, Content.{Content, plain}}
-use Rattle.stn_site.specs.{Held.{Held, executed}, declared.{faults.ReplicaFault.ReplicaFault, change.Change.{Change, TheVariants.{Add, Amend, Withdraw, Done}}}, Change.{change_call, change_id, change_refusal}, Refusals.take_refusal, Calls.{Accepted, added, amended, withdrew, took, Leaves, LeavesState}}
+use Rattle.stn_site.specs.{Held.Held, declared.{faults.ReplicaFault.ReplicaFault, change.Change.Change}, Change.{change_call, change_id, change_refusal}, Refusals.take_refusal, Calls.{Accepted, added, amended, withdrew, took, Leaves, LeavesState}}
 use Rattle.stn_site.specs.declared.faults.ReplicaFault.TheVariants as replica_fault
 use Rattle.stn_world.{specs.{declared.faults.WorldFault.{WorldFault, TheVariants.Memory}, Faults.of_replica_fault, Sites.world_of, Whole.{IsCoherent, IsSoundWorld}, World.{World, most_packets, HasSite, content_at, held_at, next_id_at, content_after, with_call, send}, Steps.{Step, changed, sent, missing, step_refusal, IsAccepted, after, IsStep, send_refusal, IsSending}}, proofs.{Accepted.{at_site, refused_by}, Sendings.send_free, Whole.coherent_after, Sites.{IsHeldAt, held_is, held_there, take_refusal_at, join_is_joined, world_set, sites_set}}}
 
@@ -30,17 +30,11 @@ content_left old (took other) new left = join_is_joined old.state other new left
 
 -- a change is refused alike, whatever work was done
 refused_idle : (one : Held) (steps : ℕ) (asked : Change) → change_refusal (record one { steps = steps }) asked ≡ change_refusal one asked
-refused_idle one steps (Add bound) = refl
-refused_idle one steps (Amend old bound) = refl
-refused_idle one steps (Withdraw id) = refl
-refused_idle one steps (Done event time) = refl
+refused_idle one steps asked = grind (arith, common_steps)
 
 -- the call that a change is under the id that it gives
 call_given : (asked : Change) (id next : SiteCounter) → id ≡ change_id asked next → change_call asked id ≡ change_call asked next
-call_given (Add bound) id next is = ap (λ (i : SiteCounter). added i (plain bound)) is
-call_given (Amend old bound) id next is = ap (λ (i : SiteCounter). amended i old bound) is
-call_given (Withdraw old) id next is = refl
-call_given (Done event time) id next is = ap (λ (i : SiteCounter). added i (executed time event)) is
+call_given asked id next is = grind (arith, common_steps)
 
 -- a replica stands at the place of a site of a sound world
 pub record IsPlaced (world : World) (source : PlanSource) (replicas : List Held) (packets : List Content) (place site : ℕ) (one : Held) : Type 0 where
@@ -130,7 +124,7 @@ module _ {world : World} {source : PlanSource} {replicas : List Held} {packets :
   coherent = subst IsCoherent placed.is placed.sound.coherent
 
   sent_there : world_of source replicas new ≡ send world part
-  sent_there = ap (world_of source replicas) pushed ∙ ap (λ (c : Content). world_of source replicas (packets ++ c ∷ [])) same ∙ ap (λ (w : World). send w part) placed.is
+  sent_there = cc
 
   pub sent_sound : IsSoundWorld source replicas new
   sent_sound = record {

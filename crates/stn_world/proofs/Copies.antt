@@ -1,5 +1,5 @@
 -- The copies of a world's sites, each seen as what it holds.
-use Rattle.std.{proofs.{Common.{◌≡◌, ◌≢◌, ℕ, zero, suc, ◌+◌, ◌-◌, ◌<◌, List, [], ◌∷◌, length, map, set, get_or, ⊎_elim, refl, ap, sym, ◌∙◌, subst, arith}, lemmas.{Bool.cases_lt, List.{map-set, Edits.{get_or-remove_below, get_or-remove_above}}}, Math.ListN.get_or-map}, specs.{List.{insert, remove}, Prelude.Result}}
+use Rattle.std.{proofs.{Common.{rules, ◌≡◌, ◌≢◌, ℕ, zero, suc, ◌+◌, ◌-◌, ◌<◌, List, [], ◌∷◌, length, map, set, get_or, refl, ap, sym, ◌∙◌, subst, arith}, lemmas.List.{map-set, Edits.{get_or-remove_below, get_or-remove_above}}, Math.ListN.get_or-map}, specs.{List.{insert, remove}, Prelude.Result}}
 use Rattle.stn_lift.specs.PlanSource.{PlanSource}
 use Rattle.stn_records.specs.Content.{Content}
 use Rattle.stn_site.specs.Held.{Held}
@@ -34,10 +34,4 @@ module _ {C : Type 0} (held : C → Held) where
 
   pub beside : (copies : List C) (out place at : ℕ) (one : C) → out < length copies → place ≢ out → (place < out → at ≡ place) → (out < place → at + 1 ≡ place)
       → one ≡ get_or (remove copies out) at one → one ≡ get_or copies place one
-  beside copies out place at one there apart before after is =
-      is ∙ ⊎_elim
-      (λ less. ap (λ k. get_or (remove copies out) k one) (before less) ∙ get_or-remove_below copies out one place less there)
-      (λ past.
-      let more : out < place = omega (arith, past, apart) in
-      get_or-remove_above copies out one at (omega (arith, after more, more)) there ∙ ap (λ k. get_or copies k one) (after more))
-      (cases_lt place out)
+  beside copies out place at one there apart before after is = search (rules, get_or-remove_below, get_or-remove_above)

@@ -1,9 +1,9 @@
 -- The law over all runs of a world.
-use Rattle.std.{proofs.{Common.{◌≡◌, inr, ⊎_elim, ℕ, ◌≤◌, Bool, true, false, not, ◌&&◌, ltb, None, List, refl, ap, ◌∙◌, arith}, lemmas.Bool.{cases_eq, Decides.nat_tests}}, specs.{Prelude.option_map, Bool.then_some, List.Contains}}
+use Rattle.std.{proofs.Common.{rules, ◌≡◌, inr, ℕ, ◌≤◌, Bool, true, false, not, ◌&&◌, ltb, None, List, refl, ap, ◌∙◌, arith}, specs.{Prelude.option_map, Bool.then_some, List.Contains}}
 use Rattle.std.specs.FinMap as fin
 use Rattle.stn_records.specs.{Id.SiteCounter, Content.{most_known, Content, Item, HasItem, is_known, is_replaced, is_live, known_in_either, dispute_contents, IsPart}}
 use Rattle.stn_site.specs.{declared.faults.ReplicaFault.TheVariants.Full, Calls.Replaces, Refusals.take_refusal}
-use Rattle.stn_world.{specs.{Faults.of_replica_fault, World.{World, HasSite, HasPacket, content_at, packet_at, held_at}, Whole.IsCoherent, Runs.{Making, records_made, states_of}, Steps.{Step, merged, delivered, IsAccepted, stepped, run, Brings}}, proofs.{Accepted.{accepted_merge, accepted_delivery, merge_itself, merge_free, delivery_refusal}, Merges.take_agrees, Whole.{parts_agree, held_record, items_known}, Alike.{replaces_more, replaced_by}, Runs.{brings_there, this_step, coherent_stepped, grows_run}, Entries.each_state, Lawful.{IsLawful, known_made}}}
+use Rattle.stn_world.{specs.{Faults.of_replica_fault, World.{World, HasSite, HasPacket, content_at, packet_at, held_at}, Whole.IsCoherent, Runs.{Making, records_made, states_of}, Steps.{Step, merged, delivered, IsAccepted, stepped, run, Brings}}, proofs.{Accepted.{accepted_merge, accepted_delivery, delivery_refusal}, Merges.take_agrees, Whole.{parts_agree, held_record, items_known}, Alike.{replaces_more, replaced_by}, Runs.{brings_there, this_step, coherent_stepped, grows_run}, Entries.each_state, Lawful.{IsLawful, known_made}}}
 
 module _ (world : World) (items : List Making) (now : IsLawful world items) where
   coherent : IsCoherent world
@@ -11,7 +11,7 @@ module _ (world : World) (items : List Making) (now : IsLawful world items) wher
 
   -- ---- no refusal
   not_full : (a b : ℕ) → b ≤ a → ltb a b ≡ false
-  not_full a b h = grind (arith, nat_tests)
+  not_full a b h = grind arith
 
   -- where few records are made, a site has room for any part of what was made
   has_room : (site : ℕ) (other : Content) → records_made items ≤ most_known → IsPart other now.all → take_refusal (held_at world site) other ≡ None
@@ -25,10 +25,7 @@ module _ (world : World) (items : List Making) (now : IsLawful world items) wher
       delivery_refusal world site number there packet_there ∙ ap (option_map of_replica_fault) (has_room site (packet_at world number) few (now.whole.packets number))
 
   pub merge_accepted : records_made items ≤ most_known → (site other : ℕ) → HasSite world site → HasSite world other → IsAccepted world (merged site other)
-  merge_accepted few site other there other_there = ⊎_elim
-      (λ same. merge_itself world site other there other_there same)
-      (λ apart. merge_free world site other there other_there apart (has_room site (content_at world other) few (now.whole.sites other)))
-      (cases_eq site other)
+  merge_accepted few site other there other_there = search (rules, has_room)
 
   -- ---- what is held stays
   taken_stays : (step : Step) (site : ℕ) (item : Item) → IsAccepted world step → HasSite world site → Brings world step site item
@@ -52,10 +49,7 @@ module _ (world : World) (items : List Making) (now : IsLawful world items) wher
 
   pub withdrawn_stays : (step : Step) (site : ℕ) (id : SiteCounter) → IsAccepted world step → Replaces (Brings world step site) id → (rest : List Step)
       → is_live (content_at (run (stepped world step) rest) site) id ≡ false
-  withdrawn_stays step site id accepted replaces rest =
-      let after = content_at (run (stepped world step) rest) site in
-      never_live after id (replaced_by after id (replaces_more (Brings world step site) (HasItem after) id
-      (λ item brings. taken_stays step site item accepted (brings_there world step site item accepted brings) brings rest) replaces))
+  withdrawn_stays step site id accepted replaces rest = search (rules, never_live, replaced_by, replaces_more, taken_stays, brings_there)
 
   -- ---- the states agree
   state_part : (one : Content) → Contains (states_of world) one → IsPart one now.all

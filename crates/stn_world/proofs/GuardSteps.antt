@@ -1,5 +1,5 @@
 -- A guard that a site of a world adds.
-use Rattle.std.proofs.{Common.{◌≡◌, inl, ℕ, ◌-◌, ◌≤◌, List, [], ◌∷◌, ◌++◌, map, take, refl, sym, ap, subst, ◌∙◌, All}, lemmas.List.{length-set, take-append-le, Elements.{All-append, All-weaker}}}
+use Rattle.std.proofs.{Common.{rules, ◌≡◌, inl, ℕ, ◌-◌, ◌≤◌, List, [], ◌∷◌, ◌++◌, map, take, refl, sym, ap, subst, ◌∙◌, All}, lemmas.List.{length-set, take-append-le, Elements.{All-append, All-weaker}}}
 use Rattle.stn_net.specs.{Difference.{Difference, NamesEvents, IsBoundWithin}, Horizon.horizon_bounds}
 use Rattle.stn_lift.{specs.PlanSource.{PlanSource, base_bounds, events_of, IsSoundSource}, proofs.PlanHorizon.horizon_within}
 use Rattle.stn_records.specs.{Id.SiteCounter, Content.{with_record, plain}}
@@ -26,10 +26,7 @@ each_added (one ∷ records) world site old new there own same (next, leaves, la
 
 pub guard_steps : (world : World) (site : ℕ) → HasSite world site → (owned : List OwnedSteps) (ids : List SiteCounter) (new : Held) → (adds : AddsGuard owned (held_at world site) ids new)
     → AllAccepted world (map (adds_bound site) adds.guard) → content_at (run world (map (adds_bound site) adds.guard)) site ≡ new.state
-guard_steps world site there owned ids new adds accepted =
-    let are = adds.adds.bounds_are in
-    ap (λ (guard : List Difference). content_at (run world (map (adds_bound site) guard)) site) are
-    ∙ each_added adds.adds.records world site (held_at world site) new there refl refl adds.adds.leave (subst (λ (guard : List Difference). AllAccepted world (map (adds_bound site) guard)) are accepted)
+guard_steps world site there owned ids new adds accepted = search (rules, each_added)
 
 -- all bounds of a site begin with the horizon bounds
 begins : (source : PlanSource) (live : List Difference) → IsSoundSource source → take (events_of source) (base_bounds source ++ live) ≡ horizon_bounds (events_of source)

@@ -1,5 +1,5 @@
 -- Sites that keep to what is their own keep a schedule of all that they hold.
-use Rattle.std.{proofs.{Common.{◌≡◌, inl, inr, ⊎_elim, ℕ, ℤ, ◌+◌, ◌-◌, ◌<◌, ◌≤◌, Bool, true, false, cond, not, ◌&&◌, eqb, is_some, List, [], ◌∷◌, ◌++◌, length, get_or, refl, sym, subst, ◌∙◌, arith}, lemmas.{Bool.{false≢true, and_parts, or_right, not-true, Decides.nat_tests}, List.{length-set, FromFn.{length-range_with_len, get_or-range_with_len}, Elements.{All-nil, All-append, All-filter, All-head, All-tail}}}}, specs.{Prelude.{All, filter, flat_map}, List.range_with_len}}
+use Rattle.std.{proofs.{Common.{rules, ◌≡◌, inl, inr, ⊎_elim, ℕ, ℤ, ◌+◌, ◌-◌, ◌<◌, ◌≤◌, Bool, true, false, cond, not, is_some, List, [], ◌∷◌, ◌++◌, length, get_or, refl, sym, subst, ◌∙◌, arith}, lemmas.{Bool.{and_parts, not-true}, List.{length-set, FromFn.{length-range_with_len, get_or-range_with_len}, Elements.{All-nil, All-append, All-filter, All-head, All-tail}}}}, specs.{Prelude.{All, filter, flat_map}, List.range_with_len}}
 use Rattle.stn_time.proofs.Each.{All-left, All-right}
 use Rattle.stn_net.specs.{Difference.Difference, Schedule.{HasSchedule, Meets}, Windows.Rehearsal.fixed_at}
 use Rattle.stn_lift.specs.PlanSource.{base_bounds}
@@ -9,9 +9,7 @@ use Rattle.stn_guard.{specs.Owners.{is_owned, own_bounds}, proofs.{Owned.all_of_
 use Rattle.stn_world.{specs.{World.{World, HasSite, has_site, content_at, packet_at, next_id_at, with_content, with_call, send}, Steps.{Step, changed, merged, sent, delivered, IsAccepted, after, stepped, run}, Whole.IsCoherent, Guarded.{IsOwnItem, IsBesideOwn, HoldsGuarded, KeepsToOwn}}, proofs.{Accepted.{site_decides, accepted_change, accepted_sending}, Parts.sent_inside, Runs.{for_step, coherent_stepped}, Whole.{each_site, each_packet, kept, taken_items}}}
 
 own_execution : (owner : ℕ → ℕ) (site event : ℕ) (time : ℤ) → owner event ≡ site → is_owned owner site (fixed_at time event) ≡ true
-own_execution owner site event time own =
-    let same : eqb (owner event) site ≡ true = grind (arith, nat_tests) in
-    or_right (eqb event 0) (eqb (owner event) site) same
+own_execution owner site event time own = search rules
 
 -- ---- what each step keeps
 module _ (owner : ℕ → ℕ) (state : Content) where
@@ -99,12 +97,7 @@ module _ (owner : ℕ → ℕ) (state : Content) (world : World) (coherent : IsC
   -- what is live where the state is held is live wherever it is
   live_there : (content : Content) → IsBesideOwn owner world state content → (whole : Content) → IsPart state whole → (id : SiteCounter) (one : Record)
       → is_live whole id ≡ true → HasItem content (addition id one) → is_live content id ≡ true
-  live_there content beside whole part id one live there =
-      let free : is_replaced content id ≡ false = elim (is_replaced content id) as (λ b. is_replaced content id ≡ b → b ≡ false) [
-        | true ↦ λ gone. absurd (false≢true (sym (unreplaced whole id live) ∙ replaced_fewer state whole part id (replaced_before content beside id gone)))
-        | false ↦ λ gone. refl
-      ] refl in
-      λ i. is_some (there i) && not (free i)
+  live_there content beside whole part id one live there = search (rules, replaced_fewer, replaced_before)
 
   base : List Difference
   base = base_bounds world.source

@@ -1,9 +1,9 @@
 -- What is true of a world in its run: its sites and packets are parts of the whole of what was made.
-use Rattle.std.{proofs.{Common.{◌≡◌, ◌↔◌, ◌⊎◌, inl, inr, ⊎_elim, ℕ, zero, suc, ◌≤◌, ◌||◌, true, cond, is_some, Option, Some, None, List, [], ◌∷◌, ◌++◌, length, map, filter, is_eq, refl, ap, sym, subst, ◌∙◌, arith}, lemmas.{List.{append-nil, append_assoc, Folds.list_any-append, Elements.{Contains-append_left, Contains-append_right, Contains-append_cases, Contains-push_cases}}, Map.Made.distinct_count-le, Bool.{or_right, or_cases}}}, specs.{List.Contains, Set.is_member, Cmp.tied_itself}}
+use Rattle.std.{proofs.{Common.{rules, ◌≡◌, ◌↔◌, ◌⊎◌, inl, inr, ⊎_elim, ℕ, zero, suc, ◌≤◌, ◌||◌, true, cond, is_some, Option, Some, None, List, [], ◌∷◌, ◌++◌, length, map, filter, is_eq, refl, ap, sym, subst, ◌∙◌, arith}, lemmas.{List.{append-nil, append_assoc, Folds.list_any-append, Elements.{Contains-append_left, Contains-append_right, Contains-append_cases, Contains-push_cases}}, Map.Made.distinct_count-le, Bool.{or_right, or_cases}, Grind.common_steps}}, specs.{List.Contains, Set.is_member, Cmp.tied_itself}}
 use Rattle.stn_lift.specs.PlanSource.{PlanSource}
 use Rattle.stn_records.{specs.{Id.{SiteCounter, same_ids}, declared.record.Record.Record, ContentLaws.ids_total, Content.{Content, Item, addition, withdrawal, replacement, HasItem, known_ids, known_in_either, no_content, plain, IsPart}}, proofs.KnownIds.{fewer, known_member}}
-use Rattle.stn_site.{specs.{Held.executed, Calls.Brought, Change.change_call, declared.change.Change.{Change, TheVariants.{Add, Amend, Withdraw, Done}}}, proofs.Items.nothing_there}
-use Rattle.stn_world.{specs.{declared.faults.WorldFault.WorldFault, Whole.{IsWhole, IsCoherent}, Runs.{Making, WasMade, change_items, makings, made_in, made_in_run, is_addition, records_made}, World.{World, opening_world, content_at, next_id_at}, Steps.{Step, changed, merged, sent, delivered, step_refusal, IsAccepted, after, stepped, run, Brings}}, proofs.{Runs.{one_step, brings_there}, Whole.{held_record, next_unknown, change_items_of, whole_after, step_whole, grows_after, whole_at_first}}}
+use Rattle.stn_site.{specs.{Calls.{Accepted, added, amended, withdrew, took, Brought}, Change.change_call, declared.change.Change.Change}, proofs.Items.nothing_there}
+use Rattle.stn_world.{specs.{declared.faults.WorldFault.WorldFault, Whole.{IsWhole, IsCoherent}, Runs.{Making, WasMade, items_made, makings, made_in, made_in_run, is_addition, records_made}, World.{World, opening_world, content_at, next_id_at}, Steps.{Step, changed, merged, sent, delivered, step_refusal, IsAccepted, after, stepped, run, Brings}}, proofs.{Runs.{one_step, brings_there}, Whole.{held_record, next_unknown, change_items_of, whole_after, step_whole, grows_after, whole_at_first}}}
 
 -- each item of the whole was made, and each item that was made is held by its site
 pub record IsLawful (world : World) (items : List Making) : Type 0 where
@@ -33,24 +33,29 @@ one_item : (x item : Item) → Contains (x ∷ []) item ↔ (item ≡ x)
 one_item x item = (λ h. ⊎_elim (λ none. absurd (nothing item none)) (λ e. sym e) (Contains-push_cases [] x item h), λ e. (zero, omega arith, sym e))
 
 both_items : (x y item : Item) → Contains (x ∷ (y ∷ [])) item ↔ ((item ≡ x) ⊎ (item ≡ y))
-both_items x y item = (
-  λ h. ⊎_elim (λ first. inl ((one_item x item).0 first)) (λ e. inr (sym e)) (Contains-push_cases (x ∷ []) y item h),
-  λ h. ⊎_elim (λ e. (zero, omega arith, sym e)) (λ e. (suc zero, omega arith, sym e)) h,
-)
+both_items x y item = search rules
 
--- the items that a change makes are those that it brings
-items_brought : (asked : Change) (id : SiteCounter) (item : Item) → Contains (change_items asked id) item ↔ Brought (change_call asked id) item
-items_brought (Add bound) id = one_item (addition id (plain bound))
-items_brought (Amend old bound) id = both_items (addition id (plain bound)) (replacement id old)
-items_brought (Withdraw old) id = one_item (withdrawal old)
-items_brought (Done event time) id = one_item (addition id (executed time event))
+-- the call takes in nothing
+abbrev IsOwn : Accepted → Type 0
+IsOwn (took other) = ⊥
+IsOwn call = Unit {0}
+
+own_call : (asked : Change) (id : SiteCounter) → IsOwn (change_call asked id)
+own_call asked id = grind (arith, common_steps)
+
+-- the items that it makes are those that it brings
+items_brought : (call : Accepted) → IsOwn call → (item : Item) → Contains (items_made call) item ↔ Brought call item
+items_brought (added id one) own = one_item (addition id one)
+items_brought (amended id old bound) own = both_items (addition id (plain bound)) (replacement id old)
+items_brought (withdrew id) own = one_item (withdrawal id)
+items_brought (took other) own = absurd own
 
 -- ---- what each step keeps
 module _ (world : World) (items : List Making) (now : IsLawful world items) where
   -- what the whole has after a step was there, or was made in it
   news : (step : Step) (item : Item) → HasItem (whole_after world step now.all) item → HasItem now.all item ⊎ WasMade (makings world step) item
   news (changed site asked) item h = let id = next_id_at world site in ⊎_elim inl
-      (λ new. inr (site, made_there site (change_items asked id) item ((items_brought asked id item).1 new)))
+      (λ new. inr (site, made_there site (items_made (change_call asked id)) item ((items_brought (change_call asked id) (own_call asked id) item).1 new)))
       ((change_items_of now.all asked id now.whole.amends (next_unknown world now.all site now.whole) item).0 h)
   news (merged site other) item h = inl h
   news (sent site part) item h = inl h
@@ -59,7 +64,7 @@ module _ (world : World) (items : List Making) (now : IsLawful world items) wher
   -- and the step brings what was made to the site that made it
   makings_brought : (step : Step) (one : Making) → Contains (makings world step) one → Brings world step one.site one.item
   makings_brought (changed site asked) one h = let id = next_id_at world site in
-      let is = made_of site (change_items asked id) one h in (sym is.0, (items_brought asked id one.item).0 is.1)
+      let is = made_of site (items_made (change_call asked id)) one h in (sym is.0, (items_brought (change_call asked id) (own_call asked id) one.item).0 is.1)
   makings_brought (merged site other) one h = absurd (nothing one h)
   makings_brought (sent site part) one h = absurd (nothing one h)
   makings_brought (delivered site number) one h = absurd (nothing one h)
@@ -86,14 +91,11 @@ module _ (world : World) (items : List Making) (now : IsLawful world items) wher
   by_refusal step None e = lawful_after step e
   by_refusal step (Some cause) e = nothing_made world now
 
-pub lawful_stepped : (world : World) (items : List Making) (step : Step) → IsLawful world items → IsLawful (stepped world step) (items ++ made_in world step)
-lawful_stepped world items step now = by_refusal world items now step (step_refusal world step) refl
-
 lawful_more : (world : World) (items : List Making) (steps : List Step) → IsLawful world items → IsLawful (run world steps) (items ++ made_in_run world steps)
 lawful_more world items [] now = nothing_made world items now world now
 lawful_more world items (step ∷ steps) now =
     subst (IsLawful (run (stepped world step) steps)) (append_assoc items (made_in world step) (made_in_run (stepped world step) steps))
-    (lawful_more (stepped world step) (items ++ made_in world step) steps (lawful_stepped world items step now))
+    (lawful_more (stepped world step) (items ++ made_in world step) steps (search (rules, by_refusal)))
 
 -- so it is at the end of each run
 pub lawful_run : (source : PlanSource) (sites : ℕ) (steps : List Step) → IsLawful (run (opening_world source sites) steps) (made_in_run (opening_world source sites) steps)

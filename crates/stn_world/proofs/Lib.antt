@@ -1,6 +1,5 @@
 pub mod Parts
 pub mod Accepted
-pub mod Bounds
 pub mod Whole
 pub mod Sites
 pub mod Calls

@@ -1,9 +1,9 @@
 -- What a merge and a delivery can be refused for.
-use Rattle.std.{proofs.{Common.{◌≡◌, ◌≢◌, ℕ, ◌-◌, ◌≤◌, Bool, true, false, List, ltb, ap, sym, subst, ◌∙◌, arith}, lemmas.List.set-get_or}, specs.{Prelude.unwrap_or, Bool.then_some}}
-use Rattle.stn_records.specs.Content.{Content, no_content, most_known, known_in_either, IsPart}
+use Rattle.std.{proofs.{Common.{rules, ◌≡◌, ◌≢◌, ℕ, ◌-◌, ◌≤◌, Bool, true, false, ltb, ap, sym, subst, ◌∙◌, arith}, lemmas.List.set-get_or}, specs.{Prelude.unwrap_or, Bool.then_some}}
+use Rattle.stn_records.specs.Content.{Content, most_known, known_in_either, IsPart}
 use Rattle.stn_site.{specs.{Held.Held, declared.faults.ReplicaFault.ReplicaFault, Refusals.take_refusal}, proofs.Refused.agreed_take}
 use Rattle.stn_site.specs.declared.faults.ReplicaFault.TheVariants as replica_fault
-use Rattle.stn_world.{specs.{declared.faults.WorldFault.WorldFault, Faults.of_replica_fault, World.{World, HasSite, held_at, content_at, packet_at, with_content, merge}, Steps.{IsMergeFault, IsDeliveryFault}, Whole.{IsWhole, IsCoherent}}, proofs.{Sites.joined_itself, Whole.{part_named, parts_agree}}}
+use Rattle.stn_world.{specs.{declared.faults.WorldFault.WorldFault, Faults.of_replica_fault, World.{World, HasSite, held_at, content_at, packet_at, merge}, Steps.{IsMergeFault, IsDeliveryFault}, Whole.{IsWhole, IsCoherent}}, proofs.{Sites.joined_itself, Whole.{part_named, parts_agree}}}
 
 -- a site that agrees with what it takes refuses it for its size or for lack of memory alone
 agreed_fault : (P : WorldFault → Type 0) → P (of_replica_fault replica_fault.Full) → P (of_replica_fault replica_fault.Memory) → (held : Held) (theirs : Content) (fault : ReplicaFault)
@@ -48,7 +48,4 @@ pub other_site : (ours theirs site other : ℕ) → ours ≡ site - 1 → theirs
 other_site ours theirs site other a b apart same = apart (a ∙ (ap (λ n. n - 1) same ∙ sym b))
 
 pub merged_itself : (world : World) (site other : ℕ) → site ≡ other → world ≡ merge world site other
-merged_itself world site other one =
-    let itself : merge world site site ≡ world =
-    ap (with_content world site) (joined_itself (content_at world site)) ∙ ap (λ (l : List Content). record world { sites = l }) (set-get_or world.sites (site - 1) no_content) in
-    sym itself ∙ ap (merge world site) one
+merged_itself world site other one = search (rules, joined_itself, set-get_or)

@@ -74,21 +74,6 @@ module _ (part whole : Content) where
   sent_inside is (withdrawal id) there = is.tombstones id there
   sent_inside is (replacement id old) there = let one = is.entries id old there in sym (is.records id one.0 one.1).1 ∙ there
 
-  -- and each entry that is sent belongs to a record that is sent
-  pub sent_amends : IsSentOf part whole → AllAmend whole → AllAmend part
-  sent_amends is amends id old there =
-      let one = is.entries id old there in
-      let amended = amends id old (sent_inside is (replacement id old) there) in
-      record { added = (amended.added.0, one.1 ∙ (sym (is.records id one.0 one.1).0 ∙ amended.added.1)); other = amended.other }
-
--- all that a site holds may be sent
-pub all_sent : (content : Content) → AllAmend content → IsSentOf content content
-all_sent content amends = record {
-  records = λ id one there. (there, refl);
-  entries = λ id old there. let amended = amends id old there in (plain amended.added.0, amended.added.1);
-  tombstones = λ id there. there;
-}
-
 -- where a map was cut to some keys
 kept_key : {X : Type 0} (m : fin.FinMap id_cmp X) (p : SiteCounter → Bool) (id : SiteCounter) (x : X) → fin.get (fin.retain_keys m p) id ≡ Some x → p id ≡ true
 kept_key m p id x e = passed (p id) (fin.get m id) (sym (get-retain_keys m p id (λ k t. ap p (sym (ids_exact id k t)))) ∙ e)

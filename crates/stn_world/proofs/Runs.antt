@@ -1,37 +1,22 @@
 -- What the sites of a world hold after a run.
-use Rattle.std.proofs.{Common.{◌≡◌, ◌≢◌, ◌↔◌, ◌⊎◌, inl, inr, ⊎_elim, ℕ, ◌-◌, ◌≤◌, cond, is_some, Option, Some, None, List, [], ◌∷◌, refl, ap, sym, subst, ◌∙◌, arith}, lemmas.{Bool.{false≢true, cases_eq}, List.{length-set, get_or-set_other}}}
+use Rattle.std.proofs.{Common.{rules, ◌≡◌, ◌≢◌, ◌↔◌, ◌⊎◌, inl, inr, ⊎_elim, ℕ, ◌-◌, ◌≤◌, cond, is_some, Option, Some, None, List, [], ◌∷◌, refl, ap, sym, subst, ◌∙◌}, lemmas.{Bool.false≢true, List.length-set}}
 use Rattle.stn_lift.specs.PlanSource.{PlanSource}
-use Rattle.stn_records.specs.{Content.{Content, Item, HasItem, no_content, joined_contents, IsPart}, ContentLaws.contents_join}
-use Rattle.stn_site.{specs.{Calls.Brought, Change.change_call}, proofs.Items.{nothing_there, regroup}}
-use Rattle.stn_world.{specs.{declared.faults.WorldFault.WorldFault, Whole.IsCoherent, World.{World, HasSite, opening_world, content_at, packet_at, next_id_at, with_content, content_after}, Steps.{Step, changed, merged, sent, delivered, after, stepped, run, step_refusal, IsAccepted, Brings, TookAt}}, proofs.{Accepted.{accepted_change, accepted_merge, accepted_delivery}, Whole.{content_here, changed_items, taken_items, coherent_after, grows_after, coherent_at_first, nothing_at_first}}}
+use Rattle.stn_records.specs.{Content.{Content, Item, HasItem, joined_contents, IsPart}, ContentLaws.contents_join}
+use Rattle.stn_site.proofs.Items.{nothing_there, regroup}
+use Rattle.stn_world.{specs.{declared.faults.WorldFault.WorldFault, Whole.IsCoherent, World.{World, HasSite, opening_world, content_at, packet_at, with_content}, Steps.{Step, changed, merged, sent, delivered, after, stepped, run, step_refusal, IsAccepted, Brings, TookAt}}, proofs.{Accepted.{accepted_change, accepted_merge, accepted_delivery}, Whole.{changed_items, taken_items, coherent_after, grows_after, coherent_at_first, nothing_at_first}}}
 
 there_after : (world : World) (at : ℕ) (content : Content) (site : ℕ) → HasSite world site → HasSite (with_content world at content) site
 there_after world at content site there = record { least = there.least; most = subst (λ (n : ℕ). site ≤ n) (sym (length-set world.sites (at - 1) content)) there.most }
-
-content_else : (world : World) (at site : ℕ) (content : Content) → HasSite world at → HasSite world site → at ≢ site → content_at (with_content world at content) site ≡ content_at world site
-content_else world at site content there other apart = let a = there.least in let b = other.least in
-    get_or-set_other world.sites (at - 1) (site - 1) content no_content (λ e. apart (omega (arith, a, b, e)))
 
 -- what a change of one site brings to each
 changed_at : (world : World) (at : ℕ) (content : Content) (New : Item → Type 0) (item : Item) → HasSite world at
     → HasItem content item ↔ (HasItem (content_at world at) item ⊎ New item)
     → (site : ℕ) → HasSite world site → HasItem (content_at (with_content world at content) site) item ↔ (HasItem (content_at world site) item ⊎ ((at ≡ site) × New item))
-changed_at world at content New item there change site other = ⊎_elim
-    (λ e. subst (λ (k : ℕ). HasItem (content_at (with_content world at content) k) item ↔ (HasItem (content_at world k) item ⊎ ((at ≡ k) × New item))) e (
-      λ h. ⊎_elim inl (λ n. inr (refl, n)) (change.0 (subst (λ (c : Content). HasItem c item) (content_here world at content there) h)),
-      λ h. subst (λ (c : Content). HasItem c item) (sym (content_here world at content there)) (change.1 (⊎_elim inl (λ n. inr n.1) h)),
-    ))
-    (λ apart. (
-      λ h. inl (subst (λ (c : Content). HasItem c item) (content_else world at site content there other apart) h),
-      λ h. subst (λ (c : Content). HasItem c item) (sym (content_else world at site content there other apart)) (⊎_elim (λ x. x) (λ n. absurd (apart n.0)) h),
-    ))
-    (cases_eq at site)
+changed_at world at content New item there change site other = search rules
 
 pub one_step : (world : World) (step : Step) → IsAccepted world step → IsCoherent world → (site : ℕ) → HasSite world site → (item : Item)
     → HasItem (content_at (after world step) site) item ↔ (HasItem (content_at world site) item ⊎ Brings world step site item)
-one_step world (changed at asked) accepted coherent site other item =
-    changed_at world at (content_after (content_at world at) (change_call asked (next_id_at world at))) (Brought (change_call asked (next_id_at world at))) item
-    (accepted_change world at asked accepted).0 (changed_items world coherent at asked item) site other
+one_step world (changed at asked) accepted coherent site other item = search (rules, changed_items)
 one_step world (merged at from) accepted coherent site other item =
     changed_at world at (joined_contents (content_at world at) (content_at world from)) (HasItem (content_at world from)) item (accepted_merge world at from accepted).0
     (taken_items world coherent.0 coherent.1 at (content_at world from) (coherent.1.sites from) item) site other
@@ -95,11 +80,7 @@ grows_run world (step ∷ steps) coherent site item there =
 
 pub this_step : (world : World) (step : Step) → IsCoherent world → (site : ℕ) → HasSite world site → (item : Item)
     → HasItem (content_at (stepped world step) site) item ↔ (HasItem (content_at world site) item ⊎ (IsAccepted world step × Brings world step site item))
-this_step world step coherent site there item =
-    for_step (λ (next : World). HasItem (content_at next site) item ↔ (HasItem (content_at world site) item ⊎ (IsAccepted world step × Brings world step site item))) world step
-    (λ accepted. let one = one_step world step accepted coherent site there item in
-    (λ h. ⊎_elim inl (λ b. inr (accepted, b)) (one.0 h), λ h. one.1 (⊎_elim inl (λ b. inr b.1) h)))
-    (λ refused. (inl, λ h. ⊎_elim (λ x. x) (λ b. absurd (refused b.0)) h))
+this_step world step coherent site there item = search (rules, one_step)
 
 all_steps : (world : World) (steps : List Step) → IsCoherent world → (site : ℕ) → HasSite world site → (item : Item)
     → HasItem (content_at (run world steps) site) item ↔ (HasItem (content_at world site) item ⊎ TookAt world steps site item)

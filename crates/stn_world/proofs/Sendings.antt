@@ -1,9 +1,9 @@
 -- What refuses a call that sends, and what it leaves.
-use Rattle.std.{proofs.{Common.{◌≡◌, ◌≢◌, ◌↔◌, ℕ, ◌<◌, Bool, true, false, not, List, None, Result, Err, length, refl, sym, ap, ◌∙◌}, lemmas.Bool.{false≢true, false_from_ne_true}}, specs.{Prelude.unwrap_or, Bool.then_some}}
+use Rattle.std.{proofs.{Common.{rules, ◌≡◌, ◌≢◌, ◌↔◌, ℕ, ◌<◌, Bool, true, false, not, List, None, Result, Err, length, refl, sym, ap, ◌∙◌}, lemmas.Bool.{false≢true, false_from_ne_true}}, specs.{Prelude.unwrap_or, Bool.then_some}}
 use Rattle.stn_records.specs.{Id.SiteCounter, Content.{Content, AllHeld, part_of}, declared.faults.PartFault.PartFault}
 use Rattle.stn_records.specs.declared.faults.PartFault.TheVariants as part_fault
 use Rattle.stn_site.specs.declared.faults.ReplicaFault.TheVariants as replica_fault
-use Rattle.stn_world.{specs.{declared.faults.WorldFault.TheVariants.{Replica, Memory}, Faults.of_part_fault, Parts.holds_all, World.{World, most_packets, HasSite, content_at}, Steps.{sent, IsAccepted, send_refusal}, Whole.IsCoherent}, proofs.{Accepted.{sending_free, send_with_room}, Parts.{part_sent, all_sent, holds_all-decides}}}
+use Rattle.stn_world.{specs.{declared.faults.WorldFault.TheVariants.{Replica, Memory}, Faults.of_part_fault, Parts.holds_all, World.{World, most_packets, HasSite, content_at}, Steps.{sent, IsAccepted, send_refusal}, Whole.IsCoherent}, proofs.{Accepted.{sending_free, send_with_room}, Parts.{part_sent, holds_all-decides}}}
 
 -- a part that could not be made
 abbrev failed : (A : Type 0) → PartFault → Result A PartFault
@@ -39,13 +39,12 @@ module _ (world : World) (site : ℕ) (there : HasSite world site) (room : lengt
   pub part_refused : (theirs : Content) (records tombstones : List SiteCounter) (A : Type 0) (fault : PartFault) → theirs ≡ content_at world site
       → ((failed A fault ≡ Err part_fault.Unknown) ↔ ¬ (AllHeld theirs.additions records × AllHeld theirs.tombstones tombstones))
       → of_part_fault fault ≡ unwrap_or (send_refusal world site (holds_all (content_at world site) records tombstones)) Memory
-  part_refused theirs records tombstones A fault same is =
-      part_fault_of theirs records tombstones A fault is ∙ ap (λ (c : Content). unwrap_or (send_refusal world site (holds_all c records tombstones)) Memory) same
+  part_refused theirs records tombstones A fault same is = cc (part_fault_of theirs records tombstones A fault is)
 
 -- the test of what is held, where it is
 pub holds_there : (theirs content : Content) (records tombstones : List SiteCounter) → theirs ≡ content → AllHeld theirs.additions records × AllHeld theirs.tombstones tombstones
     → holds_all content records tombstones ≡ true
-holds_there theirs content records tombstones same held = ap (λ (c : Content). holds_all c records tombstones) (sym same) ∙ (holds_all-decides theirs records tombstones).1 held
+holds_there theirs content records tombstones same held = cc ((holds_all-decides theirs records tombstones).1 held)
 
 -- in a coherent world a site may send a part of what it holds, and all of it
 pub part_free : (world : World) (site : ℕ) (records tombstones : List SiteCounter) → HasSite world site → IsCoherent world
@@ -54,4 +53,4 @@ part_free world site records tombstones there coherent =
     sending_free world site (part_of (content_at world site) records tombstones) there (part_sent (content_at world site) records tombstones (coherent.1.sites_amend site))
 
 pub all_free : (world : World) (site : ℕ) → HasSite world site → IsCoherent world → IsAccepted world (sent site (content_at world site))
-all_free world site there coherent = sending_free world site (content_at world site) there (all_sent (content_at world site) (coherent.1.sites_amend site))
+all_free world site there coherent = sending_free world site (content_at world site) there (search rules)

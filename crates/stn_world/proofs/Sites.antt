@@ -1,5 +1,5 @@
 -- The replicas of a world, as they are made and as one of them changes.
-use Rattle.std.{proofs.{Common.{◌≡◌, true, false, not, is_some, Some, None, Option, ℕ, zero, suc, ◌+◌, ◌-◌, ◌<◌, ◌≤◌, List, [], ◌∷◌, ◌++◌, length, map, replicate, set, get_or, refl, ap, sym, ◌∙◌, arith, subst, add-one}, lemmas.List.{get_or_default, map-append, map-set, length-set, length-append, get_or-map, length-map, replicate_more, get_or-replicate, FromFn.get_or-range_with_len}, Math.Seq.map-set_same}, specs.List.range_with_len}
+use Rattle.std.{proofs.{Common.{rules, ◌≡◌, true, false, not, is_some, Some, None, Option, ℕ, zero, suc, ◌+◌, ◌-◌, ◌<◌, ◌≤◌, List, [], ◌∷◌, ◌++◌, length, map, replicate, set, get_or, refl, ap, sym, ◌∙◌, arith, subst, add-one}, lemmas.List.{get_or_default, map-append, map-set, length-set, length-append, get_or-map, length-map, replicate_more, get_or-replicate, FromFn.get_or-range_with_len}, Math.Seq.map-set_same}, specs.List.range_with_len}
 use Rattle.stn_lift.specs.PlanSource.{PlanSource}
 use Rattle.stn_records.specs.{Content.{Content, IsPart, no_content, dispute_contents, join_contents, joined_contents}, ContentLaws.{contents_dispute, contents_undisputed, contents_repeat}, Id.{SiteCounter, most_sites}}
 use Rattle.stn_site.specs.{Held.{Held, next_id}, Refusals.take_refusal}
@@ -16,11 +16,6 @@ pub record IsStarted (source : PlanSource) (count : ℕ) (replicas : List Held) 
   pub numbers : map (λ replica. replica.site) replicas ≡ range_with_len 1 count
   pub sources : map (λ replica. replica.source) replicas ≡ replicate count source
   pub nothing : site_contents replicas ≡ replicate count no_content
-
--- one replica
-pub started_one : (source : PlanSource) (one : Held) → one.site ≡ 1 → one.source ≡ source → one.state ≡ no_content → IsStarted source 1 (one ∷ [])
-started_one source one site src state =
-    record { counted = refl; numbers = ap (λ k. k ∷ []) site; sources = ap (λ s. s ∷ []) src; nothing = ap (λ k. k ∷ []) state }
 
 -- the first is of their plan
 pub started_source : (source : PlanSource) (count : ℕ) (replicas : List Held) (first : Held) → IsStarted source count replicas → 1 ≤ count → first ≡ get_or replicas 0 first → first.source ≡ source
@@ -85,22 +80,6 @@ pub record IsHeldAt (world : World) (site : ℕ) (one : Held) : Type 0 where
   pub source : one.source ≡ world.source
   pub state : one.state ≡ content_at world site
 
--- the replica at a site's place is the site's
-pub held_at_place : {packets : List Content} (world : World) (source : PlanSource) (replicas : List Held) (place site : ℕ) (d : Held)
-    → world ≡ world_of source replicas packets → IsSites source replicas → place ≡ site - 1 → HasSite world site
-    → IsHeldAt world site (get_or replicas place d)
-held_at_place world source replicas place site d is sites at there =
-    let least = there.least in
-    let long : length (site_contents replicas) ≡ length replicas = length-map replicas (λ (r : Held). r.state) in
-    let sites_are : world.sites ≡ site_contents replicas = ap (λ (w : World). w.sites) is in
-    let most : site ≤ length (site_contents replicas) = subst (λ (l : List Content). site ≤ length l) sites_are there.most in
-    let within : place < length replicas = omega arith in
-    record {
-      number = site_at source replicas place d sites within ∙ omega arith;
-      source = source_at source replicas place d sites within ∙ ap (λ (w : World). w.source) (sym is);
-      state = sym (get_or-map (λ (r : Held). r.state) replicas place d no_content within) ∙ (ap (λ (l : List Content). get_or l place no_content) (sym sites_are) ∙ ap (λ k. get_or world.sites k no_content) at);
-    }
-
 -- the world where a site's replica has become another
 pub world_set : {packets : List Content} (world : World) (source : PlanSource) (replicas : List Held) (place site : ℕ) (one : Held) (content : Content)
     → world ≡ world_of source replicas packets → place ≡ site - 1 → one.state ≡ content
@@ -146,7 +125,7 @@ pub held_there : {packets : List Content} (world : World) (source : PlanSource) 
     → world_of source replicas packets ≡ world → IsSites source replicas → place ≡ site - 1 → HasSite world site
     → one ≡ get_or replicas place one → IsHeldAt world site one
 held_there world source replicas place site one is sites at there same =
-    subst (IsHeldAt world site) (sym same) (held_at_place world source replicas place site one (sym is) sites at there)
+    subst (IsHeldAt world site) (sym same) (search (rules, length-map, site_at, source_at, get_or-map))
 
 -- the packet at a number's place is the number's
 pub packet_there : {packets : List Content} (world : World) (source : PlanSource) (replicas : List Held) (place number : ℕ) (one : Content)

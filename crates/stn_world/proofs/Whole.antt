@@ -1,12 +1,12 @@
 -- The sites of a world stay parts of a whole.
-use Rattle.std.proofs.{Common.{◌≡◌, ◌≢◌, ◌↔◌, ◌⊎◌, inl, inr, ⊎_elim, ℕ, zero, suc, ◌-◌, Bool, true, false, not, ◌||◌, is_some, Option, Some, None, List, [], ◌∷◌, ◌++◌, set, get_or, All, refl, ap, sym, subst, ◌∙◌, arith}, lemmas.{Bool.{false≢true, or_cases}, List.get_or-set_same}}
+use Rattle.std.proofs.{Common.{rules, ◌≡◌, ◌≢◌, ◌↔◌, ◌⊎◌, inl, inr, ⊎_elim, ℕ, zero, suc, ◌-◌, Bool, true, false, not, ◌||◌, is_some, Option, Some, None, List, [], ◌∷◌, ◌++◌, set, get_or, All, refl, ap, sym, subst, ◌∙◌, arith}, lemmas.{Bool.{false≢true, or_cases}, List.get_or-set_same}}
 use Rattle.std.specs.Prelude.{⊤}
 use Rattle.std.specs.FinMap as fin
 use Rattle.stn_site.{proofs.{Flags.get_or-replicate_same, Items.{nothing_there, addition_items, amendment_items, withdrawal_brought}, Refused.{accepted_known, amended_known}, Live.bounds_from_live}, specs.{Bounds.{RecordsName, live_bounds}, Held.executed, Calls.{Accepted, added, amended, withdrew, took, Brought}, Change.{change_call, change_refusal}, declared.change.Change.{Change, TheVariants.{Add, Amend, Withdraw, Done}}}}
 use Rattle.stn_net.specs.Difference.{Difference, NamesEvents, IsBoundWithin}
 use Rattle.stn_lift.specs.PlanSource.{PlanSource, events_of}
 use Rattle.stn_records.{specs.{Id.SiteCounter, declared.record.Record.Record, Content.{Content, Item, addition, withdrawal, replacement, HasItem, is_known, is_replaced, no_content, plain, with_tombstone, dispute_contents, joined_contents, IsPart, IsAmendment, AllAmend, AllProper}, ContentLaws.{ids_total, ids_exact, contents_join, contents_dispute, contents_undisputed}}, proofs.{Replaced.replaced_cases, Counters.next_is_new, Gets.entries_from_get}}
-use Rattle.stn_world.{specs.{World.{World, HasSite, opening_world, content_at, packet_at, held_at, next_id_at, with_content, content_after, with_call, send}, Steps.{Step, changed, merged, sent, delivered, after, IsAccepted}, Whole.{IsWhole, IsCoherent}, Runs.IsRecordOf}, proofs.{Parts.{sent_inside, sent_amends}, Accepted.{accepted_change, accepted_merge, accepted_delivery, accepted_sending}, Bounds.{accepted_bound, executed_bound, amended_bound}}}
+use Rattle.stn_world.{specs.{World.{World, HasSite, opening_world, content_at, packet_at, held_at, next_id_at, with_content, content_after, with_call, send}, Steps.{Step, changed, merged, sent, delivered, after, IsAccepted}, Whole.{IsWhole, IsCoherent}, Runs.IsRecordOf}, proofs.{Parts.sent_inside, Accepted.{accepted_change, accepted_merge, accepted_delivery, accepted_sending}}}
 
 -- a place of a list that was set has the new element, or what it had
 set_cases : {X : Type 0} (xs : List X) (i j : ℕ) (x d : X) → ((get_or (set xs i x) j d ≡ x) × (get_or xs i d ≡ get_or xs j d)) ⊎ (get_or (set xs i x) j d ≡ get_or xs j d)
@@ -23,9 +23,7 @@ each_site P world at content site new old =
 
 -- a site keeps what it held, where the new content has what the old one had
 pub kept : (world : World) (at : ℕ) (content : Content) (site : ℕ) (item : Item) → IsPart (content_at world at) content → HasItem (content_at world site) item → HasItem (content_at (with_content world at content) site) item
-kept world at content site item grows there =
-    ⊎_elim (λ e. subst (λ (c : Content). HasItem c item) (sym e.0) (grows item (subst (λ (c : Content). HasItem c item) (sym e.1) there)))
-    (λ e. subst (λ (c : Content). HasItem c item) (sym e) there) (set_cases world.sites (at - 1) (site - 1) content no_content)
+kept world at content site item grows there = search (rules, set_cases)
 
 -- ---- entries
 -- an entry that amends does so in a larger state
@@ -124,12 +122,6 @@ taken_items world all whole site other inside = call_items (content_at world sit
 same_id : (id other : SiteCounter) (one two : Record) → addition id one ≡ addition other two → id ≡ other
 same_id id other one two e = cc
 
-same_one : (id other : SiteCounter) (one two : Record) → addition id one ≡ addition other two → one ≡ two
-same_one id other one two e = cc
-
-same_gone : (id other : SiteCounter) → withdrawal id ≡ withdrawal other → id ≡ other
-same_gone id other e = cc
-
 same_new : (other second id old : SiteCounter) → replacement other second ≡ replacement id old → other ≡ id
 same_new other second id old e = cc
 
@@ -194,20 +186,16 @@ module _ (world : World) (all : Content) (site : ℕ) (whole : IsWhole world all
   new_here = next_is_new (content_at world site) site next.counter refl
 
   record_brought : (asked : Change) → change_refusal (held_at world site) asked ≡ None → (id : SiteCounter) (one : Record) → Brought (change_call asked next) (addition id one) → IsRecordOf (events_of world.source) one
-  record_brought (Add bound) free id one e =
-      subst (IsRecordOf (events_of world.source)) (sym (same_one id next one (plain bound) e)) (record { bound = accepted_bound (held_at world site) bound free; proper = tt })
-  record_brought (Amend old bound) free id one e = ⊎_elim
-      (λ f. subst (IsRecordOf (events_of world.source)) (sym (same_one id next one (plain bound) f)) (record { bound = amended_bound (held_at world site) old bound free; proper = tt }))
-      (λ f. absurd (cc)) e
+  record_brought (Add bound) free id one e = search rules
+  record_brought (Amend old bound) free id one e = search rules
   record_brought (Withdraw old) free id one e = absurd (cc)
-  record_brought (Done event time) free id one e =
-      subst (IsRecordOf (events_of world.source)) (sym (same_one id next one (executed time event) e)) (record { bound = executed_bound (held_at world site) time event free; proper = (refl, refl) })
+  record_brought (Done event time) free id one e = search rules
 
   gone_brought : (asked : Change) → change_refusal (held_at world site) asked ≡ None → (id : SiteCounter) → Brought (change_call asked next) (withdrawal id) → (one : Record) × HasItem all (addition id one)
   gone_brought (Add bound) free id e = absurd (cc)
   gone_brought (Amend old bound) free id e = ⊎_elim (λ f. absurd (cc)) (λ f. absurd (cc)) e
   gone_brought (Withdraw old) free id e =
-      subst (λ (i : SiteCounter). (one : Record) × HasItem all (addition i one)) (sym (same_gone id old e)) (held_record world all (content_at world site) old whole (whole.sites site) (accepted_known (held_at world site) old free))
+      subst (λ (i : SiteCounter). (one : Record) × HasItem all (addition i one)) (sym (search rules)) (held_record world all (content_at world site) old whole (whole.sites site) (accepted_known (held_at world site) old free))
   gone_brought (Done event time) free id e = absurd (cc)
 
   entry_brought : (asked : Change) → change_refusal (held_at world site) asked ≡ None → (id old : SiteCounter) → Brought (change_call asked next) (replacement id old)
@@ -296,7 +284,7 @@ step_whole world all (changed site asked) accepted whole = let is = accepted_cha
 step_whole world all (merged site other) accepted whole = joined_whole world all site (content_at world other) (accepted_merge world site other accepted).0 whole (whole.sites other) (whole.sites_amend other)
 step_whole world all (sent site part) accepted whole =
     let is = (accepted_sending world site part accepted).1 in
-    sent_whole world all part whole (λ item there. whole.sites site item (sent_inside part (content_at world site) is item there)) (sent_amends part (content_at world site) is (whole.sites_amend site))
+    sent_whole world all part whole (λ item there. whole.sites site item (sent_inside part (content_at world site) is item there)) (search rules)
 step_whole world all (delivered site number) accepted whole = joined_whole world all site (packet_at world number) (accepted_delivery world site number accepted).0 whole (whole.packets number) (whole.packets_amend number)
 
 pub coherent_after : (world : World) (step : Step) → IsAccepted world step → IsCoherent world → IsCoherent (after world step)

@@ -3,7 +3,7 @@ use Rattle.std.specs.{Prelude.{ℕ, List, [], ◌∷◌, ◌++◌, length, map, 
 use Rattle.stn_lift.specs.PlanSource.{PlanSource}
 use Rattle.stn_net.specs.Difference.{IsBoundWithin}
 use Rattle.stn_records.specs.{Id.SiteCounter, Record.IsProperRecord, declared.record.Record.Record, Content.{Content, Item, addition, withdrawal, replacement, HasItem}}
-use Rattle.stn_site.specs.{Held.{plain, executed}, declared.change.Change.{Change, TheVariants.{Add, Amend, Withdraw, Done}}}
+use Rattle.stn_site.specs.{Held.plain, Calls.{Accepted, added, amended, withdrew, took}, Change.change_call}
 use Rattle.stn_world.specs.{World.{World, opening_world, next_id_at, content_at}, Steps.{Step, changed, merged, sent, delivered, step_refusal, stepped, run}}
 
 -- an item that was made, and the site that made it
@@ -11,17 +11,17 @@ pub record Making : Type 0 where
   pub site : ℕ
   pub item : Item
 
--- the items that a change makes, where this is the id of the record that it adds: the record, for an amendment also the entry by which it
--- replaces another; or the withdrawal
-abbrev pub change_items : Change → SiteCounter → List Item
-change_items (Add bound) id = addition id (plain bound) ∷ []
-change_items (Amend old bound) id = addition id (plain bound) ∷ replacement id old ∷ []
-change_items (Withdraw old) id = withdrawal old ∷ []
-change_items (Done event time) id = addition id (executed time event) ∷ []
+-- the items that a call makes: the record, for an amendment also the entry by which it replaces another; or the withdrawal. One that takes in
+-- what another site holds makes none
+abbrev pub items_made : Accepted → List Item
+items_made (added id one) = addition id one ∷ []
+items_made (amended id old bound) = addition id (plain bound) ∷ replacement id old ∷ []
+items_made (withdrew id) = withdrawal id ∷ []
+items_made (took other) = []
 
 -- what an accepted step makes: one that is no change makes nothing
 abbrev pub makings : World → Step → List Making
-makings world (changed site asked) = map (λ item. record { site = site; item = item }) (change_items asked (next_id_at world site))
+makings world (changed site asked) = map (λ item. record { site = site; item = item }) (items_made (change_call asked (next_id_at world site)))
 makings world (merged site other) = []
 makings world (sent site part) = []
 makings world (delivered site number) = []

@@ -1,7 +1,7 @@
-use Rattle.std.{proofs.Common.{◌≡◌, ap, ◌∙◌, rules}, specs.Prelude.unwrap_or}
+use Rattle.std.proofs.Common.{◌∙◌, rules}
 use Rattle.stn_net.specs.Difference.{IsBoundWithin}
 use Rattle.stn_lift.specs.PlanSource.{events_of}
-use Rattle.stn_site.{specs.{Held.difference, declared.faults.ReplicaFault.TheVariants.Memory}, proofs.Refused.add_passes}
+use Rattle.stn_site.{specs.Held.difference, proofs.Refused.add_passes}
 use Rattle.stn_loosen.proofs.adding.add_bound.Goals as goal
 
 pub prove-unreachable-requires : goal.prove-unreachable-requires
@@ -13,10 +13,9 @@ prove-unreachable-requires g c =
       ordered = rw c.hi.ensures.value c.lo.ensures.ordered;
     } in
     let none = add_passes held (difference c.from.result c.to.result c.lo.result c.hi.result) within ∙ c.requires.room in
-    let is : c.in-Err.fault ≡ Memory = c.in-Err.ensures.fault ∙ ap (λ o. unwrap_or o Memory) none in
     search rules
 
 pub returns-in-Ok-clause-added : goal.returns-in-Ok-clause-added
 returns-in-Ok-clause-added g c =
     let left = c.in-Ok.ensures.leaves.state in
-    rw (left.0, c.from.ensures.value, c.to.ensures.value, c.lo.ensures.value, c.hi.ensures.value) at left.1
+    cc

@@ -1,21 +1,18 @@
-use Rattle.std.proofs.{Common.{◌≡◌, ◌≢◌, ◌<◌, ◌+◌, [], ◌∷◌, ◌++◌, map, length, eqb, refl, sym, ap, subst, ◌∙◌, arith, eqb-true}, lemmas.{Bool.false≢true, List.{length-map, nil_from_length}}}
+use Rattle.std.proofs.lemmas.List.{get_or-take}
+use Rattle.stn_net.proofs.Horizons.{known_within}
+use Rattle.std.proofs.{Common.{rules, ◌≡◌, ◌≢◌, ◌<◌, ◌+◌, [], ◌∷◌, ◌++◌, map, length, refl, sym, ap, subst, ◌∙◌, arith, eqb-true}, lemmas.{Bool.false≢true, List.{length-map, nil_from_length}}}
 use Rattle.stn_net.specs.{Difference.{Difference, NamesEvents}, Horizon.horizon_bounds, Schedule.{Meets, HasSchedule}}
 use Rattle.stn_conflict.specs.Arcs.{bound_at, IsNegativeCycle}
-use Rattle.stn_loosen.{specs.{Starting.{IsStart, AreCrossed, AreChosen}, Stepped.as_bound}, proofs.{StartBounds.span_at, StartCycles.{placed_cycle, crossed_cycle, left_out_met, chosen_none, chosen_left_out, chosen_more, all_met}}}
+use Rattle.stn_loosen.{specs.{Starting.{IsStart, AreCrossed, AreChosen}, Stepped.as_bound}, proofs.{StartBounds.span_at, StartCycles.{placed_cycle, crossed_cycle, left_out_met, chosen_left_out, chosen_more, all_met}}}
 use Rattle.stn_loosen.proofs.crossed.crossed_starts.{Given.Over, Goals.{After-index-starts-place, in-Some+in_ok-push+in_ok-push-2, in_default}}
 use Rattle.stn_loosen.proofs.crossed.crossed_starts.Goals as goal
 
 pub loop-place-init : goal.loop-place-init
-loop-place-init g c =
-    let all = map as_bound c.args.starts.now in
-    let places = c.in_ok-places.places.items in
-    subst (λ n. AreChosen c.args.events all n c.new-chosen.result.items places) (sym c.from-place.ensures)
-    (subst (λ l. AreChosen c.args.events all c.args.events l places) (sym c.new-chosen.ensures.items)
-    (chosen_none c.args.events all c.requires.begins places c.in_ok-places.ensures.long c.in_ok-places.ensures.same))
+loop-place-init g c = search (rules, known_within, get_or-take)
 
 -- the bound that is looked at
 there : (g : Over) (c : After-index-starts-place g) → c.loop-place.place < length (map as_bound c.args.starts.now)
-there g c = omega (arith, length-map c.args.starts.now as_bound, c.loop-place-test.true)
+there g c = omega (arith, length-map c.args.starts.now as_bound)
 
 here : (g : Over) (c : After-index-starts-place g) → bound_at (map as_bound c.args.starts.now) c.loop-place.place ≡ as_bound c.index-starts-place.result
 here g c = span_at c.args.starts.now c.loop-place.place c.index-starts-place.result (omega (arith, there g c, length-map c.args.starts.now as_bound)) c.index-starts-place.is
@@ -28,7 +25,7 @@ returns-then-not-is_empty g c =
     let at = (goal.at.returns-then-not-is_empty g c).After-index-starts-place in
     let links = c.in_ok-own.own.items in
     let long : c.in_ok-own.own.len ≡ length links = omega (arith, c.in_ok-own.own.ok.0) in
-    let some : length links ≢ 0 = λ none. false≢true (c.if-not-is_empty.ensures ∙ ap (λ n. eqb n 0) (long ∙ none)) in
+    let some : length links ≢ 0 = search rules in
     crossed_cycle (map as_bound c.args.starts.now) c.loop-place.place (there g at) links some
     (subst (λ (b : Difference). AreCrossed b c.loop-place.place links) (sym (here g at)) c.in_ok-own.ensures)
 
@@ -69,8 +66,8 @@ pub returns-in-Some-2 : goal.returns-in-Some-2
 returns-in-Some-2 g c =
     let events = c.args.events in
     let links = c.in-Some-2.found.links.items in
-    let whole : c.args.horizon.now ++ c.deref.result.now ≡ horizon_bounds events ++ c.loop-place.chosen.items =
-    ap (λ l. l ++ c.deref.result.now) c.requires.horizon ∙ ap (λ l. horizon_bounds events ++ l) c.deref.ensures.value in
+    let whole : c.args.horizon.now ++ c.deref.result.now ≡ horizon_bounds events ++ c.loop-place.chosen.items = cc
+    in
     let cycle = subst (λ l. IsNegativeCycle l links) whole (rw c.in-Some-2.is at c.in_ok-found.ensures.negative) in
     let made = rw (c.deref-in-Some-2.ensures.value, c.deref-in-Some-2-2.ensures.value) at c.in_ok-placed-in-Some-2.ensures in
     subst (λ l. IsNegativeCycle (map as_bound c.args.starts.now) l) (sym made)

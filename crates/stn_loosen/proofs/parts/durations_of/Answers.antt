@@ -1,4 +1,4 @@
-use Rattle.std.proofs.Common.{◌≡◌, arith}
+use Rattle.std.proofs.Common.{rules, ◌≡◌, arith}
 use Rattle.stn_lift.specs.PlanSource.{events_of, steps_of}
 use Rattle.stn_loosen.proofs.ThreeParts.{ends_within, durations_are}
 use Rattle.stn_loosen.proofs.parts.durations_of.Goals as goal
@@ -20,4 +20,4 @@ pub returns-clause-value : goal.returns-clause-value
 returns-clause-value g c =
     let events : c.from-first.result ≡ events_of c.args.base.now = omega (arith, c.from-first.ensures, c.events.ensures.value) in
     let steps : c.from.result ≡ steps_of c.args.base.now = omega (arith, c.from.ensures, c.steps.ensures.value) in
-    durations_are c.args.base.now c.bounds-bounds.result.now c.bounds-bounds.ensures.value c.from-first.result c.from.result events steps c.min-end.result c.min-end.ensures
+    search (rules, durations_are)

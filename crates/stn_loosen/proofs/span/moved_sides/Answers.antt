@@ -13,17 +13,7 @@ returns-clause-lower c =
     (omega (arith, ints, c.get-2.ensures.value, c.lo.ensures.value, c.get-2.ensures.within.0, c.get-2.ensures.within.1, c.setting_of-to.ensures.lo.0, c.setting_of-to.ensures.lo.1, c.setting_of-from.ensures.hi.0, c.setting_of-from.ensures.hi.1))
 
 pub returns-clause-upper_reach : goal.returns-clause-upper_reach
-returns-clause-upper_reach c = record {
-  lo_least = omega (arith, ints);
-  lo_most = omega (arith, ints);
-  hi_least = omega (arith, ints, c.get.ensures.within.0, c.setting_of-to.ensures.hi.1, c.setting_of-from.ensures.lo.0);
-  hi_most = omega (arith, ints, c.get.ensures.within.1, c.setting_of-to.ensures.hi.0, c.setting_of-from.ensures.lo.1);
-}
+returns-clause-upper_reach c = omega (arith, ints)
 
 pub returns-clause-lower_reach : goal.returns-clause-lower_reach
-returns-clause-lower_reach c = record {
-  lo_least = omega (arith, ints, c.get-2.ensures.within.0, c.setting_of-to.ensures.lo.1, c.setting_of-from.ensures.hi.0);
-  lo_most = omega (arith, ints, c.get-2.ensures.within.1, c.setting_of-to.ensures.lo.0, c.setting_of-from.ensures.hi.1);
-  hi_least = omega (arith, ints);
-  hi_most = omega (arith, ints);
-}
+returns-clause-lower_reach c = omega (arith, ints)

@@ -16,6 +16,4 @@ returns-in-Some-clause-value c =
 
 pub returns-in-None-clause-value : goal.returns-in-None-clause-value
 returns-in-None-clause-value c =
-    c.still-in-None.ensures.value
-    ∙ sym (past_set c.args.durations.now c.requires c.args.event c.from-number.result (c.from-number.result / 2 - 1) (c.from-number.ensures ∙ c.number.ensures.value) c.if-number-eq0.false c.if-number-eq1.false refl
-    (sym c.in-None.ensures.lookup.0))
+    cc (past_set c.args.durations.now c.requires c.args.event c.from-number.result (c.from-number.result / 2 - 1) (c.from-number.ensures ∙ c.number.ensures.value) c.if-number-eq0.false c.if-number-eq1.false refl (sym c.in-None.ensures.lookup.0))

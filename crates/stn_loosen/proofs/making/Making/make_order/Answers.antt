@@ -1,6 +1,6 @@
-use Rattle.std.proofs.{Common.{length, [], inl, inr, refl, sym, ◌∙◌, subst}, lemmas.{Bool.false≢true, Result.{on_ok_weaker, IfErr-weaker}}}
+use Rattle.std.proofs.{Common.{rules, length, [], inr, refl, sym, ◌∙◌, subst}, lemmas.{Bool.false≢true, Result.{on_ok_weaker, IfErr-weaker}}}
 use Rattle.stn_net.specs.Difference.{Difference}
-use Rattle.stn_loosen.{specs.{declared.fault.LoosenFault.{LoosenFault, TheVariants.{Full, NotRobust, Memory}}, Loosened.Imply, Making.{Loosening, made_bounds, IsCauseAt, IsCauseOf}}, proofs.Made.nothing_more}
+use Rattle.stn_loosen.specs.{declared.fault.LoosenFault.{LoosenFault, TheVariants.{Full, NotRobust, Memory}}, Loosened.Imply, Making.{Loosening, made_bounds, IsCauseAt, IsCauseOf}}
 use Rattle.stn_loosen.proofs.making.Making.make_order.Goals as goal
 
 -- an order that is needed, and can't be made
@@ -10,9 +10,7 @@ needed old order new NotRobust none = none
 needed old order new Memory none = tt
 
 pub returns-then-implies-clause-made : goal.returns-then-implies-clause-made
-returns-then-implies-clause-made g c =
-    let old = c.args.self.now in
-    ([], nothing_more old, inl (subst (Imply (made_bounds old)) c.of.ensures.value (c.implies.ensures.0 c.if-implies.true), refl))
+returns-then-implies-clause-made g c = search rules
 
 pub returns : goal.returns
 returns g c =

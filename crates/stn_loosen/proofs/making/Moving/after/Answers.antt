@@ -1,4 +1,4 @@
-use Rattle.std.proofs.{Common.{◌≡◌, refl, sym, ap, ◌∙◌, arith}, lemmas.List.take_all}
+use Rattle.std.proofs.{Common.{rules, ◌≡◌, sym, ap, ◌∙◌, arith}, lemmas.List.take_all}
 use Rattle.stn_time.proofs.Each.{All-left, All-right}
 use Rattle.stn_net.{specs.{Difference.NamesEvents, Horizon.horizon_bounds}, proofs.Horizons.length-horizon_bounds}
 use Rattle.stn_loosen.{specs.Making.{Loosening, loosening_of, made_bounds}, proofs.{Implied.searched_first, making.Moving.after.{Given.Over, Goals.After-events}}}
@@ -26,6 +26,6 @@ new-requires-clause-extra_named g c =
 pub invariant_of-result : goal.invariant_of-result
 invariant_of-result g c =
     let making = c.making.inside in
-    let whole : c.in_ok-network.network ≡ record { events = making.matrix.events; bounds = made_bounds (loosening_of making.matrix making.records.items) } =
-    c.in_ok-network.ensures ∙ rw (horizon_is g (goal.at.invariant_of-result g c).After-events, c.events.ensures.value, c.deref.ensures.value) refl in
-    searched_first making.records.items making.matrix c.in_ok-network.network c.making.invariant whole
+    let whole : c.in_ok-network.network ≡ record { events = making.matrix.events; bounds = made_bounds (loosening_of making.matrix making.records.items) } = search rules
+    in
+    search (rules, searched_first)

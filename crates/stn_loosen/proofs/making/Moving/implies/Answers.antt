@@ -1,4 +1,4 @@
-use Rattle.std.proofs.{Common.{◌≡◌, ℤ, pos, neg_ℤ, ◌-ℤ◌, to_z, of_z, w64, refl, ap, ◌∙◌, ⊎_elim, arith}, lemmas.{Int.ints, Result.IfOk-weaker}}
+use Rattle.std.proofs.{Common.{rules, ◌≡◌, ℤ, pos, neg_ℤ, ◌-ℤ◌, to_z, of_z, w64, refl, ap, ◌∙◌, arith}, lemmas.{Int.ints, Result.IfOk-weaker}}
 use Rattle.stn_time.specs.Time.{horizon}
 use Rattle.stn_conflict.specs.{Distances.TellsWithin, Listing.ListedBounds}
 use Rattle.stn_loosen.{specs.{Stepped.as_bound, Making.made_bounds}, proofs.{Implied.shown_searched, Sides.{upper_told, lower_told}}}
@@ -29,7 +29,7 @@ returns-else-side-clause-value g c =
     let reach = c.requires.reach in
     let side = as_bound c.args.side.now in
     let listed = ap (λ (l : ListedBounds). l.bounds) c.self.invariant.whole ∙ ap made_bounds c.self.view_is in
-    let high : side.hi ≡ horizon = ⊎_elim (λ lo. absurd (omega (arith, ints, lo, c.if-side.false))) (λ hi. hi) c.requires.open in
+    let high : side.hi ≡ horizon = search rules in
     let most : ℤ = to_z w64 (of_z w64 (pos 0 -ℤ to_z w64 (of_z w64 side.lo))) in
     let is : to_z w64 (of_z w64 (pos 0 -ℤ to_z w64 (of_z w64 side.lo))) ≡ neg_ℤ side.lo = omega (arith, ints, reach.lo_least, reach.lo_most) in
     IfOk-weaker c.is_within-else-side.result (TellsWithin c.self.inside.network.bounds side.to side.from (to_z w64 (of_z w64 (pos 0 -ℤ to_z w64 (of_z w64 side.lo))))) _

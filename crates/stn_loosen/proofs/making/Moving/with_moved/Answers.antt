@@ -1,5 +1,5 @@
-use Rattle.std.proofs.{Common.{◌≡◌, [], ◌∷◌, ◌++◌, List, ap, subst, ◌∙◌, arith}, lemmas.{List.take_all, Grind.flat_map-append, Result.{IfOk-weaker, IfErr-weaker, err_from_is_err_and}}}
-use Rattle.stn_net.specs.{Difference.{Difference}, Horizon.horizon_bounds, Schedule.HasSchedule}
+use Rattle.std.proofs.{Common.{rules, ◌≡◌, [], ◌∷◌, ◌++◌, List, ap, subst, ◌∙◌, arith}, lemmas.{List.take_all, Grind.flat_map-append, Result.{IfOk-weaker, IfErr-weaker, err_from_is_err_and}}}
+use Rattle.stn_net.specs.Difference.{Difference}
 use Rattle.stn_loosen.{specs.{Moved.{moved_upper, moved_lower, moved_bounds}, Stepped.{IsCauseIn}, Making.{Loosening, made_bounds, AreMadeBehind}}, proofs.{Made.{none_made, made_next, refused_next, cause_in}, making.Moving.with_moved.{Given.Over, Goals.After-loop-bound}}}
 use Rattle.stn_loosen.proofs.making.Moving.with_moved.Goals as goal
 
@@ -15,9 +15,7 @@ pub loop-bound-init : goal.loop-bound-init
 loop-bound-init g c = none_made c.args.self
 
 pub with_sides-requires-clause-named : goal.with_sides-requires-clause-named
-with_sides-requires-clause-named g c =
-    let events = ap (λ (made : Loosening). made.events) c.loop-bound.invariant.1 in
-    rw (events, c.bound-item.is) (c.requires.named c.loop-bound.bound-index c.bound-item.result c.loop-bound-test.true)
+with_sides-requires-clause-named g c = search rules
 
 pub returns-in_err-moving-clause-fault : goal.returns-in_err-moving-clause-fault
 returns-in_err-moving-clause-fault g c =
@@ -37,9 +35,7 @@ returns-clause-made g c =
     IfOk-weaker c.possible_records.result _ _ (λ records is. (made.0, ap (λ l. record c.args.self { records = l }) (is ∙ ap (λ (m : Loosening). m.records) made.1), made.2)) c.possible_records.ensures.value
 
 pub returns-clause-possible : goal.returns-clause-possible
-returns-clause-possible g c =
-    let made = all g (goal.at.returns-clause-possible g c).After-loop-bound in
-    IfOk-weaker c.possible_records.result _ _ (λ records possible. subst (λ n. HasSchedule (horizon_bounds n ++ records.items)) (ap (λ (m : Loosening). m.events) made.1) possible) c.possible_records.ensures.possible
+returns-clause-possible g c = search rules
 
 pub returns-clause-fault : goal.returns-clause-fault
 returns-clause-fault g c =

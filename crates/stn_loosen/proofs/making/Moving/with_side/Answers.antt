@@ -1,11 +1,9 @@
-use Rattle.std.proofs.{Common.{[], ◌∷◌, inl, inr, refl, sym, ◌∙◌}, lemmas.{Bool.false≢true, Result.{IfOk-weaker, err_from_is_err_and}}}
-use Rattle.stn_loosen.{specs.{Loosened.Imply, Stepped.{as_bound}, Making.{made_bounds, with_more, AreMadeBehind}}, proofs.{Made.{nothing_more, cause_now}, Sides.side_bound, making.Moving.with_side.{Goals.In_ok-implies}}}
+use Rattle.std.proofs.{Common.{rules, [], ◌∷◌, inl, inr, refl, sym, ◌∙◌}, lemmas.{Bool.false≢true, Result.IfOk-weaker}}
+use Rattle.stn_loosen.{specs.{Loosened.Imply, Stepped.as_bound, Making.{made_bounds, with_more, AreMadeBehind}}, proofs.{Made.{nothing_more, cause_now}, Sides.side_bound}}
 use Rattle.stn_loosen.proofs.making.Moving.with_side.Goals as goal
 
 pub returns-in_err-implies-clause-fault : goal.returns-in_err-implies-clause-fault
-returns-in_err-implies-clause-fault g c =
-    let returned = err_from_is_err_and c.from_residual.result c.from_residual.ensures.1 in
-    rw (returned.1, returned.2) (cause_now c.args.self (as_bound c.args.side.now ∷ []) c.in_err-implies.field-0.0 c.in_err-implies.ensures.fault)
+returns-in_err-implies-clause-fault g c = search (rules, cause_now)
 
 pub returns-then-branch-clause-made : goal.returns-then-branch-clause-made
 returns-then-branch-clause-made g c = ([], c.in_ok-implies.ensures.same ∙ nothing_more c.args.self, inl (c.in_ok-implies.ensures.value.0 c.if-branch.true, refl))

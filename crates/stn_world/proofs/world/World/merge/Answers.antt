@@ -45,7 +45,7 @@ back : (g : Over) (c : After-map_err g) → c.insert-back.new.self.items ≡ set
 back g c =
     let copies = c.self.inside.copies in
     let beside = c.remove-copy.new.self in
-    let there : IsOk c.insert-back.result = c.insert-back.ensures.succeeds (omega (arith, copies.ok.1, c.remove-copy.ensures.len, c.remove-copy.ensures.capacity)) in
+    let there : IsOk c.insert-back.result = omega arith in
     c.insert-back.ensures.items
     ∙ ap (λ full. if full then insert beside.items c.in_ok-ours.ours c.take-outcome.new.self else beside.items) there
     ∙ ap (λ l. insert l c.in_ok-ours.ours c.take-outcome.new.self) c.remove-copy.ensures.items

@@ -1,48 +1,30 @@
-use Rattle.std.{proofs.{Common.{◌≡◌, ℕ, ◌+◌, suc, ◌++◌, List, [], ◌∷◌, map, replicate, sym, ap, ◌∙◌, subst, arith}, lemmas.{Grind.common_steps, List.{map-append, length-map}}}, specs.Rc.rc_value}
-use Rattle.stn_site.specs.Held.{Held}
-use Rattle.stn_records.specs.Content.{Content, no_content}
-use Rattle.stn_world.{specs.{Sites.site_contents, Whole.IsSoundWorld}, proofs.{Sites.{IsStarted, started_one, started_more, started_source, started_sound}, Copies.got}}
+use Rattle.std.{proofs.{Common.{rules, ◌≡◌, ◌+◌, suc, ◌++◌, List, [], ◌∷◌, map, sym, ◌∙◌, subst, arith}, lemmas.{Grind.common_steps, List.{map-append, length-map}}}, specs.Rc.rc_value}
+use Rattle.stn_records.specs.Content.{Content}
+use Rattle.stn_world.{specs.Whole.IsSoundWorld, proofs.{Sites.{started_more, started_source, started_sound}, Copies.got}}
 use Rattle.stn_world.proofs.world.World.opened.Goals as goal
 
 pub loop-before-init : goal.loop-before-init
-loop-before-init g c =
-    let held = g.C.SiteCopy.held in
-    let alone : c.push.new.self.items ≡ c.args.first ∷ [] = grind (arith, common_steps) in (
-      omega arith,
-      omega (arith, c.requires.sites.least),
-      subst (λ (l : _). IsStarted (rc_value c.args.base) 1 (map held l)) (sym alone) (started_one (rc_value c.args.base) (held c.args.first) c.requires.site c.requires.source c.requires.empty),
-    )
+loop-before-init g c = search rules
 
 pub index-requires : goal.index-requires
-index-requires g c =
-    let l = c.loop-before in
-    omega (arith, l.invariant.0, l.invariant.2.counted, length-map l.copies.items g.C.SiteCopy.held)
+index-requires g c = search (rules, length-map)
 
 pub loop-before-preserved : goal.loop-before-preserved
 loop-before-preserved g c =
     let held = g.C.SiteCopy.held in
     let l = c.loop-before in
     let one = c.in_ok-copy.copy in
-    let grown : map held c.push-in-loop-before.new.self.items ≡ map held l.copies.items ++ held one ∷ [] =
-    ap (map held) c.in_ok-push-2.ensures.items ∙ map-append held l.copies.items (one ∷ []) in
+    let grown : map held c.push-in-loop-before.new.self.items ≡ map held l.copies.items ++ held one ∷ [] = search (rules, map-append)
+    in
     let made : c.unwrap-site.result ≡ l.before + 1 = grind (arith, common_steps) in
     let number : (held one).site ≡ suc l.before = omega (arith, c.in_ok-copy.ensures.site, made) in
     let source = started_source (rc_value c.args.base) l.before (map held l.copies.items) (held c.index.result.now) l.invariant.2 l.invariant.0 (got held l.copies.items 0 c.index.result.now c.index.ensures) in
     let more = started_more (rc_value c.args.base) l.before (map held l.copies.items) (held one) l.invariant.2 number
     (c.in_ok-copy.ensures.source ∙ source) c.in_ok-copy.ensures.empty in
-    let count : suc l.before ≡ l.before + 1 = omega arith in (
-      omega (arith, l.invariant.0),
-      omega arith,
-      subst (λ (n : ℕ). IsStarted (rc_value c.args.base) n (map held c.push-in-loop-before.new.self.items)) count
-          (subst (λ (list : List Held). IsStarted (rc_value c.args.base) (suc l.before) list) (sym grown) more),
-    )
+    let count : suc l.before ≡ l.before + 1 = omega arith in search rules
 
 pub returns-clause-opening : goal.returns-clause-opening
-returns-clause-opening g c =
-    let held = g.C.SiteCopy.held in
-    let all : c.loop-before.before ≡ c.args.sites = omega (arith, c.loop-before.invariant.1) in
-    ap (λ (l : List Content). record { source = rc_value c.args.base; sites = site_contents (map held c.loop-before.copies.items); packets = l }) c.new-2.ensures.items
-    ∙ ap (λ (l : List Content). record { source = rc_value c.args.base; sites = l; packets = [] }) (c.loop-before.invariant.2.nothing ∙ ap (λ (n : ℕ). replicate n no_content) all)
+returns-clause-opening g c = grind arith
 
 pub invariant_of-result : goal.invariant_of-result
 invariant_of-result g c =

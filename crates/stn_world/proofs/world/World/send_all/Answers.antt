@@ -1,4 +1,4 @@
-use Rattle.std.{proofs.{Common.{true, List, refl, ap, ◌∙◌, map}, lemmas.Result.err_from_is_err_and}, specs.Rc.rc_value}
+use Rattle.std.{proofs.{Common.{rules, true, List, refl, ap, ◌∙◌, map}, lemmas.Result.err_from_is_err_and}, specs.Rc.rc_value}
 use Rattle.stn_records.specs.Content.{Content}
 use Rattle.stn_world.{specs.Sites.world_of, proofs.{Calls.{held, sent_sound, sent_taken}, Sendings.{send_memory, all_free}}}
 use Rattle.stn_world.proofs.Copies as copy
@@ -7,7 +7,7 @@ use Rattle.stn_world.proofs.world.World.send_all.Goals as goal
 pub returns-in_err-whole : goal.returns-in_err-whole
 returns-in_err-whole g c =
     let p = err_from_is_err_and c.from_residual-in_err-whole.result c.from_residual-in_err-whole.ensures.1 in
-    rw (p.1, p.2) (record { step = (send_memory c.args.self.now c.args.site c.in_ok-place.ensures.there c.in_ok-number.ensures.room true refl, refl) })
+    search rules
 
 pub returns-in_err-push : goal.returns-in_err-push
 returns-in_err-push g c =
