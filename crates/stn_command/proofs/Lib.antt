@@ -6,7 +6,6 @@ pub mod OneSaid
 pub mod Alike
 pub mod EachRead
 mod Chosen
-mod StepWords
 mod SomeRepairs
 mod SomePicture
 pub mod SomeSaid

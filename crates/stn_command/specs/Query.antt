@@ -1,5 +1,5 @@
 -- What a site is asked about its plan and what it holds, what is said of it, and why that is refused.
-use Rattle.std.specs.{Prelude.{◌≡◌, ◌≢◌, ◌⊎◌, ℕ, ℤ, pos, Bool, true, false, List, [], ◌∷◌, length, if◌then◌else◌, Vec, Option, Some, None, option_map, unwrap_or, Result, Ok, Err}, List.list_all}
+use Rattle.std.specs.{Prelude.{◌≡◌, ◌≢◌, ◌⊎◌, ℕ, ℤ, pos, Bool, true, false, List, [], ◌∷◌, length, bytes_eq, codes, if◌then◌else◌, Vec, Option, Some, None, option_map, unwrap_or, Result, Ok, Err}, List.list_all}
 use Rattle.stn_refusal.specs.declared.code.Code.TheVariants as code
 use Rattle.stn_refusal.specs.{declared.failure.Failure.Failure, Refusals.{refused_of, out_of_memory}}
 use Rattle.stn_net.specs.{Failures.bound_failure, Schedule.times_of, declared.bound.BoundFault.TheVariants.{NoEvent, SameEvent}}
@@ -7,11 +7,12 @@ use Rattle.stn_lift.specs.PlanSource.{PlanSource, events_of, steps_of}
 use Rattle.stn_records.specs.Content.{Content}
 use Rattle.stn_site.specs.{Bounds.all_bounds, Held.Held, Names.broken_bound, Report.IsReport, Own.is_within}
 use Rattle.stn_guard.specs.Adding.{are_within}
-use Rattle.stn_questions.specs.{declared.asked.Question.Question, Answer.{IsAnswer, AsksOfNoEvent, AsksOfSameEvent}, Ready.IsReadyWith, Steps.source_names}
+use Rattle.stn_questions.specs.{declared.asked.Question.{Question, TheVariants.{Records, Steps, Bounds}}, Answer.{IsAnswer, AsksOfNoEvent, AsksOfSameEvent}, Ready.IsReadyWith, Steps.source_names}
 use Rattle.stn_repairs.specs.Text.{IsRepairsText}
 use Rattle.stn_picture.specs.{Chart.{Look, seen_look}, Picture.IsPicture}
-use Rattle.stn_command.specs.{declared.queries.{Query.Query as QueryOfCode, Choice.Choice as ChoiceOfCode, Outlook.Outlook}, Words.no_such_word, Dispatch.{Choice, done_or_not_chosen, check_text, IsNextText, IsRestText, IsOverdueAt, IsRefusedRehearsal}}
+use Rattle.stn_command.specs.{declared.queries.{Query.Query as QueryOfCode, LoneQuery.LoneQuery, Choice.Choice as ChoiceOfCode, Outlook.Outlook}, Words.no_such_word, Dispatch.{Choice, done_or_not_chosen, check_text, IsNextText, IsRestText, IsOverdueAt, IsRefusedRehearsal}}
 use Rattle.stn_command.specs.declared.queries.Query.TheVariants as asked
+use Rattle.stn_command.specs.declared.queries.LoneQuery.TheVariants as lone
 use Rattle.stn_command.specs.declared.queries.Outlook.TheVariants as outlook
 
 -- the report; whether times for the events from 1 on are a schedule; of the chosen events, what comes next from a time on, which may run,
@@ -36,6 +37,27 @@ seen_query (asked.Foresee outlook now choice) = foresee outlook now (seen_choice
 seen_query (asked.Ask question) = ask question
 seen_query asked.Repairs = repairs
 seen_query (asked.Draw look) = draw (seen_look look)
+
+abbrev pub seen_lone : LoneQuery → Query
+seen_lone lone.Report = report
+seen_lone (lone.Ask question) = ask question
+seen_lone lone.Repairs = repairs
+
+-- what a word asks of the events that are left, from a time on
+abbrev pub outlook_of : List ℕ → Option Outlook
+outlook_of word =
+    if bytes_eq word (codes "next") then Some outlook.Next else
+    (if bytes_eq word (codes "ready") then Some outlook.Ready else
+    (if bytes_eq word (codes "rehearse") then Some outlook.Rehearse else None))
+
+-- the query that a word asks alone
+abbrev pub lone_query : List ℕ → Option Query
+lone_query word =
+    if bytes_eq word (codes "report") then Some report else
+    (if bytes_eq word (codes "repairs") then Some repairs else
+    (if bytes_eq word (codes "records") then Some (ask Records) else
+    (if bytes_eq word (codes "steps") then Some (ask Steps) else
+    (if bytes_eq word (codes "bounds") then Some (ask Bounds) else None))))
 
 -- what is said of the events that are left from now on, where these events count as done
 abbrev pub IsForeseen : Outlook → PlanSource → Content → List Bool → ℤ → List ℕ → Type 0

@@ -58,11 +58,3 @@ share_steps given more = list_any (λ one. is_given given one.steps) more
 -- what is given, and what a word gives too; no other word may name the same step
 unfoldable pub owned_too : List OwnedSteps → List ℕ → Result (List OwnedSteps) Failure
 owned_too given word = and_then (owned_read word) (λ more. if share_steps given more then Err no_such_word else Ok (given ++ more))
-
-abbrev pub owned_after : List OwnedSteps → List (List ℕ) → Result (List OwnedSteps) Failure
-owned_after given [] = Ok given
-owned_after given (word ∷ words) = and_then (owned_too given word) (λ all. owned_after all words)
-
--- what all the words give
-abbrev pub all_owned : List (List ℕ) → Result (List OwnedSteps) Failure
-all_owned words = owned_after [] words

@@ -52,7 +52,7 @@ bound_between from to lo hi =
     Ok (record { from = from; to = to; lo = least; hi = greatest })))
 
 -- what each of the words says, or the first fault
-abbrev pub each_read : {X : Type 0} → (List ℕ → Result X Failure) → List (List ℕ) → Result (List X) Failure
+abbrev pub each_read : {W X E : Type 0} → (W → Result X E) → List W → Result (List X) E
 each_read read [] = Ok []
 each_read read (word ∷ words) = and_then (read word) (λ value. and_then (each_read read words) (λ values. Ok (value ∷ values)))
 

@@ -1,6 +1,6 @@
 //! What a site is asked about its plan and what it holds.
 
-ghost use Rattle.std.specs.Prelude.{◌≡◌, ◌⊎◌, ◌++◌, ◌∷◌, ◌+◌, ◌≤◌, ℕ, pos, length, take, List, None, Some, OnOk, OnErr, IfOk, IfErr, IsErrOf};
+ghost use Rattle.std.specs.Prelude.{◌≡◌, ◌⊎◌, ◌++◌, ◌∷◌, ◌+◌, ◌≤◌, ℕ, pos, length, take, bytes_eq, option_map, List, None, Some, OnOk, OnErr, IfOk, IfErr, IsErrOf};
 ghost use Rattle.stn_net.specs.Event.{most_events};
 ghost use Rattle.stn_lift.specs.PlanSource.{events_of, steps_of};
 ghost use Rattle.stn_records.specs.Content.{AllProper};
@@ -8,7 +8,7 @@ ghost use Rattle.stn_refusal.specs.Refusals.{out_of_memory};
 ghost use Rattle.stn_site.specs.Own.{done_or_others};
 ghost use Rattle.stn_guard.specs.Adding as adding;
 ghost use Rattle.stn_picture.specs.Chart.{seen_look};
-ghost use Rattle.stn_command.specs.{Dispatch.done_or_not_chosen, Query.{report, check, ask, repairs, seen_query, seen_choice, IsSaid, IsQueryRefusal, LacksMemory, Says, Foresees}};
+ghost use Rattle.stn_command.specs.{Dispatch.done_or_not_chosen, Query.{report, check, ask, repairs, outlook_of, seen_lone, seen_query, seen_choice, IsSaid, IsQueryRefusal, LacksMemory, Says, Foresees}};
 ghost use Rattle.stn_command.specs.Query as asked;
 
 use crate::dispatch::{append_check, append_next, append_rest};
@@ -57,6 +57,70 @@ pub enum Query<'a> {
     Repairs,
     /// The picture of the plan, drawn so.
     Draw(Look<'a>),
+}
+
+/// A query without times, steps or a look.
+#[derive(Clone, Copy)]
+pub enum LoneQuery {
+    /// The report.
+    Report,
+    /// The answer to a question.
+    Ask(Question),
+    /// What mends a conflict.
+    Repairs,
+}
+
+impl LoneQuery {
+    /// The query.
+    pub fn query<'a>(self) -> Query<'a>
+        ensures { seen_query result ≡ seen_lone self }
+    {
+        match self {
+            LoneQuery::Report => Query::Report,
+            LoneQuery::Ask(question) => Query::Ask(question),
+            LoneQuery::Repairs => Query::Repairs,
+        }
+    }
+}
+
+/// What a word asks of all events that are left, or of chosen ones.
+pub fn read_outlook(word: &[u8]) -> Option<Outlook>
+    ensures { result ≡ outlook_of word.now }
+{
+    if is_named(word, b"next") {
+        Some(Outlook::Next)
+    } else if is_named(word, b"ready") {
+        Some(Outlook::Ready)
+    } else if is_named(word, b"rehearse") {
+        Some(Outlook::Rehearse)
+    } else {
+        None
+    }
+}
+
+/// The query that a word asks alone.
+pub fn lone_query(word: &[u8]) -> Option<LoneQuery>
+    ensures { option_map seen_lone result ≡ asked.lone_query word.now }
+{
+    if is_named(word, b"report") {
+        Some(LoneQuery::Report)
+    } else if is_named(word, b"repairs") {
+        Some(LoneQuery::Repairs)
+    } else if is_named(word, b"records") {
+        Some(LoneQuery::Ask(Question::Records))
+    } else if is_named(word, b"steps") {
+        Some(LoneQuery::Ask(Question::Steps))
+    } else if is_named(word, b"bounds") {
+        Some(LoneQuery::Ask(Question::Bounds))
+    } else {
+        None
+    }
+}
+
+fn is_named(word: &[u8], name: &[u8]) -> bool
+    ensures { result ≡ bytes_eq word.now name.now }
+{
+    word == name
 }
 
 /// Appends what is said to a query about a site's copy of the plan. After an error nothing is appended.

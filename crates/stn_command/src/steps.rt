@@ -1,6 +1,6 @@
 //! The steps that words name.
 
-ghost use Rattle.std.specs.{Prelude.{◌≡◌, ◌⊎◌, ◌<◌, ◌==◌, Ok, Err, map, option_map, IfOk, MatchResult}, List.slice_split};
+ghost use Rattle.std.specs.{Prelude.{◌≡◌, ◌⊎◌, ◌<◌, ◌==◌, Ok, Err, map, option_map, IfOk, OnErr, MatchResult}, List.slice_split};
 ghost use Rattle.stn_refusal.specs.Refusals.{out_of_memory};
 ghost use Rattle.stn_command.specs.Steps as named;
 ghost use Rattle.stn_command.specs.Words.{each_read};
@@ -33,24 +33,6 @@ fn parts_of<'a, A: Allocator>(alloc: A, word: &'a str) -> Result<Vec<&'a str, A>
     word.split(',').collect(alloc)
 }
 
-/// The steps that words give to sites, as `2:4-6`.
-///
-/// Refused as 70 where a word is not of this form, or names a site that is not from 1 to 64, or a step that an earlier word
-/// names; then where memory runs out.
-pub fn read_owned<A: Allocator + Copy>(
-    alloc: A,
-    words: &[&str],
-) -> Result<Vec<OwnedSteps, A>, Failure>
-    ensures { MatchResult result (λ owned. named.all_owned (map (λ word. word.now) words.now) ≡ Ok owned.items)
-        (λ failure. (failure ≡ out_of_memory) ⊎ (named.all_owned (map (λ word. word.now) words.now) ≡ Err failure)) }
-{
-    let mut owned = Vec::new(alloc);
-    'words: for word in words {
-        give(alloc, &mut owned, *word)?;
-    }
-    Ok(owned)
-}
-
 // The ranges that words name.
 fn read_ranges<A: Allocator>(alloc: A, words: &[&str]) -> Result<Vec<StepRange, A>, Failure>
     ensures { MatchResult result (λ ranges. each_read named.range_read (map (λ word. word.now) words.now) ≡ Ok ranges.items)
@@ -64,15 +46,19 @@ fn read_ranges<A: Allocator>(alloc: A, words: &[&str]) -> Result<Vec<StepRange, 
     Ok(ranges)
 }
 
-// Adds the steps that a word gives to a site, none of which was given before.
+/// Adds the steps that a word gives to a site, as `2:4-6`. After an error nothing is added.
+///
+/// Refused as 70 where the word is not of this form, or names a site that is not from 1 to 64, or a step that is given
+/// already; then where memory runs out.
 #[tactic(auto, unfolding(crate::specs::Steps::owned_too))]
-fn give<A: Allocator + Copy>(
+pub fn read_owned<A: Allocator + Copy>(
     alloc: A,
     owned: &mut Vec<OwnedSteps, A>,
     word: &str,
 ) -> Result<(), Failure>
-    ensures { MatchResult result (λ _. named.owned_too owned.old.items word.now ≡ Ok owned.new.items)
+    ensures read { MatchResult result (λ _. named.owned_too owned.old.items word.now ≡ Ok owned.new.items)
         (λ failure. (failure ≡ out_of_memory) ⊎ (named.owned_too owned.old.items word.now ≡ Err failure)) }
+    ensures kept { OnErr result (owned.new.items ≡ owned.old.items) }
 {
     let more = read_own(alloc, word)?;
     if share_steps(owned, &more) {

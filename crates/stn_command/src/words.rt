@@ -33,8 +33,8 @@ pub fn read_time(word: &[u8]) -> Result<Ms, Failure>
     }
 }
 
-/// The side of a bound that a word spells, or the open one where there is no word. Refused as `Ms::read` refuses the word.
-pub fn read_side(word: Option<&[u8]>, open_side: Ms) -> Result<Ms, Failure>
+// The side of a bound that a word spells, or the open one where there is no word.
+fn read_side(word: Option<&[u8]>, open_side: Ms) -> Result<Ms, Failure>
     ensures { result ≡ side_read open_side (option_map (λ one. one.now) word.entry) }
 {
     match word {

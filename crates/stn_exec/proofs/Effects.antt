@@ -1,11 +1,11 @@
 -- What calls of a world answer.
-use Rattle.std.{proofs.{Common.{◌≡◌, ℕ, cond, List, Option, Some, None, Result, Ok, Err, inl, inr, refl, sym, ap, subst, ◌∙◌}}, specs.Prelude.{unwrap_or}}
+use Rattle.std.{proofs.{Common.{◌≡◌, ℕ, cond, List, Option, Some, None, Result, Ok, Err, inl, inr, refl, sym, ap, subst, ◌∙◌, arith}, lemmas.Grind.common_steps}, specs.Prelude.{unwrap_or}}
 use Rattle.stn_refusal.specs.{declared.{code.Code.TheVariants.NoSite, failure.Failure.Failure}, Refusals.{refused}}
 use Rattle.stn_records.specs.{Id.SiteCounter}
-use Rattle.stn_site.specs.{Change.change_id, declared.change.Change.{Change, TheVariants.{Add, Amend, Withdraw, Done}}}
+use Rattle.stn_site.specs.{Change.change_id, declared.change.Change.Change}
 use Rattle.stn_world.{specs.{declared.faults.WorldFault.WorldFault, Failures.world_failure, World.{World, HasSite, next_id_at}, Steps.{Step, changed, step_refusal, after, IsStep}}, proofs.Accepted.site_decides}
 use Rattle.stn_world.specs.declared.faults.WorldFault.TheVariants as world_fault
-use Rattle.stn_command.{specs.{declared.changes.Made.{Made, TheVariants.{Added, Amended}}, Change.made_by}}
+use Rattle.stn_command.{specs.{declared.changes.Made.Made, Change.made_by}}
 use Rattle.stn_exec.specs.{declared.answer.Answer.Answer, Command.{Action, sites_command}, Output.{Declines}, Saying.{IsEffect, IsDone, call_answer}, Effect.{CommandEffect, said, declined, refusing, answered, called, changing, action_effect, command_effect}}
 use Rattle.stn_exec.specs.declared.answer.Answer.TheVariants as answer
 
@@ -58,10 +58,7 @@ refused_change T old new site asked one fault failure is step gives =
 
 -- what it made is told by the id that it gave
 made_given : (asked : Change) (id next : SiteCounter) → id ≡ change_id asked next → made_by asked id ≡ made_by asked next
-made_given (Add bound) id next is = ap Added is
-made_given (Amend old bound) id next is = ap Amended is
-made_given (Withdraw gone) id next is = refl
-made_given (Done event time) id next is = ap Added is
+made_given asked id next is = grind (arith, common_steps)
 
 pub made_change : (old new : World) (site : ℕ) (asked : Result Change Failure) (one : Change) (id : SiteCounter) (made : Made) → asked ≡ Ok one
     → id ≡ change_id one (next_id_at old site) → made ≡ made_by one id → IsStep {T = SiteCounter} old (changed site one) (Ok id) new

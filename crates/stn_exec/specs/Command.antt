@@ -5,8 +5,8 @@ use Rattle.stn_text.specs.Numbers.{number_of}
 use Rattle.stn_net.specs.Difference.{Difference}
 use Rattle.stn_records.specs.Id.{SiteCounter}
 use Rattle.stn_site.specs.declared.change.Change.{Change, TheVariants.{Add, Amend, Withdraw, Done}}
-use Rattle.stn_questions.specs.declared.asked.Question.TheVariants.{Records, Steps, Bounds, Why, WhyApart}
-use Rattle.stn_command.specs.{Words.{and_then, event_of, id_of, time_read, times_read, bound_between}, Dispatch.every_event, Query.{Query, report, check, foresee, ask, repairs}, declared.queries.Outlook.{Outlook, TheVariants.{Next, Ready, Rehearse}}}
+use Rattle.stn_questions.specs.declared.asked.Question.TheVariants.{Why, WhyApart}
+use Rattle.stn_command.specs.{Words.{and_then, event_of, id_of, time_read, times_read, bound_between}, Dispatch.every_event, Query.{Query, check, foresee, ask, lone_query, outlook_of}, declared.queries.Outlook.Outlook}
 
 -- what a command does: it changes what the site holds, merges another site, sends all that the site holds or some of its records and
 -- withdrawn ids, takes in a packet, or asks the site; a time that can't be read is told at a site that is there
@@ -91,22 +91,6 @@ abbrev pub why_of : List (List ℕ) → Option Action
 why_of (event ∷ []) = option_map (λ which. query (Ok (ask (Why which)))) (event_of event)
 why_of (from ∷ (to ∷ [])) = option_and_then (λ first. option_map (λ second. query (Ok (ask (WhyApart first second)))) (event_of to)) (event_of from)
 why_of other = None
-
--- what a name asks of all events that are left, from a time on
-abbrev pub outlook_of : List ℕ → Option Outlook
-outlook_of name =
-    if bytes_eq name (codes "next") then Some Next else
-    (if bytes_eq name (codes "ready") then Some Ready else
-    (if bytes_eq name (codes "rehearse") then Some Rehearse else None))
-
--- the query that a name asks alone
-abbrev pub lone_query : List ℕ → Option Query
-lone_query name =
-    if bytes_eq name (codes "report") then Some report else
-    (if bytes_eq name (codes "repairs") then Some repairs else
-    (if bytes_eq name (codes "records") then Some (ask Records) else
-    (if bytes_eq name (codes "steps") then Some (ask Steps) else
-    (if bytes_eq name (codes "bounds") then Some (ask Bounds) else None))))
 
 -- the forms `next <t>`, `ready <t>` and `rehearse <t>`
 abbrev pub outlook_from : Outlook → List (List ℕ) → Option Action

@@ -32,6 +32,6 @@ abbrev pub DoesCall : Result Answer Failure → List ℕ → List ℕ → Result
 DoesCall outcome old new result = (world : World) (effect : CommandEffect) → IsEffect outcome world effect → IsDone world old new effect result
 
 -- whatever site of a world holds this, what was read is told of that site
-abbrev pub Tells : Held → Result Query Failure → List ℕ → List ℕ → Result (Unit {0}) Failure → Type 0
-Tells held asked old new result =
+abbrev pub TellsAsked : Held → Result Query Failure → List ℕ → List ℕ → Result (Unit {0}) Failure → Type 0
+TellsAsked held asked old new result =
     (world : World) (site : ℕ) → held.source ≡ world.source → held.state ≡ content_at world site → IsDone world old new (telling world site asked) result

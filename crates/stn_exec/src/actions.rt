@@ -2,7 +2,7 @@ ghost use Rattle.std.specs.Prelude.{◌≡◌};
 ghost use Rattle.stn_effects.specs.Effects.{seen};
 ghost use Rattle.stn_text.specs.Lines.{words_of};
 ghost use Rattle.stn_command.specs.Query.{seen_query};
-ghost use Rattle.stn_exec.specs.{Command.{send_items, check_read}, Effect.{changing, action_effect}, Saying.{IsEffect, Tells, call_answer, sent_answer}};
+ghost use Rattle.stn_exec.specs.{Command.{send_items, check_read}, Effect.{changing, action_effect}, Saying.{IsEffect, TellsAsked, call_answer, sent_answer}};
 
 use crate::answer::Answer;
 use crate::command::{read_records, read_tombstones};
@@ -67,7 +67,7 @@ pub fn tell<A: Allocator + Copy>(
     asked: &Result<Query<'_>, Failure>,
     out: &mut Vec<u8, A>,
 ) -> Result<(), Failure>
-    ensures { Tells plan.now (seen seen_query asked.now) out.old.items out.new.items result }
+    ensures { TellsAsked plan.now (seen seen_query asked.now) out.old.items out.new.items result }
 {
     match asked {
         Ok(asked) => append_said(plan, asked, out),
@@ -82,7 +82,7 @@ pub fn tell_check<A: Allocator + Copy>(
     line: &[u8],
     out: &mut Vec<u8, A>,
 ) -> Result<(), Failure>
-    ensures { Tells plan.now (check_read (words_of line.now)) out.old.items out.new.items result }
+    ensures { TellsAsked plan.now (check_read (words_of line.now)) out.old.items out.new.items result }
 {
     let times = read_times(alloc, line)?;
     append_said(plan, &Query::Check(&times), out)

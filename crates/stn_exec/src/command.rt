@@ -1,10 +1,12 @@
 ghost use Rattle.std.specs.{Prelude.{◌≡◌, ◌∷◌, length, IfOk}, List.{list_all, filter_map}, Option.option_map, Str.bytes_eq};
 ghost use Rattle.stn_text.specs.Lines.{words_of};
 ghost use Rattle.stn_command.specs.{Words.id_of, Query.seen_query};
-ghost use Rattle.stn_exec.specs.{Command.{lone_word, lone_number, side_word, bound_asked, command_of, action_of, add_of, done_of, amend_of, withdraw_of, send_of, check_of, why_of, outlook_of, lone_query, outlook_from, alone_of, tombstone_of, is_item}, Running.{seen_command, seen_action}};
+ghost use Rattle.stn_exec.specs.{Command.{lone_word, lone_number, side_word, bound_asked, command_of, action_of, add_of, done_of, amend_of, withdraw_of, send_of, check_of, why_of, outlook_from, alone_of, tombstone_of, is_item}, Running.{seen_command, seen_action}};
 
 use std::alloc::Allocator;
-use stn_command::{Choice, Outlook, Query, read_between, read_event, read_id, read_time};
+use stn_command::{
+    Choice, Outlook, Query, lone_query, read_between, read_event, read_id, read_outlook, read_time,
+};
 use stn_questions::Question;
 use stn_records::Id;
 use stn_refusal::Failure;
@@ -270,21 +272,6 @@ fn read_why(rest: &[u8]) -> Option<Action<'_>>
     }
 }
 
-// What a name asks of all events that are left.
-fn read_outlook(name: &[u8]) -> Option<Outlook>
-    ensures { result ≡ outlook_of name.now }
-{
-    if is_named(name, b"next") {
-        Some(Outlook::Next)
-    } else if is_named(name, b"ready") {
-        Some(Outlook::Ready)
-    } else if is_named(name, b"rehearse") {
-        Some(Outlook::Rehearse)
-    } else {
-        None
-    }
-}
-
 // What is asked of all events that are left from a time on.
 fn read_foresee(outlook: Outlook, rest: &[u8]) -> Option<Action<'_>>
     ensures { option_map seen_action result ≡ outlook_from outlook (words_of rest.now) }
@@ -308,27 +295,8 @@ fn read_alone<'a>(name: &[u8], rest: &'a [u8]) -> Option<Action<'a>>
         return None;
     }
     match lone_query(name) {
-        Some(asked) => Some(Action::Query(Ok(asked))),
+        Some(asked) => Some(Action::Query(Ok(asked.query()))),
         None => None,
-    }
-}
-
-// The query that a name asks alone.
-fn lone_query<'a>(name: &[u8]) -> Option<Query<'a>>
-    ensures { option_map seen_query result ≡ lone_query name.now }
-{
-    if is_named(name, b"report") {
-        Some(Query::Report)
-    } else if is_named(name, b"repairs") {
-        Some(Query::Repairs)
-    } else if is_named(name, b"records") {
-        Some(Query::Ask(Question::Records))
-    } else if is_named(name, b"steps") {
-        Some(Query::Ask(Question::Steps))
-    } else if is_named(name, b"bounds") {
-        Some(Query::Ask(Question::Bounds))
-    } else {
-        None
     }
 }
 

@@ -35,25 +35,9 @@ is_one_of P (s ∷ rest) name has = go (bytes_eq s.name name) refl has (is_one_o
     go true t has more = inl (sym ((bytes_eq-Decides s.name name).0 t))
     go false t has more = inr (more has)
 
--- what is none of the first is one of the rest
-is_rest : (names rest : List Text) (name : Text) → IsOneOf name (names ++ rest) → AllByRecursion (λ n. name ≢ n) names → IsOneOf name rest
-is_rest [] rest name is none = is
-is_rest (n ∷ names) rest name (inl is) none = absurd (none.0 is)
-is_rest (n ∷ names) rest name (inr is) none = is_rest names rest name is none.1
-
--- the commands before the last two, `serve` and `send`
-abbrev pub others : List Text
-others = codes "run" ∷ codes "bare" ∷ codes "init" ∷ codes "loosen" ∷ codes "add" ∷ codes "amend" ∷ codes "withdraw" ∷ codes "done" ∷ codes "merge" ∷ codes "guard" ∷ codes "report" ∷ codes "next" ∷ codes "ready" ∷ codes "why" ∷ codes "repairs" ∷ codes "records" ∷ codes "steps" ∷ codes "bounds" ∷ codes "check" ∷ codes "rehearse" ∷ codes "draw" ∷ codes "explain" ∷ codes "shell" ∷ []
-
-pub is_last : (name : Text) (rows : List Row) → IsEntered name rows → AllByRecursion (λ n. name ≢ n) others → IsOneOf name (codes "serve" ∷ codes "send" ∷ [])
-is_last name rows has none =
-    no_help (is_rest others (codes "serve" ∷ codes "send" ∷ codes "help" ∷ []) name (is_one_of (λ command. HoldsWords rows command.rules) (built (program commands)).subs name has.0) none)
-  where
-    no_help : IsOneOf name (codes "serve" ∷ codes "send" ∷ codes "help" ∷ []) → IsOneOf name (codes "serve" ∷ codes "send" ∷ [])
-    no_help (inl serve) = inl serve
-    no_help (inr (inl send)) = inr (inl send)
-    no_help (inr (inr (inl is))) = absurd (has.1 is)
-    no_help (inr (inr (inr none))) = elim none [ ]
+-- an entered command has one of these names
+pub is_named : (name : Text) (rows : List Row) → IsEntered name rows → IsOneOf name (map (λ command. command.name) (built (program commands)).subs)
+is_named name rows has = is_one_of (λ command. HoldsWords rows command.rules) (built (program commands)).subs name has.0
 
 -- what the matches of the entered command hold, by its name
 pub entered_has : (m : ArgMatches) (r : Option (Bor Text × Bor ArgMatches)) (x : Bor Text × Bor ArgMatches) → option_map (λ p. p.0.now) r ≡ subcommand_name_of m

@@ -1,5 +1,5 @@
 -- How a command grows, word by word, and the program, command by command.
-use Rattle.std.proofs.{Common.{◌≡◌, ◌∙◌, ℕ, ◌+◌, ◌<◌, ap, ap₂, sym, subst, false, List, [], ◌∷◌, ◌++◌, ◌||◌, length, map, take, fold, get_or}, lemmas.List.{map_more, Sums.fold-append}}
+use Rattle.std.proofs.{Common.{◌≡◌, ◌∙◌, ℕ, ◌+◌, ◌<◌, ◌≤◌, ap, ap₂, sym, subst, false, List, [], ◌∷◌, ◌++◌, ◌||◌, length, map, take, fold, get_or}, lemmas.List.{map_more, take_all, Sums.fold-append}}
 use Rattle.clap.specs.{Built.{AddsArg, AddsSubcommand}, declared.builder.{arg.Arg.Arg, command.Command.Command}, Words.{Rule, Shape, Text, app_of, rule_of, with_subcommand}}
 use Rattle.stn_line.specs.{Commands.{command, top}, Table.{ReadsByShape, read_rule, read_shape}, declared.commands.{Row.Row, Word.Word}}
 
@@ -30,3 +30,7 @@ joins rows i next old sub new before reads adds within = record {
       ∙ sym (ap (fold with_subcommand top) (map_more read_shape rows i next within)
       ∙ fold-append with_subcommand top (map read_shape (take i rows)) (read_shape (get_or rows i next) ∷ []));
 }
+
+-- all of them are the program
+pub joined_all : (rows : List Row) (i : ℕ) (program : Command) → Joined rows i program → length rows ≤ i → app_of program ≡ fold with_subcommand top (map read_shape rows)
+joined_all rows i program joined all = joined.is ∙ ap (λ l. fold with_subcommand top (map read_shape l)) (take_all i rows all)

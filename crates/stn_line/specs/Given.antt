@@ -1,13 +1,18 @@
 -- For proofs alone: no public clause cites these words.
 -- What the words of an accepted command hold.
-use Rattle.std.specs.{Prelude.{◌≡◌, ◌≢◌, ◌⊎◌, codes, Bool, true, false, List, [], ◌∷◌, Option, Some, IsSomeAnd, IfSome, ℕ, ⊤, find}, List.AllByRecursion, Str.bytes_eq}
+use Rattle.std.specs.{Prelude.{◌≡◌, ◌≢◌, ◌⊎◌, codes, Bool, true, false, List, [], ◌∷◌, Option, Some, IsSomeAnd, IfSome, is_some, ◌||◌, filter, map, ℕ, ⊤, find}, List.AllByRecursion, Str.bytes_eq}
 use Rattle.clap.specs.{declared.builder.value_parser.ValueParser.{ValueParser, TheVariants.{String, Unsigned}}, Words.{IsUnsignedIn, Row, Rule, Shape, Text, built, first_of}}
+use Rattle.stn_command.specs.Query.{lone_query, outlook_of}
 use Rattle.stn_line.specs.Commands.{commands, program}
 
 -- the name is one of these
 abbrev pub IsOneOf : Text → List Text → Type 0
 IsOneOf name [] = ⊥
 IsOneOf name (other ∷ others) = (name ≡ other) ⊎ IsOneOf name others
+
+-- the commands whose names are all of a question, or all but the time now and the events
+abbrev pub asked_names : List Text
+asked_names = filter (λ name. is_some (lone_query name) || is_some (outlook_of name)) (map (λ command. command.name) commands)
 
 -- the word of this name has a value
 abbrev pub HasValue : Text → List Row → Type 0

@@ -1,6 +1,6 @@
 ghost use Rattle.std.specs.Prelude.{◌≡◌, ◌≤◌, ◌∷◌, IfErr, IfOk, IsSomeAnd, [], ℕ, codes, map};
 ghost use Rattle.clap.specs.Words.{fault_of, found_of, rows_of, subcommand_of, subcommand_rows_of};
-ghost use Rattle.stn_line.specs.{Commands.{most_read_steps, most_seconds, stn as program}, Given.{HasWords, IsEntered, IsOneOf, HasValue, IsNumberThere, IsNumberWhereGiven}, Lines.{IsWordsFault, AreNames, IsChoice, IsFlag, IsLineOf, IsNewLogOf, IsChangeOf, IsQuestionOf, IsNumberValue, IsOnLog, IsOption, IsSeconds, IsWordValue, IsWords}};
+ghost use Rattle.stn_line.specs.{Commands.{most_read_steps, most_seconds, stn as program}, Given.{asked_names, HasWords, IsEntered, IsOneOf, HasValue, IsNumberThere, IsNumberWhereGiven}, Lines.{IsWordsFault, AreNames, IsChoice, IsFlag, IsLineOf, IsNewLogOf, IsChangeOf, IsQuestionOf, IsNumberValue, IsOnLog, IsOption, IsSeconds, IsWordValue, IsWords}};
 ghost use Rattle.stn_records.specs.Id.{most_sites};
 
 use crate::commands::stn;
@@ -10,6 +10,7 @@ use crate::words::{
 use clap::ArgMatches;
 use clap::error::ErrorKind;
 use std::alloc::{AllocError, Global};
+use stn_command::{lone_query, read_outlook};
 use stn_records::Site;
 
 // A session or an exchange may take so many seconds where the words say nothing.
@@ -54,21 +55,16 @@ fn command<'a>(alloc: Global, name: &str, words: &ArgMatches<'a>) -> Result<Line
             Ok(Line::Change(site_log(words), changing(name, words)))
         }
         "guard" => guarding(alloc, words),
+        "why" => Ok(Line::Ask(site_log(words), asking_why(words), names(words))),
         "check" | "draw" => {
             let question = listing(alloc, name, words)?;
             Ok(Line::Ask(site_log(words), question, names(words)))
         }
-        "next" | "ready" | "rehearse" => {
-            let question = choosing(name, words);
-            Ok(Line::Ask(site_log(words), question, names(words)))
-        }
-        "report" | "repairs" | "records" | "bounds" | "why" | "steps" => {
-            Ok(Line::Ask(site_log(words), asking(name, words), names(words)))
-        }
         "shell" => Ok(Line::Shell {
             log: site_log(words),
         }),
-        _ => Ok(talking(name, words)),
+        "serve" | "send" => Ok(talking(name, words)),
+        _ => Ok(asking(name, words)),
     }
 }
 
@@ -160,38 +156,32 @@ fn listing<'a>(
     }
 }
 
-// A question about events from a time on.
-fn choosing<'a>(name: &str, words: &ArgMatches<'a>) -> LogQuestion<'a>
-    requires named { IsOneOf name.now (codes "next" ∷ codes "ready" ∷ codes "rehearse" ∷ []) }
-    requires words { HasWords name.now (rows_of (found_of words.now)) }
-    ensures { IsQuestionOf result name.now (rows_of (found_of words.now)) }
+// The question why.
+fn asking_why<'a>(words: &ArgMatches<'a>) -> LogQuestion<'a>
+    requires { HasWords (codes "why") (rows_of (found_of words.now)) }
+    ensures { IsQuestionOf result (codes "why") (rows_of (found_of words.now)) }
 {
-    let now = word(words, "NOW");
-    let choice = choice(words);
-    match name {
-        "next" => LogQuestion::Next { now, choice },
-        "ready" => LogQuestion::Ready { now, choice },
-        _ => LogQuestion::Rehearse { now, choice },
+    LogQuestion::Why {
+        event: word(words, "EVENT"),
+        to: option(words, "TO"),
     }
 }
 
-// Another question.
-fn asking<'a>(name: &str, words: &ArgMatches<'a>) -> LogQuestion<'a>
-    requires named { IsOneOf name.now (codes "report" ∷ codes "repairs" ∷ codes "records" ∷ codes "bounds" ∷ codes "why" ∷ codes "steps" ∷ []) }
+// The command that asks what is left, or what its name asks alone.
+fn asking<'a>(name: &str, words: &ArgMatches<'a>) -> Line<'a>
+    requires named { IsOneOf name.now asked_names }
     requires words { HasWords name.now (rows_of (found_of words.now)) }
-    ensures { IsQuestionOf result name.now (rows_of (found_of words.now)) }
+    ensures { IsLineOf result name.now (rows_of (found_of words.now)) }
 {
-    match name {
-        "report" => LogQuestion::Report,
-        "repairs" => LogQuestion::Repairs,
-        "records" => LogQuestion::Records,
-        "bounds" => LogQuestion::Bounds,
-        "why" => LogQuestion::Why {
-            event: word(words, "EVENT"),
-            to: option(words, "TO"),
+    let question = match lone_query(name.as_bytes()) {
+        Some(query) => LogQuestion::Alone(query),
+        None => LogQuestion::Foresee {
+            outlook: read_outlook(name.as_bytes()).unwrap(),
+            now: word(words, "NOW"),
+            choice: choice(words),
         },
-        _ => LogQuestion::Steps,
-    }
+    };
+    Line::Ask(site_log(words), question, names(words))
 }
 
 // A command that serves or reaches another site.

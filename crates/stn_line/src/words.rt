@@ -1,4 +1,5 @@
 use std::alloc::{AllocError, Global};
+use stn_command::{LoneQuery, Outlook};
 use stn_records::Site;
 use thiserror::Error;
 
@@ -104,20 +105,11 @@ pub struct DrawingWords<'a> {
 /// What is asked of a log. Events, steps, times (in seconds) and the names of texts are given as they were written.
 #[derive(Drop)]
 pub enum LogQuestion<'a> {
-    /// Tells every event's window, or a cycle of bounds that contradict each other.
-    Report,
-    /// Tells which of the chosen events is to take place next.
-    Next {
-        now: &'a str,
-        choice: EventChoice<'a>,
-    },
-    /// Tells which of the chosen events may run from a time on, and until when.
-    Ready {
-        now: &'a str,
-        choice: EventChoice<'a>,
-    },
-    /// Tells how the rest of the chosen events runs from a time on.
-    Rehearse {
+    /// Asks this, without further words.
+    Alone(LoneQuery),
+    /// Asks this of the chosen events from a time on.
+    Foresee {
+        outlook: Outlook,
         now: &'a str,
         choice: EventChoice<'a>,
     },
@@ -126,14 +118,6 @@ pub enum LogQuestion<'a> {
         event: &'a str,
         to: Option<&'a str>,
     },
-    /// Tells what mends a conflict.
-    Repairs,
-    /// Tells which records the log holds.
-    Records,
-    /// Tells which steps the plan has.
-    Steps,
-    /// Tells which bounds count.
-    Bounds,
     /// Tells whether times, one for each event from `s1` on, are a schedule.
     Check {
         times: Vec<&'a str, Global>,

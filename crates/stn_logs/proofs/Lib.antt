@@ -2,4 +2,4 @@ mod Made
 mod Unsaved
 mod OneEnding
 mod Spelled
-mod Read
+mod Refused

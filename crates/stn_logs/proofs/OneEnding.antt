@@ -12,7 +12,7 @@ use Rattle.stn_refusal.specs.declared.failure.{Failure.Failure, Fault.Fault}
 use Rattle.stn_effects.{specs.Effects.{Effect, Then, Settles, EndAlike, failing}, proofs.Endings.{ChangesNothing, EndSo, makes_same, reads_same, then_alike, then_done_alike, gives_alike, gives_lacks, lacks_alike, finds_alike, makes_alike, reads_alike, as_alike}}
 use Rattle.stn_records.specs.Content.{Content, no_content}
 use Rattle.stn_line.specs.{Explanations.Explained.IsExplained, declared.words.{SiteLog.SiteLog, NameWords.NameWords, NewLog.TheVariants.{Bare, Init, Loosen}, Line.{Line, TheVariants.{Make, Change, Ask, Explain}}}}
-use Rattle.stn_logs.{specs.{Words.{Update, change, merge, guard, slack_read, update_read, question_read}, Loosening.{IsLoosenedRefusal, IsRobustRefusal, WithBase, IsLooseningRefusal}, Commands.{SavesUpdated, SavesMade, MakesLog, FindsSource, IsUnguarded, Updates, UpdatesLog, nameless, own_plan_text, FindsNames, SaysAsked, AnswersAsked, IsExplainRefusal, DoesLine}}, proofs.Unsaved.{free_same, text_same, load_same, source_same, names_same, update_same, saved_lacks, LoosensTexts}}
+use Rattle.stn_logs.{specs.{Words.{Update, change, merge, guard, slack_read, update_read, question_read}, Loosening.{IsLoosenedRefusal, IsRobustRefusal, WithBase, IsLooseningRefusal}, Commands.{SavesUpdated, SavesMade, MakesLog, FindsSource, IsUnguarded, Updates, UpdatesLog, nameless, own_plan_text, FindsNames, SaysAsked, AnswersAsked, IsExplainRefusal, Reads, DoesLine}, declared.words.RefusedWord.RefusedWord}, proofs.Unsaved.{words_same, free_same, text_same, load_same, source_same, names_same, update_same, saved_lacks, LoosensTexts}}
 
 -- at most one cause is named
 abbrev IsOne : (Option Failure → Type 0) → Type 0
@@ -280,14 +280,17 @@ module _ (logs : (bytes : List ℕ) (one other : Result Log LoadFault) → IsLog
     none_alike new last (Ok value) (Ok other) a b = tt
     none_alike new last ended other a b = reads_alike Fails (Err no_such_word) known new last ended other a b
 
+    words_alike : {X : Type 0} (said : Result X RefusedWord) → EndSo Fails (λ one other. one ≡ other) known (Reads Fails said) (Reads Fails said)
+    words_alike said = reads_alike Fails (failing (λ refused. refused.failure) said) known
+
     line_alike : (line : Line) → EndSo Fails (λ _ _. ⊤) known (DoesLine Fails line) (DoesLine Fails line)
     line_alike (Make log (Bare steps)) = both_alike (λ _ _. ⊤) _ _ (free_same Fails log.name.now) (free_alike log.name.now) (λ _. log_alike log.name.now (bare steps))
     line_alike (Make log (Init domain plan)) = both_alike (λ _ _. ⊤) _ _ (free_same Fails log.name.now) (free_alike log.name.now)
         (λ _. both_alike (λ _ _. ⊤) _ _ (source_same Fails domain.now plan.now) (source_alike domain.now plan.now) (λ source. log_alike log.name.now source))
-    line_alike (Make log (Loosen domain plan early late robust)) = both_alike (λ _ _. ⊤) _ _ (reads_same Fails (slack_read early late)) (reads_alike Fails (slack_read early late) known)
+    line_alike (Make log (Loosen domain plan early late robust)) = both_alike (λ _ _. ⊤) _ _ (words_same Fails (slack_read early late)) (words_alike (slack_read early late))
         (λ slack. loosening_alike log domain.now plan.now robust slack)
-    line_alike (Change log words) = both_alike (λ _ _. ⊤) _ _ (reads_same Fails (update_read words)) (reads_alike Fails (update_read words) known) (λ asked. updating_alike log asked)
-    line_alike (Ask log words names) = both_alike (λ _ _. ⊤) _ _ (reads_same Fails (question_read log words)) (reads_alike Fails (question_read log words) known)
+    line_alike (Change log words) = both_alike (λ _ _. ⊤) _ _ (words_same Fails (update_read words)) (words_alike (update_read words)) (λ asked. updating_alike log asked)
+    line_alike (Ask log words names) = both_alike (λ _ _. ⊤) _ _ (words_same Fails (question_read log words)) (words_alike (question_read log words))
         (λ asked. answers_alike log asked names)
     line_alike (Explain word) =
         let one = option_map (λ (w : Bor (List ℕ)). w.now) word in

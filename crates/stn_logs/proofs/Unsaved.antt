@@ -1,5 +1,5 @@
 -- What a step of a command leaves; a command that gives no answer saves nothing.
-use Rattle.std.{proofs.Common.{◌≡◌, ℕ, Bool, true, false, List, Option, Some, None, Ok, Err}, specs.Prelude.{option_map, codes, [], ◌∷◌, ◌++◌}}
+use Rattle.std.{proofs.Common.{◌≡◌, ℕ, Bool, true, false, List, Option, Some, None, Result, Ok, Err}, specs.Prelude.{option_map, codes, [], ◌∷◌, ◌++◌}}
 use Rattle.stn_effects.{specs.Effects.{Effect, Then, Makes, Settles, failing}, proofs.Endings.{ChangesNothing, KeepsIfStopped, StopsForLack, makes_same, reads_same, gives_same, gives_lacks, gives_never_stops, then_same, then_keeps, then_done, then_lacks}}
 use Rattle.stn_lift.specs.{PlanSource.{PlanSource, bare, files, base_of, steps_of}, Failures.base_failure}
 use Rattle.stn_records.specs.Content.{Content, no_content}
@@ -8,7 +8,7 @@ use Rattle.stn_line.specs.{declared.words.{SiteLog.SiteLog, NameWords.NameWords,
 use Rattle.stn_site.specs.{Held.Held, Change.change_refusal, Failures.replica_failure}
 use Rattle.stn_loosen.specs.Slack.{Slack}
 use Rattle.stn_store.specs.{Log.{log_held}, Merging.IsMergeRefusal, Steps.{Entries, FindsFree, FindsText, LoadsLog, Saves, SavesNew}}
-use Rattle.stn_logs.specs.{Loosening.{HoldsLoosened, IsLooseningRefusal}, Words.{Update, change, guard, merge, slack_read, update_read, question_read}, Commands.{Updated, updated, unchanged, SavesUpdated, SavesMade, MakesLog, FindsSource, IsUnguarded, Updates, UpdatesLog, nameless, own_plan_text, FindsNames, SaysAsked, AnswersAsked, DoesLine}}
+use Rattle.stn_logs.specs.{Loosening.{HoldsLoosened, IsLooseningRefusal}, Words.{Update, change, guard, merge, slack_read, update_read, question_read}, Commands.{Updated, updated, unchanged, SavesUpdated, SavesMade, MakesLog, FindsSource, IsUnguarded, Updates, UpdatesLog, nameless, own_plan_text, FindsNames, SaysAsked, AnswersAsked, Reads, DoesLine}, declared.words.RefusedWord.RefusedWord}
 use Rattle.stn_refusal.specs.declared.failure.{Failure.Failure, Fault.Fault}
 
 module _ (Fails : Fault → Type 0) where
@@ -86,14 +86,17 @@ module _ (Fails : Fault → Type 0) where
   loosening_keeps log domain plan robust slack = then_keeps _ _ (free_same log.name.now)
       (λ _. then_keeps _ _ (source_same domain plan) (λ source. then_keeps _ _ (makes_same Fails _ (IsLooseningRefusal robust source slack)) (λ state. made_keeps log.name.now (bare (steps_of source)) state)))
 
+  pub words_same : {X : Type 0} (said : Result X RefusedWord) → ChangesNothing (Reads Fails said)
+  words_same said = reads_same Fails (failing (λ refused. refused.failure) said)
+
   none_keeps : KeepsIfStopped (Settles {World = Entries} {X = List ℕ} Fails (Err no_such_word))
   none_keeps old new failure is = is.0
 
   pub line_keeps : (line : Line) (old new : Entries) (failure : Failure) → DoesLine Fails line old new (Err failure) → new ≡ old
   line_keeps (Make log (Bare steps)) = then_keeps _ _ (free_same log.name.now) (λ _. log_keeps log.name.now (bare steps))
   line_keeps (Make log (Init domain plan)) = then_keeps _ _ (free_same log.name.now) (λ _. then_keeps _ _ (source_same domain.now plan.now) (λ source. log_keeps log.name.now source))
-  line_keeps (Make log (Loosen domain plan early late robust)) = then_keeps _ _ (reads_same Fails (slack_read early late)) (λ slack. loosening_keeps log domain.now plan.now robust slack)
-  line_keeps (Change log words) = then_keeps _ _ (reads_same Fails (update_read words)) (λ asked. updating_keeps log asked)
-  line_keeps (Ask log words names) = λ old new failure. then_same _ _ (reads_same Fails (question_read log words)) (λ asked. answers_same log asked names) old new (Err failure)
+  line_keeps (Make log (Loosen domain plan early late robust)) = then_keeps _ _ (words_same (slack_read early late)) (λ slack. loosening_keeps log domain.now plan.now robust slack)
+  line_keeps (Change log words) = then_keeps _ _ (words_same (update_read words)) (λ asked. updating_keeps log asked)
+  line_keeps (Ask log words names) = λ old new failure. then_same _ _ (words_same (question_read log words)) (λ asked. answers_same log asked names) old new (Err failure)
   line_keeps (Explain word) = λ old new failure is. is.0
   line_keeps line = none_keeps

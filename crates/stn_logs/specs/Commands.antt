@@ -8,7 +8,7 @@ use Rattle.stn_site.specs.{Bounds.all_bounds, Calls.{Accepted, Leaves, took}, Ch
 use Rattle.stn_command.specs.{Change.{made_by, made_text}, Query.Query, Guarding.guard_text, Named.{IsSaidBy, IsRefusedBy}, Words.no_such_word}
 use Rattle.stn_guard.specs.{Adding.{AddsGuard, IsGuardRefusal}, declared.owners.OwnedSteps.OwnedSteps}
 use Rattle.stn_store.specs.{Log.log_held, Merging.IsMergeRefusal, Steps.{Entries, FindsFree, FindsText, LoadsLog, Saves, SavesNew}}
-use Rattle.stn_logs.specs.{Words.{Update, change, merge, guard, slack_read, update_read, question_read}, declared.changes.Outcome.Outcome, Loosening.{HoldsLoosened, IsLooseningRefusal}}
+use Rattle.stn_logs.specs.{Words.{Update, change, merge, guard, slack_read, update_read, question_read}, declared.{changes.Outcome.Outcome, words.RefusedWord.RefusedWord}, Loosening.{HoldsLoosened, IsLooseningRefusal}}
 use Rattle.stn_logs.specs.declared.changes.Outcome.TheVariants as came
 use Rattle.stn_line.specs.{Explanations.Explained.{IsExplained, NamesNothing}, declared.words.{SiteLog.SiteLog, NameWords.NameWords, NewLog.TheVariants.{Bare, Init, Loosen}, Line.{Line, TheVariants.{Run, Make, Change, Ask, Explain, Shell, Serve, Send}}}}
 use Rattle.stn_refusal.specs.declared.failure.{Failure.Failure, Fault.Fault}
@@ -118,6 +118,10 @@ AnswersAsked Fails log asked names =
     SaysAsked Fails asked names held)
 
 -- ---- a command
+-- words are read, or the first that says nothing refuses the command
+abbrev pub Reads : {X : Type 0} → (Fault → Type 0) → Result X RefusedWord → Effect Entries X
+Reads Fails said = Settles Fails (failing (λ refused. refused.failure) said)
+
 -- why nothing is explained: the word is no refusal's and no fault's
 abbrev pub IsExplainRefusal : Option (List ℕ) → Option Failure → Type 0
 IsExplainRefusal word cause = (NamesNothing word × (cause ≡ Some no_such_word)) ⊎ ((¬ NamesNothing word) × (cause ≡ None))
@@ -135,16 +139,16 @@ DoesLine Fails (Make log (Init domain plan)) =
     Then (FindsSource Fails domain.now plan.now) (λ source.
     MakesLog Fails log.name.now source))
 DoesLine Fails (Make log (Loosen domain plan early late robust)) =
-    Then (Settles Fails (slack_read early late)) (λ slack.
+    Then (Reads Fails (slack_read early late)) (λ slack.
     Then (FindsFree Fails log.name.now) (λ _.
     Then (FindsSource Fails domain.now plan.now) (λ source.
     Then (Makes Fails (HoldsLoosened robust source slack log.site) (IsLooseningRefusal robust source slack)) (λ state.
     SavesMade Fails log.name.now (bare (steps_of source)) state))))
 DoesLine Fails (Change log words) =
-    Then (Settles Fails (update_read words)) (λ asked.
+    Then (Reads Fails (update_read words)) (λ asked.
     UpdatesLog Fails log asked)
 DoesLine Fails (Ask log words names) =
-    Then (Settles Fails (question_read log words)) (λ asked.
+    Then (Reads Fails (question_read log words)) (λ asked.
     AnswersAsked Fails log asked names)
 DoesLine Fails (Explain word) = Explains Fails (option_map (λ one. one.now) word)
 DoesLine Fails Run = Settles Fails (Err no_such_word)

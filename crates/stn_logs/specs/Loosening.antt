@@ -7,6 +7,7 @@ use Rattle.stn_site.specs.Bounds.{all_bounds}
 use Rattle.stn_loosen.specs.{Slack.Slack, Loosened.{loose_durations, AreFewLoosened, AreTooMany}, Promise.Promises, Robust.{loose_bounds, HasPromise, AreFewRobust, AreTooManyRobust}, Fragile.TellsFragile, Numbered.HoldsSome, Failures.loosen_failure, declared.fault.LoosenFault.TheVariants.{Full, NotRobust}}
 use Rattle.stn_store.specs.{Steps.Entries, Store.Spells}
 use Rattle.stn_refusal.specs.declared.failure.Failure.{Failure}
+use Rattle.stn_logs.specs.declared.words.RefusedWord.{RefusedWord}
 
 -- a site holds, over the bare plan of as many steps, the loosened plan of a source that has a base: its records. Each schedule of the
 -- plan is one of the loosened plan, and in each of its schedules events that interfere keep the plan's order
@@ -54,7 +55,7 @@ IsLooseningRefusal false source slack cause = WithBase source (IsLoosenedRefusal
 IsLooseningRefusal true source slack cause = WithBase source (IsRobustRefusal source slack) cause
 
 -- what is told of the plan of the texts that stand under two names, with a tolerance: what of it is not robust
-pub record SaysFragile (entries : Entries) (domain plan : List ℕ) (tolerance : Result Slack Failure) (text : List ℕ) : Type 0 where
+pub record SaysFragile (entries : Entries) (domain plan : List ℕ) (tolerance : Result Slack RefusedWord) (text : List ℕ) : Type 0 where
   pub actions : List ℕ
   pub domain_says : Spells entries domain actions
   pub steps : List ℕ

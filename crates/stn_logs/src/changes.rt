@@ -10,7 +10,7 @@ ghost use Rattle.stn_logs.specs.{Commands.{seen_outcome, IsChanged, IsGuarded, I
 ghost use Rattle.stn_refusal.specs.declared.failure.Failure.TheVariants.{Failed};
 ghost use Rattle.stn_refusal.specs.declared.failure.Fault.TheVariants as lack;
 
-use crate::words::Update;
+use crate::asked::Update;
 use std::alloc::Allocator;
 use std::rc::Rc;
 use stn_command::{Made, print_guard};

@@ -3,31 +3,25 @@
 ghost use Rattle.std.specs.Prelude.{◌≡◌, ◌⊎◌, Some, Ok, Err, false, IfOk, IfErr, MatchResult, option_map};
 ghost use Rattle.stn_refusal.specs.Refusals.{out_of_memory};
 ghost use Rattle.stn_logs.specs.Commands as named;
-ghost use Rattle.stn_effects.specs.Effects.{Settles, Then, seen};
+ghost use Rattle.stn_effects.specs.Effects.{seen};
 ghost use Rattle.stn_lift.specs.PlanSource.{plan_source};
-ghost use Rattle.stn_command.specs.Query.{seen_query, seen_choice};
-ghost use Rattle.stn_line.specs.declared.words.{Line.TheVariants.{Make, Change, Ask}, LogQuestion.TheVariants.Draw};
-ghost use Rattle.stn_logs.specs.{Words.{among_read, seen_update}, Commands.{FindsSource, FindsNames, MakesLog, SavesMade, AnswersAsked, UpdatesLog, DoesLine}};
+ghost use Rattle.stn_command.specs.Query.{seen_query};
+ghost use Rattle.stn_line.specs.declared.words.Line.TheVariants.{Make, Change, Ask};
+ghost use Rattle.stn_logs.specs.{Words.seen_update, Commands.{FindsSource, FindsNames, MakesLog, SavesMade, AnswersAsked, UpdatesLog, DoesLine}};
 ghost use Rattle.stn_store.specs.{Log.log_held, Store.{IsMissing, IsLack}, Steps.{FindsFree, LoadsLog, SavesNew}};
 
+use crate::asked::{Update, read_question, read_update};
 use crate::changes::{Outcome, copied, make_update, opened};
 use crate::explaining::explain;
 use crate::keeping::Kept;
 use crate::loosening::loosen;
-use crate::words::{
-    Update, read_arrows, read_chosen, read_present, read_times, read_tolerance, read_update,
-    read_why,
-};
+use crate::words::read_tolerance;
 use std::alloc::Allocator;
-use stn_command::{Choice, Outlook, Query, no_such_word, read_owned, read_time, say_named};
+use stn_command::{Query, no_such_word, say_named};
 use stn_lift::Source;
-use stn_line::{
-    DrawingWords, EventChoice, Line, LogChange, LogQuestion, NameWords, NewLog, SiteLog,
-};
-use stn_picture::Look;
-use stn_questions::Question;
+use stn_line::{Line, LogChange, LogQuestion, NameWords, NewLog, SiteLog};
 use stn_refusal::{Code, Failure, Fault};
-use stn_site::{SitePlan, StepRange};
+use stn_site::SitePlan;
 use stn_store::Store;
 
 // A log that is held, and what it says.
@@ -244,105 +238,8 @@ fn ask_log<S: Store<A>, A: Allocator + Copy>(
 ) -> Result<Vec<u8, A>, Failure>
     ensures { DoesLine S.fails (Ask log.now question.now names.now) (S.entries store.old) (S.entries store.new) (seen (λ text. text.items) result) }
 {
-    match question {
-        LogQuestion::Report => say_of(store, kept, log, names, &Query::Report),
-        LogQuestion::Next { now, choice } => {
-            foresee(alloc, store, kept, log, names, Outlook::Next, *now, choice)
-        }
-        LogQuestion::Ready { now, choice } => {
-            foresee(alloc, store, kept, log, names, Outlook::Ready, *now, choice)
-        }
-        LogQuestion::Rehearse { now, choice } => {
-            foresee(
-                alloc,
-                store,
-                kept,
-                log,
-                names,
-                Outlook::Rehearse,
-                *now,
-                choice,
-            )
-        }
-        LogQuestion::Why { event, to } => {
-            let why = read_why(*event, *to)?;
-            say_of(store, kept, log, names, &Query::Ask(why))
-        }
-        LogQuestion::Repairs => say_of(store, kept, log, names, &Query::Repairs),
-        LogQuestion::Records => say_of(store, kept, log, names, &Query::Ask(Question::Records)),
-        LogQuestion::Steps => say_of(store, kept, log, names, &Query::Ask(Question::Steps)),
-        LogQuestion::Bounds => say_of(store, kept, log, names, &Query::Ask(Question::Bounds)),
-        LogQuestion::Check { times } => {
-            let times = read_times(alloc, times)?;
-            say_of(store, kept, log, names, &Query::Check(&times))
-        }
-        LogQuestion::Draw(drawing) => draw_log(alloc, store, kept, log, names, drawing),
-    }
-}
-
-// Answers a question about chosen events from a time on.
-fn foresee<S: Store<A>, A: Allocator + Copy>(
-    alloc: A,
-    store: &mut S,
-    kept: &mut Kept<A>,
-    log: &SiteLog<'_>,
-    names: &NameWords<'_>,
-    outlook: Outlook,
-    now: &str,
-    choice: &EventChoice<'_>,
-) -> Result<Vec<u8, A>, Failure>
-    ensures { Then (Settles S.fails (among_read outlook now.now choice.now)) (λ asked. AnswersAsked S.fails log.now asked names.now)
-        (S.entries store.old) (S.entries store.new) (seen (λ text. text.items) result) }
-{
-    let steps = read_chosen(alloc, choice.steps)?;
-    let time = read_time(now.as_bytes())?;
-    let chosen = choice_of(&steps, choice.starts);
-    say_of(
-        store,
-        kept,
-        log,
-        names,
-        &Query::Foresee(outlook, time, chosen),
-    )
-}
-
-// The choice of events that was asked for.
-fn choice_of<A: Allocator>(steps: &Option<Vec<StepRange, A>>, starts: bool) -> Choice<'_>
-    ensures { seen_choice result ≡ record { steps = option_map (λ all. all.items) steps.now; starts = starts } }
-{
-    match steps {
-        Some(steps) => Choice {
-            steps: Some(steps),
-            starts,
-        },
-        None => Choice {
-            steps: None,
-            starts,
-        },
-    }
-}
-
-// The picture of a log, with its name as the title.
-fn draw_log<S: Store<A>, A: Allocator + Copy>(
-    alloc: A,
-    store: &mut S,
-    kept: &mut Kept<A>,
-    log: &SiteLog<'_>,
-    names: &NameWords<'_>,
-    drawing: &DrawingWords<'_>,
-) -> Result<Vec<u8, A>, Failure>
-    ensures { DoesLine S.fails (Ask log.now (Draw drawing.entry.now) names.now) (S.entries store.old) (S.entries store.new) (seen (λ text. text.items) result) }
-{
-    let owned = read_owned(alloc, &drawing.owned)?;
-    let arrows = read_arrows(drawing.arrows)?;
-    let present = read_present(drawing.now)?;
-    let look = Look {
-        title: log.name.as_bytes(),
-        present,
-        arrows,
-        owned: &owned,
-    };
-    say_of(store, kept, log, names, &Query::Draw(look))
+    let asked = read_question(alloc, log, question)?;
+    say_of(store, kept, log, names, &asked.query())
 }
 
 // What is said of a log, by such names of steps. Only an answer without names is kept.

@@ -1,6 +1,4 @@
 mod Done
 mod Opened
-mod Refusals
 mod Steps
-mod Words
 mod OneLine

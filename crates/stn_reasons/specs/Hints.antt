@@ -6,7 +6,7 @@ use Rattle.stn_net.specs.Schedule.{HasSchedule}
 use Rattle.stn_records.specs.{Id.SiteCounter, Record.is_done_mark, declared.record.Record.Record, Content.{Content, live_of}}
 use Rattle.stn_site.specs.{Bounds.all_bounds, Held.Held}
 use Rattle.stn_command.specs.Words.{event_of, id_of}
-use Rattle.stn_line.specs.declared.words.{LogChange.{LogChange, TheVariants.{Add, Amend, Withdraw, Done, Merge, Guard}}, Line.{Line, TheVariants.Change}}
+use Rattle.stn_line.specs.declared.words.{LogChange.{LogChange, TheVariants.{Add, Amend, Withdraw, Done, Guard}}, Line.{Line, TheVariants.Change}}
 use Rattle.stn_store.specs.{Steps.Entries, Store.Opens}
 use Rattle.stn_reasons.specs.declared.hints.Hint.{Hint, TheVariants.{NoSide, NotDone, DoneTwice, NoSchedule}}
 
@@ -16,13 +16,13 @@ abbrev pub is_sideless : Option (Bor (List ℕ)) → Option (Bor (List ℕ)) →
 is_sideless lo hi = not (is_some lo) && not (is_some hi)
 
 -- a record that is there says that an event was done
-abbrev pub says_done : Option Record → Bool
-says_done None = false
-says_done (Some one) = is_done_mark one.mark
+abbrev pub is_of_done : Option Record → Bool
+is_of_done None = false
+is_of_done (Some one) = is_done_mark one.mark
 
 abbrev pub was_done : Content → Option SiteCounter → Bool
 was_done state None = false
-was_done state (Some id) = says_done (map.get state.additions id)
+was_done state (Some id) = is_of_done (map.get state.additions id)
 
 -- so many live records say that an event is done
 abbrev pub is_done_of : ℕ → Record → Bool
@@ -44,10 +44,8 @@ abbrev pub hints_of_words : LogChange → Content → List Hint
 hints_of_words (Add from to lo hi) state = hint_where (is_sideless lo hi) NoSide
 hints_of_words (Amend id from to lo hi) state =
     hint_where (is_sideless lo hi) NoSide ++ hint_where (was_done state (id_of id.now)) (NotDone id)
-hints_of_words (Withdraw id) state = []
 hints_of_words (Done event time) state = hint_where (is_done_twice state (event_of event.now)) (DoneTwice event)
-hints_of_words (Merge other) state = []
-hints_of_words (Guard owned) state = []
+hints_of_words change state = []
 
 -- no schedule is left after a change that brings bounds; a guard says so itself
 abbrev pub LeavesNone : LogChange → Held → Type 0

@@ -2,8 +2,8 @@
 use Rattle.std.specs.Prelude.{ℕ, ◌==◌, List, [], ◌∷◌, ◌++◌, codes, decimal, Option, Some, None, if◌then◌else◌}
 use Rattle.stn_text.specs.Bytes.{line_feed}
 use Rattle.stn_refusal.specs.{Codes.number_of, Refusals.code_of, declared.{failure.Failure.Failure, code.Code.TheVariants.{TooFine, OutOfRange}}}
-use Rattle.stn_reasons.specs.{Refused.RefusedWord, declared.refused.Form.Form}
-use Rattle.stn_reasons.specs.declared.refused.Form.TheVariants as form
+use Rattle.stn_logs.specs.declared.words.{Form.Form, RefusedWord.RefusedWord}
+use Rattle.stn_logs.specs.declared.words.Form.TheVariants as form
 
 -- the events of a plan of so many steps; of any plan, where that is not known
 abbrev pub events_text : Option ℕ → List ℕ
@@ -37,7 +37,7 @@ form_text steps form.YesNo failure = codes "neither yes nor no"
 
 -- the line for a word: the word, and what it is instead
 abbrev pub word_text : Option ℕ → RefusedWord → List ℕ
-word_text steps refused = refused.word ++ (codes ": " ++ (form_text steps refused.form refused.failure ++ line_feed ∷ []))
+word_text steps refused = refused.word.now ++ (codes ": " ++ (form_text steps refused.form refused.failure ++ line_feed ∷ []))
 
 -- the line for times of which there are too many or too few
 abbrev pub times_count_text : ℕ → ℕ → List ℕ

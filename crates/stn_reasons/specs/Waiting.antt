@@ -2,11 +2,11 @@
 use Rattle.std.specs.Prelude.{◌≡◌, ◌⊎◌, ℕ, List, [], ◌∷◌, ◌++◌, codes, Option, Some, None, is_some, if◌then◌else◌}
 use Rattle.stn_text.specs.Bytes.{line_feed}
 use Rattle.stn_line.specs.declared.words.Line.{Line, TheVariants.Change}
-use Rattle.stn_reasons.specs.Refused.{word_of_change}
+use Rattle.stn_logs.specs.Words.{word_refused}
 
 -- the log that a command changes, if no word refuses it; it is held from its load to its save
 abbrev pub changed_log : Line → Option (List ℕ)
-changed_log (Change log change) = if is_some (word_of_change change) then None else Some log.name.now
+changed_log (Change log change) = if is_some (word_refused (Change log change)) then None else Some log.name.now
 changed_log line = None
 
 abbrev pub waiting_text : List ℕ → List ℕ

@@ -133,14 +133,14 @@ fn was_done<A: Allocator + Copy>(records: &Records<A>, word: &str) -> bool
     ensures { result ≡ spec.was_done records.now (id_of word.now) }
 {
     match read_id(word.as_bytes()) {
-        Some(id) => says_done(records.state().additions().get(id)),
+        Some(id) => is_of_done(records.state().additions().get(id)),
         None => false,
     }
 }
 
 // Whether a record that is there says that an event was done.
-fn says_done(found: Option<Record>) -> bool
-    ensures { result ≡ spec.says_done found }
+fn is_of_done(found: Option<Record>) -> bool
+    ensures { result ≡ spec.is_of_done found }
 {
     match found {
         Some(one) => one.mark == Mark::Done,

@@ -4,17 +4,13 @@
 pub use absent::absent_event;
 pub use file::refused_file;
 pub use hints::{Hint, hints_of};
-pub use laws::told_word_refuses;
 pub use reason::{reason_in_line, reason_of};
-pub use refused::{Form, RefusedWord, refused_word};
 pub use telling::{append_counts, append_refused_word};
 pub use waiting::waiting_of;
 
 mod absent;
 mod file;
 mod hints;
-mod laws;
 mod reason;
-mod refused;
 mod telling;
 mod waiting;

@@ -3,7 +3,8 @@
 ghost use Rattle.std.specs.Prelude.{◌≡◌, ◌⊎◌, ◌*◌, ◌-◌, ◌++◌, [], Some, IfOk, IfSome, OnOk, codes, decimal, length, option_map, take};
 ghost use Rattle.stn_line.specs.Explanations.Explained.{IsMeant};
 ghost use Rattle.stn_reasons.specs.Reasons as spec;
-ghost use Rattle.stn_reasons.specs.{Reasons.{HasSteps, IsReason, IsReasonInLine, IsRefusalReason, TellsAbout, TellsEvent, TellsFile, TellsLog, TellsPromise, TellsWord}, Refused.{seen_word, word_refused}};
+ghost use Rattle.stn_reasons.specs.Reasons.{HasSteps, IsReason, IsReasonInLine, IsRefusalReason, TellsAbout, TellsEvent, TellsFile, TellsLog, TellsPromise, TellsWord};
+ghost use Rattle.stn_logs.specs.Words.{word_refused};
 ghost use Rattle.stn_reasons.specs.Told as told;
 ghost use Rattle.stn_refusal.specs.{Codes.number_of, declared.failure.Failure.TheVariants.Refused};
 ghost use Rattle.stn_refusal.specs.declared.code.Code.TheVariants as code;
@@ -13,13 +14,12 @@ ghost use Rattle.stn_store.specs.Store.{IsUnopened, Opens};
 
 use crate::absent::absent_event;
 use crate::file::{append_file, log_of, refused_file};
-use crate::refused::{RefusedWord, refused_word};
 use crate::telling::{append_absent, append_counts, append_refused_word};
 use itoa::Buffer;
 use std::alloc::Allocator;
 use stn_cause::{Cause, append_trouble};
 use stn_line::{Line, LogChange, LogQuestion, NewLog, SiteLog, meaning_of};
-use stn_logs::fragile_text;
+use stn_logs::{RefusedWord, fragile_text, refused_word};
 use stn_records::Site;
 use stn_refusal::{Code, Failure, Fault, Refusal};
 use stn_store::{Store, Trouble};
@@ -133,7 +133,7 @@ fn about_word<S: Store<A>, A: Allocator + Copy>(
     line: &Line<'_>,
     refused: &RefusedWord<'_>,
 ) -> Result<Vec<u8, A>, Memory>
-    ensures { IfOk result (λ text. TellsWord (S.entries store.now) line.now (seen_word refused.now) text.items) }
+    ensures { IfOk result (λ text. TellsWord (S.entries store.now) line.now refused.now text.items) }
 {
     let steps = steps_of(store, line);
     let mut text = Vec::new(alloc);

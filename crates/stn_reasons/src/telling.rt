@@ -1,10 +1,10 @@
 ghost use Rattle.std.specs.Prelude.{◌≡◌, ◌++◌, OnOk, OnErr, decimal};
-ghost use Rattle.stn_reasons.specs.{Refused.seen_word, Reasons.{absent_text, missing_text, no_event_of}};
+ghost use Rattle.stn_reasons.specs.Reasons.{absent_text, missing_text, no_event_of};
 ghost use Rattle.stn_reasons.specs.Told as spec;
 
-use crate::refused::{Form, RefusedWord};
 use itoa::Buffer;
 use std::alloc::Allocator;
+use stn_logs::{Form, RefusedWord};
 use stn_refusal::{Code, Failure};
 use stn_text::append_decimal;
 use stn_time::Memory;
@@ -17,7 +17,7 @@ pub fn append_refused_word<A: Allocator + Copy>(
     steps: Option<u16>,
     out: &mut Vec<u8, A>,
 ) -> Result<(), Memory>
-    ensures told { OnOk result (out.new.items ≡ out.old.items ++ spec.word_text steps (seen_word refused.now)) }
+    ensures told { OnOk result (out.new.items ≡ out.old.items ++ spec.word_text steps refused.now) }
     ensures kept { OnErr result (out.new.items ≡ out.old.items) }
 {
     let mut line = Vec::new(alloc);

@@ -4,9 +4,9 @@ ghost use Rattle.std.specs.Prelude.{◌≡◌, IfOk, option_map};
 ghost use Rattle.stn_reasons.specs.Waiting as spec;
 ghost use Rattle.stn_reasons.specs.Waiting.{TellsWaiting};
 
-use crate::refused::refused_word;
 use std::alloc::Allocator;
 use stn_line::Line;
+use stn_logs::refused_word;
 use stn_store::Store;
 use stn_time::Memory;
 

@@ -1,6 +1,6 @@
-use Rattle.std.proofs.Common.{◌≡◌, arith}
+use Rattle.std.proofs.Common.{arith}
 use Rattle.stn_line.specs.Commands as spec
-use Rattle.stn_line.proofs.Shapes.{joins}
+use Rattle.stn_line.proofs.Shapes.{joins, joined_all}
 use Rattle.stn_line.proofs.commands.stn.Goals as goal
 
 pub rows-preserved : goal.rows-preserved
@@ -8,6 +8,4 @@ rows-preserved c = joins _ _ _ _ _ _ c.rows.invariant c.in_ok-command.ensures.is
 
 pub returns : goal.returns
 unfolding spec.stn
-returns c =
-    let all : c.rows.row-index ≡ 25 = omega arith in
-    record { app = rw all at c.rows.invariant.is }
+returns c = record { app = joined_all _ _ _ c.rows.invariant (omega arith) }

@@ -1,8 +1,10 @@
+use Rattle.std.proofs.{Common.{arith}, lemmas.Grind.common_steps}
 use Rattle.clap.specs.{Matches.found_of, Walk.rows_of}
-use Rattle.stn_line.proofs.OfStn.{is_last}
+use Rattle.stn_line.proofs.OfStn.{is_named}
 use Rattle.stn_line.proofs.reading.command.Goals as goal
 
-pub talking-requires-clause-named : goal.talking-requires-clause-named
-talking-requires-clause-named c =
+pub asking-requires-clause-named : goal.asking-requires-clause-named
+asking-requires-clause-named c =
+    let named = is_named c.args.name.now (rows_of (found_of c.args.words.now)) c.requires in
     let none = c.in_default in
-    is_last c.args.name.now (rows_of (found_of c.args.words.now)) c.requires (none.not-run, (none.not-bare, (none.not-init, (none.not-loosen, (none.not-add, (none.not-amend, (none.not-withdraw, (none.not-done, (none.not-merge, (none.not-guard, (none.not-report, (none.not-next, (none.not-ready, (none.not-why, (none.not-repairs, (none.not-records, (none.not-steps, (none.not-bounds, (none.not-check, (none.not-rehearse, (none.not-draw, (none.not-explain, (none.not-shell, tt)))))))))))))))))))))))
+    grind (arith, common_steps, named)

@@ -1,5 +1,7 @@
-use Rattle.stn_command.{specs.Words.time_read, proofs.EachRead.IsReadTo}
+use Rattle.std.proofs.Common.{◌≡◌, ◌++◌, drop, Ok}
+use Rattle.stn_command.specs.Words.{and_then, each_read}
+use Rattle.stn_logs.specs.Words.{moment_read}
 use Rattle.stn_logs.proofs.words.read_times.Given as goal
 
 abbrev pub invariant-words : goal.invariant-words
-invariant-words g l = IsReadTo time_read l.words l.word-index l.times.items
+invariant-words g l = each_read moment_read l.words ≡ and_then (each_read moment_read (drop l.word-index l.words)) (λ rest. Ok (l.times.items ++ rest))
