@@ -1,7 +1,7 @@
 -- What is read of a line, byte after byte.
-use Rattle.std.{proofs.{Common.{zero, suc, ◌≡◌, ◌≢◌, ◌∙◌, ap, sym, subst, inr, ⊎_elim, refl, ℕ, ◌+◌, ◌<◌, List, [], ◌∷◌, ◌++◌, length, take, Option, None, Some, Ok, Vec, arith, length-append}, KnownBytes.Consumes-trans}, specs.{Prelude.{IsNone, IfSome, option_map}, Io.KnownBytes.{Consumes, IsAtEnd}}}
+use Rattle.std.proofs.lemmas.Grind.{common_steps}
+use Rattle.std.{proofs.Common.{rules, zero, suc, ◌≡◌, ◌≢◌, ◌∙◌, ap, sym, ⊎_elim, refl, ℕ, ◌+◌, ◌<◌, List, [], ◌∷◌, ◌++◌, length, take, Option, None, Some, Ok, Vec, arith, length-append}, specs.{Prelude.{IsNone, IfSome, option_map}, Io.KnownBytes.{Consumes, IsAtEnd}}}
 use Rattle.stn_text.specs.Bytes.{line_feed}
-use Rattle.stn_device.proofs.Known.{Consumes-then_none}
 use Rattle.stn_effects.specs.Printing.{Device}
 use Rattle.stn_shell.specs.Lines.{AreWithinLine, AreOfLine, Takes, TakesLine}
 
@@ -24,22 +24,15 @@ one_taken (b ∷ c ∷ rest) given count one is some = absurd (omega (arith, one
 -- it is taken too, of the same room or of another
 pub taken_more : (a b c : Device) (room left whole next : ℕ) (bytes : List ℕ) (byte : ℕ) → Takes room left a b bytes → Consumes b.bytes c.bytes (byte ∷ [])
     → c.failures ≡ b.failures → next + room + 1 ≡ left + whole → Takes whole next a c (bytes ++ byte ∷ [])
-taken_more a b c room left whole next bytes byte taken one passed is = (
-  Consumes-trans a.bytes b.bytes c.bytes bytes (byte ∷ []) taken.0 one,
-  omega (arith, taken.1, is, length-append bytes (byte ∷ [])),
-  passed ∙ taken.2,
-)
+taken_more a b c room left whole next bytes byte taken one passed is = grind (arith, common_steps)
 
 -- at the end of the input stands the line, if it has a byte
 pub at_end : {A : Type 0} (a b c : Device) (room left count : ℕ) (given : List ℕ) (line : Vec ℕ A) (last : Option (Vec ℕ A))
     → (IsNone last → line.items ≡ []) → IfSome last (λ one. (one.items ≡ line.items) × (line.items ≢ []))
     → AreWithinLine line.items → Takes room left a b line.items → count ≡ 0 → Consumes b.bytes c.bytes (take count given) → IsAtEnd c.bytes
     → c.failures ≡ b.failures → TakesLine room left a c (Ok (option_map (λ text. text.items) last))
-at_end a b c room left count given line None none some within taken nothing more end passed =
-    (end, subst (Takes room left a c) (none refl) (Consumes-then_none a.bytes b.bytes c.bytes line.items given count nothing taken.0 more, taken.1, passed ∙ taken.2))
-at_end a b c room left count given line (Some one) none some within taken nothing more end passed =
-    let all : Takes room left a c line.items = (Consumes-then_none a.bytes b.bytes c.bytes line.items given count nothing taken.0 more, taken.1, passed ∙ taken.2) in
-    (line.items, (subst AreWithinLine (sym some.0) within, inr (sym some.0, (λ empty. some.1 (sym some.0 ∙ empty)), end)), all)
+at_end a b c room left count given line None none some within taken nothing more end passed = search rules
+at_end a b c room left count given line (Some one) none some within taken nothing more end passed = search rules
 
 -- a line has a byte, so less may be read after it
 some_byte : (line bytes : List ℕ) (after : Option (List ℕ)) → AreOfLine line after bytes → 0 < length bytes
@@ -47,4 +40,4 @@ some_byte line [] after of = absurd (⊎_elim (λ cut. omega (arith, ap length c
 some_byte line (first ∷ bytes) after of = omega arith
 
 pub less_room : (room left : ℕ) (a b : Device) (line : List ℕ) → TakesLine room left a b (Ok (Some line)) → left < room
-less_room room left a b line (bytes, of, taken) = omega (arith, taken.1, some_byte line bytes b.bytes of)
+less_room room left a b line (bytes, of, taken) = omega (arith, some_byte line bytes b.bytes of)

@@ -1,5 +1,5 @@
 -- What is found of bytes that are compared piece by piece.
-use Rattle.std.{proofs.{Common.{◌≡◌, ◌≢◌, ℕ, List, [], ◌++◌, Option, Some, None, false, sym, ap, ◌∙◌, append_assoc}, lemmas.{Bool.false≢true, List.append_cancel_left}, KnownBytes.Consumes-trans}, specs.Io.KnownBytes.Consumes}
+use Rattle.std.{proofs.{Common.{rules, ◌≡◌, ◌≢◌, ℕ, List, [], ◌++◌, Option, Some, None, false, sym, ap, ◌∙◌, append_assoc}, lemmas.{Bool.false≢true, List.append_cancel_left}, KnownBytes.Consumes-trans}, specs.Io.KnownBytes.Consumes}
 use Rattle.stn_store.specs.Bytes.{AreKnownBytes, AreTheseIn}
 
 -- what was read is the front of what the bytes are
@@ -21,11 +21,4 @@ alike_further known old new bytes front left piece rest begins goes_on read next
 pub others_there : (known old new : Option (List ℕ)) (bytes front left piece : List ℕ) → bytes ≡ front ++ left → ((rest : List ℕ) → left ≢ piece ++ rest)
     → Consumes known old front → Consumes old new piece → AreTheseIn known bytes false
 others_there known old new bytes front left piece begins differs read next =
-    let all = known_front known new (front ++ piece) (Consumes-trans known old new front piece read next) in (
-      (front ++ piece) ++ all.0,
-      all.1,
-      (
-        (λ same. absurd (false≢true same)),
-        λ same. absurd (differs all.0 (append_cancel_left front left (piece ++ all.0) (sym begins ∙ sym same ∙ append_assoc front piece all.0))),
-      ),
-    )
+    let all = known_front known new (front ++ piece) (Consumes-trans known old new front piece read next) in search (rules, false≢true, append_cancel_left, append_assoc)

@@ -1,5 +1,5 @@
 -- What a log and a text are that were read.
-use Rattle.std.{proofs.{Common.{◌≡◌, ℕ, ◌+◌, ◌<◌, ◌≤◌, List, [], ◌++◌, length, take, Option, Some, None, Result, Err, refl, sym, ap, subst, ◌∙◌, inl, inr, append-nil, arith}, lemmas.List.{take_all, length-take}}, specs.{Prelude.{IfSome, ◌⊎◌, option_map}, Io.KnownBytes.{Consumes, IsAtEnd}}}
+use Rattle.std.{proofs.{Common.{rules, ◌≡◌, ℕ, ◌+◌, ◌<◌, ◌≤◌, List, [], ◌++◌, length, take, Option, Some, None, Result, Err, refl, sym, ap, subst, ◌∙◌, inl, inr, append-nil}, lemmas.List.{take_all, length-take}}, specs.{Prelude.{IfSome, ◌⊎◌, option_map}, Io.KnownBytes.{Consumes, IsAtEnd}}}
 use Rattle.stn_device.specs.{declared.whole.ReadFault.ReadFault, Failures.read_failure}
 use Rattle.stn_device.specs.declared.whole.ReadFault.TheVariants as read
 use Rattle.stn_text.specs.Bytes.{most_text}
@@ -45,7 +45,7 @@ text_read None first rest limit text e limited consumed ended short = (text, tt,
 text_read (Some bytes) None rest limit text e limited consumed ended short = absurd (cc)
 text_read (Some bytes) (Some first) None limit text e limited consumed ended short = absurd consumed
 text_read (Some bytes) (Some first) (Some rest) limit text e limited consumed ended short =
-    let whole : first ≡ text = consumed ∙ ap (λ (more : List ℕ). text ++ more) ended ∙ append-nil text in
+    let whole : first ≡ text = search rules in
     let cut : first ≡ take limit bytes = cc in
     (bytes, refl, sym whole ∙ cut ∙ ap (λ (n : ℕ). take n bytes) limited)
 
@@ -53,9 +53,7 @@ text_read (Some bytes) (Some first) (Some rest) limit text e limited consumed en
 pub text_unbound : (known first : Option (List ℕ)) (limit : ℕ) → first ≡ option_map (take limit) known → limit ≡ most_text + 1
     → IfSome first (λ input. most_text + 1 < length input) → known ≡ None
 text_unbound None first limit e limited long = refl
-text_unbound (Some bytes) first limit e limited long =
-    let at : IfSome (Some (take limit bytes)) (λ input. most_text + 1 < length input) = subst (λ (input : Option (List ℕ)). IfSome input (λ xs. most_text + 1 < length xs)) e long in
-    absurd (omega (arith, at, length-take limit bytes, limited))
+text_unbound (Some bytes) first limit e limited long = search (rules, length-take)
 
 -- why a text was not read
 pub text_failed : (known first : Option (List ℕ)) (limit : ℕ) (fault : ReadFault) → first ≡ option_map (take limit) known → limit ≡ most_text + 1

@@ -1,5 +1,5 @@
 -- Bytes have one meaning as a log.
-use Rattle.std.{proofs.{Common.{◌≡◌, ℕ, Bool, List, [], ◌∷◌, ◌++◌, length, Option, Some, Result, Ok, Err, inl, refl, sym, ap, subst, ◌∙◌, ⊎_elim, arith, append_assoc}, lemmas.{Bool.false≢true, Option.{same_Some, none-some}}}, specs.{Prelude.option_map, List.{flat_map, AllByRecursion}}}
+use Rattle.std.{proofs.{Common.{rules, ◌≡◌, ℕ, Bool, List, [], ◌∷◌, ◌++◌, length, Option, Some, Result, Ok, Err, inl, refl, sym, ap, subst, ◌∙◌, ⊎_elim, arith, append_assoc}, lemmas.{Bool.false≢true, Option.{same_Some, none-some}}}, specs.{Prelude.option_map, List.{flat_map, AllByRecursion}}}
 use Rattle.stn_wire.{specs.{Frame.{FrameContent, spelling, IsFrame}, Front.{Front, whole, faulty, unfinished, IsFront}, declared.fault.WireFault.WireFault}, proofs.Fronts.whole_spelled}
 use Rattle.stn_store.specs.{Log.{Log, LogSoFar, taken, all_taken, all_taken_by, IsEnding, IsLogAnswer, IsRest}, declared.log.fault.LoadFault.{LoadFault, TheVariants.{Read, Bound, Frame, LogForm, Base, Take, Memory}}}
 
@@ -68,7 +68,7 @@ module _ (fronts : (bytes : List ℕ) (a b : Front) → IsFront bytes a → IsFr
   one_rest more (f ∷ fs) [] log behind left a b p q e x y =
       absurd (no_frame more log f (flat_map spelling fs ++ behind) b p.0 (subst (λ (l : List ℕ). IsEnding more l log b) (sym e ∙ append_assoc (spelling f) (flat_map spelling fs) behind) y))
   one_rest more (f ∷ fs) (g ∷ gs) log behind left a b p q e x y =
-      let cut : spelling f ++ (flat_map spelling fs ++ behind) ≡ spelling g ++ (flat_map spelling gs ++ left) = sym (append_assoc (spelling f) (flat_map spelling fs) behind) ∙ (e ∙ append_assoc (spelling g) (flat_map spelling gs) left) in
+      let cut : spelling f ++ (flat_map spelling fs ++ behind) ≡ spelling g ++ (flat_map spelling gs ++ left) = search (rules, append_assoc) in
       let parts = spellings f g (flat_map spelling fs ++ behind) (flat_map spelling gs ++ left) p.0 q.0 cut in
       by_first more fs gs behind left a b (taken log f) (λ next. one_rest more fs gs (Some next) behind left a b p.1 q.1 parts.1) x
       (subst (λ (h : FrameContent). IsLogAnswer more left (all_taken_by (λ log. all_taken log gs) (taken log h)) b) (sym parts.0) y)

@@ -1,5 +1,5 @@
 -- A log that is read frame by frame.
-use Rattle.std.{proofs.{Common.{◌≡◌, ℕ, ◌+◌, ◌-◌, ◌<◌, ◌≤◌, Bool, true, false, List, [], ◌∷◌, ◌++◌, length, take, Option, Some, None, Result, Ok, Err, IfSome, inl, inr, refl, sym, ap, subst, ◌∙◌, arith, append_assoc, append-nil, length-append}, KnownBytes.{Consumes-nil, Consumes-trans}, Math.Seq.take-append-add, lemmas.{List.{take_all, take_at}, Bool.{false≢true, le-ltb, lt-ltb}, Grind.flat_map-append}}, specs.{Prelude.{nat_lt, is_some, option_map}, Io.KnownBytes.{Consumes, IsAtEnd}, List.{flat_map, AllByRecursion}}}
+use Rattle.std.{proofs.{Common.{rules, ◌≡◌, ℕ, ◌+◌, ◌-◌, ◌<◌, ◌≤◌, Bool, true, false, List, [], ◌∷◌, ◌++◌, length, take, Option, Some, None, Result, Ok, Err, IfSome, inl, inr, refl, sym, ap, subst, ◌∙◌, arith, append_assoc, append-nil, length-append}, KnownBytes.{Consumes-nil, Consumes-trans}, Math.Seq.take-append-add, lemmas.{List.{take_all, take_at}, Bool.{false≢true, le-ltb, lt-ltb}, Grind.flat_map-append}}, specs.{Prelude.{nat_lt, is_some, option_map}, Io.KnownBytes.{Consumes, IsAtEnd}, List.{flat_map, AllByRecursion}}}
 use Rattle.stn_device.specs.{Bytes.{most_bytes, ConsumesAtMost}, declared.whole.ReadFault.ReadFault}
 use Rattle.stn_time.proofs.Each.{each_pushed}
 use Rattle.stn_wire.{specs.{Frame.{FrameContent, spelling, IsFrame}, Front.{IsFront, faulty, unfinished}, declared.fault.WireFault.WireFault, Stream.{IsNextFrame, IsCounted, Held.Stream}}, proofs.Fronts.fault_more}
@@ -51,7 +51,7 @@ later_taken (Ok next) frames more last end later came = later next came
 later_taken (Err fault) frames more last end later came = absurd cc
 
 one_more : (frames : List FrameContent) (log last : Option LogSoFar) (frame : FrameContent) (next : LogSoFar) → all_taken log frames ≡ Ok last → taken last frame ≡ Ok next → all_taken log (frames ++ frame ∷ []) ≡ Ok (Some next)
-one_more [] log last frame next came is = ap (all_taken_by (λ log. all_taken log [])) (ap (λ log. taken log frame) (same_ok log last came) ∙ is)
+one_more [] log last frame next came is = cc
 one_more (f ∷ frames) log last frame next came is =
     later_taken (taken log f) frames (frame ∷ []) last (Ok (Some next)) (λ log came. one_more frames (Some log) last frame next came is) came
 
@@ -119,18 +119,7 @@ module _ (before after : Option (List ℕ)) (log : Option LogSoFar) (rest : List
   -- the frame in front is taken
   pub next_taken : (frame : FrameContent) (later : List ℕ) → IsFrame frame → rest ≡ spelling frame ++ later → (now : ℕ) → now ≡ count → (next : LogSoFar) → taken log frame ≡ Ok next
       → Progress before after (Some next) later now
-  next_taken frame later valid front now same next is = record {
-    bytes = p.bytes;
-    frames = p.frames ++ frame ∷ [];
-    consumed = p.consumed;
-    many = same ∙ p.many;
-    each = each_pushed IsFrame p.frames frame p.each valid;
-    cut = p.cut
-        ∙ (ap (λ l. given ++ l) (front ∙ ap (λ l. l ++ later) (sym (append-nil (spelling frame))))
-        ∙ (sym (append_assoc given (flat_map spelling (frame ∷ [])) later)
-        ∙ ap (λ l. l ++ later) (sym (flat_map-append spelling p.frames (frame ∷ [])))));
-    came = one_more p.frames None log frame next p.came is;
-  }
+  next_taken frame later valid front now same next is = search (rules, each_pushed, append_assoc, flat_map-append, one_more)
 
   -- the same, of an option that holds what the frame made
   pub next_held : (frame : FrameContent) (later : List ℕ) → IsFrame frame → rest ≡ spelling frame ++ later → (now : ℕ) → now ≡ count → (next : Option LogSoFar)
@@ -143,17 +132,7 @@ module _ (before after : Option (List ℕ)) (log : Option LogSoFar) (rest : List
   ends few end meaning ending =
       let long : length p.bytes ≤ most_bytes = omega (arith, few, p.many) in
       let more : nat_lt most_bytes (length p.bytes) ≡ false = le-ltb most_bytes (length p.bytes) long in
-      let all : take most_bytes p.bytes ≡ given ++ rest = take_all most_bytes p.bytes long ∙ p.cut in (
-        p.bytes,
-        p.consumed,
-        inl (
-          end,
-          record {
-            said = subst (λ b. IsRest b None (take most_bytes p.bytes) meaning) (sym more)
-                (subst (λ l. IsRest false None l meaning) (sym all) (leads false rest meaning (bytes_end false log rest meaning ending)));
-          },
-        ),
-      )
+      let all : take most_bytes p.bytes ≡ given ++ rest = take_all most_bytes p.bytes long ∙ p.cut in search rules
 
   -- what was read decides, whatever stands after it
   decides : count ≤ 16777216 → (meaning : Result Log LoadFault) → ((more : Bool) (extra : List ℕ) → IsRest more log (rest ++ extra) meaning) → IsDecided before after meaning
@@ -172,10 +151,7 @@ module _ (before after : Option (List ℕ)) (log : Option LogSoFar) (rest : List
   -- the frame in front is refused
   next_refused : count ≤ 16777216 → (frame : FrameContent) (later : List ℕ) → IsFrame frame → rest ≡ spelling frame ++ later → (fault : LoadFault) → taken log frame ≡ Err fault
       → IsDecided before after (Err fault)
-  next_refused few frame later valid front fault is =
-      decides few (Err fault) (λ more extra.
-      subst (λ l. IsRest more log l (Err fault)) (sym (ap (λ l. l ++ extra) front ∙ append_assoc (spelling frame) later extra))
-      (frame_refused more log frame (later ++ extra) fault valid is))
+  next_refused few frame later valid front fault is = search (rules, decides, append_assoc, frame_refused)
 
   pub refuses : count ≤ 16777216 → (frame : FrameContent) (later : List ℕ) → IsFrame frame → rest ≡ spelling frame ++ later → (fault : LoadFault)
       → IsRefused (taken log frame) fault → IfSome (meaning_of (Err fault)) (IsDecided before after)

@@ -1,12 +1,12 @@
 -- What is saved says what a site holds.
-use Rattle.std.{proofs.{Common.{◌≡◌, ℕ, ◌+◌, ◌≤◌, Bool, false, List, [], ◌∷◌, ◌++◌, length, Option, Some, None, Result, Ok, refl, sym, ap, subst, ◌∙◌, arith, append-nil, length-append}, lemmas.{List.take_all, Bool.le-ltb}}, specs.{Prelude.{map, nat_lt, find}, Bool.then_some, Set.distinct_count, FinMap.{FinMap, entries-from_sorted}}}
-use Rattle.stn_records.{specs.{Record.same_records, Id.{SiteCounter, id_cmp, lesser_of}, declared.record.Record.Record, Maps.{differ, dispute, with_entries}, Content.{most_known, Content, same_ids, with_ids, replaced_ids, known_ids, known_count, known_in_either, no_content, dispute_contents, joined_contents, IsSound}}, proofs.Places.nothing_sorted}
+use Rattle.std.{proofs.{Common.{rules, ◌≡◌, ℕ, ◌+◌, ◌≤◌, Bool, false, List, [], ◌∷◌, ◌++◌, length, Option, Some, None, Result, Ok, refl, sym, ap, subst, ◌∙◌, arith, append-nil, length-append}, lemmas.{List.take_all, Bool.le-ltb}}, specs.{Prelude.{map, nat_lt, find}, Bool.then_some, Set.distinct_count, FinMap.{FinMap, entries-from_sorted}}}
+use Rattle.stn_records.{specs.{Record.same_records, Id.{SiteCounter, id_cmp, lesser_of}, declared.record.Record.Record, Maps.{differ, dispute}, Content.{most_known, Content, same_ids, with_ids, replaced_ids, known_ids, known_count, known_in_either, no_content, dispute_contents, joined_contents, IsSound}}, proofs.Places.nothing_sorted}
 use Rattle.std.specs.FinMap as fin
 use Rattle.stn_device.specs.Bytes.{most_bytes}
 use Rattle.stn_lift.specs.PlanSource.{PlanSource, events_of, base_of}
 use Rattle.stn_site.{specs.{Bounds.RecordsName, Held.{Held, holding_state}, Refusals.take_refusal, declared.faults.ReplicaFault.{ReplicaFault, TheVariants.Full}}, proofs.Refused.agreed_take}
 use Rattle.stn_wire.specs.{Spelling.four, Frame.{FrameContent, hello, records, body_of, spelling, IsFrame}}
-use Rattle.stn_store.specs.{Log.{Log, LogSoFar, log_held, so_far, log_text, opened, joined, taken, all_taken, all_taken_by, IsLogAnswer, IsLog}, declared.log.{version.Version.TheVariants.New, fault.LoadFault.LoadFault}}
+use Rattle.stn_store.specs.{Log.{Log, LogSoFar, log_held, so_far, log_text, opened, joined, taken, all_taken, IsLogAnswer, IsLog}, declared.log.{version.Version.TheVariants.New, fault.LoadFault.LoadFault}}
 
 -- a log doesn't say by how much work it came
 pub same_log : (one other : Held) → other.source ≡ one.source → other.state ≡ one.state → log_held other ≡ log_held one
@@ -30,11 +30,7 @@ none_known : known_ids no_content ≡ []
 none_known = λ i. no_keys Record i ++ none_replaced i
 
 joined_alone : (state : Content) → joined_contents no_content state ≡ state
-joined_alone state = λ i. record {
-  additions = with_entries state.additions (no_entries Record i);
-  tombstones = with_entries state.tombstones (no_entries (Unit {0}) i);
-  replacements = with_entries state.replacements (no_entries SiteCounter i);
-}
+joined_alone state = simp no_entries
 
 none_disputed : {X : Type 0} (same : X → X → Bool) (m : FinMap id_cmp X) → dispute same fin.empty m ≡ None
 none_disputed {X} same m = let none : FinMap id_cmp X = fin.empty in ap (λ (ids : List SiteCounter). find (λ k. differ same (fin.get none k) (fin.get m k)) ids) (no_keys X)
@@ -47,8 +43,8 @@ known_alone state = ap (λ (ids : List SiteCounter). distinct_count same_ids (id
 
 pub nothing_against : (log : Log) (state : Content) → log.state ≡ no_content → RecordsName (events_of log.source) state → IsSound state → take_refusal (holding_state log.source log.state) state ≡ None
 nothing_against log state empty named sound =
-    let agreed : dispute_contents log.state state ≡ None = ap (λ (s : Content). dispute_contents s state) empty ∙ nothing_disputed state in
-    let few : known_in_either log.state state ≡ known_count state = ap (λ (s : Content). known_in_either s state) empty ∙ known_alone state in
+    let agreed : dispute_contents log.state state ≡ None = cc (nothing_disputed state) in
+    let few : known_in_either log.state state ≡ known_count state = cc (known_alone state) in
     agreed_take (holding_state log.source log.state) state named agreed
     ∙ ap (λ (b : Bool). then_some b Full) (le-ltb most_known (known_in_either log.state state) (omega (arith, few, sound.limited)))
 
@@ -67,13 +63,13 @@ saved_log log first second based named sound =
     let h = hello log.source in
     let r = records log.state in
     let text = spelling h ++ spelling r in
-    let long : length text ≤ most_bytes = omega (arith, length-append (spelling h) (spelling r), spelled_length h, spelled_length r, first.fits, second.fits) in
+    let long : length text ≤ most_bytes = search (rules, length-append, spelled_length) in
     let begun : Log = record { source = log.source; state = no_content } in
     let opens : taken None h ≡ Ok (so_far New begun) = ap (opened New) based in
     let takes : taken (Some (so_far New begun)) r ≡ Ok (so_far New log) =
     ap (λ (o : Option ReplicaFault). joined New o begun log.state) (nothing_against begun log.state refl named sound) ∙ (λ i. Ok (so_far New (record { source = log.source; state = joined_alone log.state i }))) in
-    let all : all_taken None (h ∷ r ∷ []) ≡ Ok (Some (so_far New log)) =
-    ap (all_taken_by (λ next. all_taken next (r ∷ []))) opens ∙ ap (all_taken_by (λ next. all_taken next [])) takes in
+    let all : all_taken None (h ∷ r ∷ []) ≡ Ok (Some (so_far New log)) = search rules
+    in
     let more : nat_lt most_bytes (length text) ≡ false = le-ltb most_bytes (length text) long in
     record {
       said = record {

@@ -1,5 +1,5 @@
 -- Bytes that are cut into frames and a rest have a meaning as a log.
-use Rattle.std.{proofs.Common.{ℕ, Bool, true, false, List, [], ◌∷◌, Option, Some, None, Result, Ok, Err, inl, inr, refl, arith}}
+use Rattle.std.{proofs.Common.{rules, ℕ, Bool, true, false, List, [], ◌∷◌, Option, Some, None, Result, Ok, Err, inl, inr, refl, arith}}
 use Rattle.stn_wire.{specs.{Frame.FrameContent}, proofs.{Fronts.ShowsNone, Cuts.IsCut}}
 use Rattle.stn_store.specs.{Log.{Log, LogSoFar, all_taken, IsEnding, IsLogAnswer, IsRest}, declared.log.fault.LoadFault.{LoadFault, TheVariants.{Bound, Frame, LogForm}}}
 
@@ -19,4 +19,4 @@ pub meaning_of_cut : (more : Bool) (bytes : List ℕ) (frames : List FrameConten
     → (meaning : Result Log LoadFault) × IsRest more None bytes meaning
 meaning_of_cut more bytes frames rest cut =
     let some = answered more rest cut.shows (all_taken None frames) in
-    (some.0, record { frames = frames; behind = rest; each = cut.each; cut = cut.cut; answer = some.1 })
+    search rules

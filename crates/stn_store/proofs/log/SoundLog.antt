@@ -1,5 +1,5 @@
 -- What a log says is sound: its source has a base, and its records are of bounds of the plan.
-use Rattle.std.{proofs.{Common.{◌≡◌, ℕ, Bool, true, false, not, List, [], ◌∷◌, Option, Some, None, IfSome, Result, Ok, Err, refl, subst}, lemmas.Option.same_Some}, specs.{Prelude.option_map, Bool.then_some, Option.option_or, List.AllByRecursion}}
+use Rattle.std.{proofs.{Common.{rules, ◌≡◌, ℕ, Bool, true, false, not, List, [], ◌∷◌, Option, Some, None, IfSome, Result, Ok, Err, refl, subst}, lemmas.Option.same_Some}, specs.{Prelude.option_map, Bool.then_some, Option.option_or, List.AllByRecursion}}
 use Rattle.stn_net.specs.Difference.{IsBoundWithin}
 use Rattle.stn_lift.{specs.{PlanSource.{PlanSource, events_of, base_of, IsSoundSource}, declared.fault.BaseFault.BaseFault}, proofs.SoundSource.base_sound}
 use Rattle.stn_records.{specs.{Record.IsProperRecord, declared.record.Record.Record, Maps.{AllFit}, Content.{Content, AllProper, no_content, joined_contents}}, proofs.{Proper.{empty_fits, union_fits}}}
@@ -71,8 +71,7 @@ by_first frames (Err fault) whole later is = cc
 
 all_sound : (log : Option LogSoFar) (frames : List FrameContent) (whole : Option LogSoFar) → IfSome log (λ begun. IsSoundLog begun.log) → AllByRecursion IsFrame frames
     → all_taken log frames ≡ Ok whole → IfSome whole (λ begun. IsSoundLog begun.log)
-all_sound log [] whole sound each is =
-    let same_log : log ≡ whole = cc in subst (λ (l : Option LogSoFar). IfSome l (λ begun. IsSoundLog begun.log)) same_log sound
+all_sound log [] whole sound each is = search rules
 all_sound log (frame ∷ frames) whole sound each is =
     by_first frames (taken log frame) whole (λ next first later. all_sound (Some next) frames whole (taken_sound log frame next sound each.0 first) each.1 later) is
 

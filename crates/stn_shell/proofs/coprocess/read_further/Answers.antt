@@ -1,12 +1,9 @@
-use Rattle.std.{proofs.Common.{ap, subst, ◌++◌, ◌∙◌}, specs.{Prelude.IsUtf8, List.AllByRecursion}}
+use Rattle.std.proofs.Common.{rules}
 use Rattle.stn_shell.proofs.Turns.{no_texts, one_further}
 use Rattle.stn_shell.proofs.coprocess.read_further.Goals as goal
 
 pub returns-in-Err-clause-none : goal.returns-in-Err-clause-none
-returns-in-Err-clause-none c =
-    let done = c.words.invariant.done in
-    λ _ all. no_texts done.0 c.in-Some.word.now _ c.in-Err.ensures.cases.0
-    (subst (AllByRecursion IsUtf8) (done.2 ∙ ap (λ later. done.0 ++ later) c.in-Some.ensures.words) all)
+returns-in-Err-clause-none c = search (rules, no_texts)
 
 pub words-preserved : goal.words-preserved
 words-preserved c =

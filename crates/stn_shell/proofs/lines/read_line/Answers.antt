@@ -40,7 +40,7 @@ returns-then-byte-eq-LINE_FEED g c =
     )
 
 pub bytes-smaller : goal.bytes-smaller
-bytes-smaller g c = omega (arith, c.if-room-eq0.false)
+bytes-smaller g c = omega arith
 
 pub bytes-preserved : goal.bytes-preserved
 bytes-preserved g c =
@@ -48,8 +48,8 @@ bytes-preserved g c =
     let long : length c.read.new.buf ≡ 1 = grind (arith, common_steps, c.read.auto.buf, i.byte_len) in
     let one = one_taken c.read.new.buf _ c.in-Ok.field-0 long refl (omega (arith, c.in-Ok.field-0-test.1)) in
     let other : one.0 ≢ line_feed = rw one.1 at c.if-byte-eq-LINE_FEED.false in
-    let items : c.extend_from_slice.new.self.items ≡ c.bytes.line.items ++ one.0 ∷ [] =
-    c.in_ok-extend_from_slice-in-Ok.ensures.items ∙ ap (λ more. c.bytes.line.items ++ more) one.1 in
+    let items : c.extend_from_slice.new.self.items ≡ c.bytes.line.items ++ one.0 ∷ [] = cc (c.in_ok-extend_from_slice-in-Ok.ensures.items, one.1)
+    in
     record {
       byte_len = long;
       within = rw items (within_more _ _ i.within other);
