@@ -1,7 +1,7 @@
 -- A way to an event by a link, tried against the event's estimate.
 use Rattle.std.{proofs.{Common.{◌≡◌, ◌⊎◌, inl, inr, ℕ, Bool, false, ◌<◌, List, length, sym, ap, ◌∙◌, arith}, lemmas.Int.ints}, specs.Prelude.{ℤ, pos, ◌+ℤ◌, ◌≤ℤ◌, All}}
 use Rattle.stn_net.specs.{Difference.Difference, Schedule.times_of}
-use Rattle.stn_conflict.{specs.{declared.outgoing.Look.Look, Relaxation.{AreBegun, AreTables, Freshens, IsFloor, IsKept, IsLook, IsLowered, IsRefused, IsRelaxedOf, Lowers, NamesAmong, Searched, is_fresh}}, proofs.{Tightness.link_among, Lowering.{lowers_none, freshens_none, lowered_at, freshened_at, fallen_other, relaxed_now}, Relaxing.below_way}}
+use Rattle.stn_conflict.{specs.{declared.outgoing.Look.Look, Relaxation.{AreBegun, AreTables, Freshens, IsFloor, IsKept, IsLook, IsLowered, LeavesNoFloor, IsRelaxedOf, Lowers, NamesAmong, Searched, is_fresh}}, proofs.{Tightness.link_among, Lowering.{lowers_none, freshens_none, lowered_at, freshened_at, fallen_other, relaxed_now}, Relaxing.below_way}}
 
 -- estimates that have begun have so still, if that of the start is kept
 pub begun_on : {by new_by : List ℕ} {fresh new_fresh : List Bool} (searched : Searched) (start : ℕ) {far : List ℤ} (new : List ℤ) → AreBegun searched start far by fresh
@@ -70,7 +70,7 @@ module _ (searched : Searched) (start event : ℕ) (here : ℤ) (look : Look) (f
   tried (inl kept) = tried_kept kept
   tried (inr lowered) = tried_lowered lowered
 
-  pub tried_refused : IsRefused start look.to (here +ℤ look.weight) far fresh new new_fresh → (low : ℕ → ℤ) → ¬ IsFloor bounds start far low
+  pub tried_refused : LeavesNoFloor start look.to (here +ℤ look.weight) far fresh new new_fresh → (low : ℕ → ℤ) → ¬ IsFloor bounds start far low
   tried_refused k low h =
       let most = allowed low h in
       let less = k.less in

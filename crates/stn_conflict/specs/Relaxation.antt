@@ -142,7 +142,7 @@ pub record IsKept (event : ℕ) (way : ℤ) (far : List ℤ) (fresh : List Bool)
   pub fresh_is : new_fresh ≡ fresh
 
 -- it was, and leads to the start, or to before the horizon
-pub record IsRefused (start event : ℕ) (way : ℤ) (far : List ℤ) (fresh : List Bool) (new : List ℤ) (new_fresh : List Bool) : Type 0 where
+pub record LeavesNoFloor (start event : ℕ) (way : ℤ) (far : List ℤ) (fresh : List Bool) (new : List ℤ) (new_fresh : List Bool) : Type 0 where
   pub less : way <ℤ times_of far event
   pub cause : (event ≡ start) ⊎ (way <ℤ neg_ℤ horizon)
   pub far_is : new ≡ far

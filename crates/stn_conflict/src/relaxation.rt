@@ -8,7 +8,7 @@
 
 ghost use Rattle.std.specs.Prelude.{◌≡◌, ◌⊎◌, ◌+◌, ◌<◌, ◌≤◌, ◌+ℤ◌, ◌≤ℤ◌, ◌↔◌, ◌++◌, ◌∷◌, [], ℕ, ℤ, true, false, length, IsTrue, IsErr, IfOk, IfSome, OnOk, MatchOption, List};
 ghost use Rattle.stn_net.specs.{Event.most_events, Difference.{Difference, NamesEvents}, Schedule.{HasSchedule, times_of}};
-ghost use Rattle.stn_conflict.specs.{Relaxation.{RelaxesFrom, AreBegun, AreEstimates, AreDistances, AreRelaxed, AreTables, HasTables, IsArcBetween, IsBegun, IsFloor, IsKept, IsLowered, IsNetwork, IsPending, IsRefused, IsRelaxedBut, NamesAmong, IsSearch, Lowers, is_fresh}};
+ghost use Rattle.stn_conflict.specs.{Relaxation.{RelaxesFrom, AreBegun, AreEstimates, AreDistances, AreRelaxed, AreTables, HasTables, IsArcBetween, IsBegun, IsFloor, IsKept, IsLowered, IsNetwork, IsPending, LeavesNoFloor, IsRelaxedBut, NamesAmong, IsSearch, Lowers, is_fresh}};
 ghost use Rattle.stn_time.specs.Time.{horizon};
 
 use crate::graph::Graph;
@@ -348,7 +348,7 @@ fn relax(
     ensures tables { AreTables (length far.old) far.new by.new fresh.new }
     ensures met { OnOk result (IsKept look.now.to (here +ℤ look.now.weight) far.old fresh.old far.new fresh.new
         ⊎ IsLowered start look.now.to (here +ℤ look.now.weight) far.old fresh.old far.new fresh.new) }
-    ensures refused { IsErr result → IsRefused start look.now.to (here +ℤ look.now.weight) far.old fresh.old far.new fresh.new }
+    ensures refused { IsErr result → LeavesNoFloor start look.now.to (here +ℤ look.now.weight) far.old fresh.old far.new fresh.new }
 {
     let end = usize::from(look.to.number());
     let way = here.get() + look.weight.get();

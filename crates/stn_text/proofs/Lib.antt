@@ -1,5 +1,4 @@
 pub mod Splits
 pub mod Digits
-pub mod Whole
 pub mod Readings
 pub mod Growing

@@ -1,1 +1,0 @@
--- What is left where a text is appended whole or not at all.
