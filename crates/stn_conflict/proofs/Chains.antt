@@ -1,4 +1,4 @@
-use Rattle.std.{proofs.{Common.{◌≡◌, ℕ, ◌<◌, List, [], ◌∷◌, ◌++◌, length, take, sym, subst, ap, refl, ◌∙◌, arith}, lemmas.{Int.ints, List.length-take}}, specs.{Prelude.{ℤ, pos, ◌+ℤ◌}, List.AllByRecursion}}
+use Rattle.std.{proofs.{Common.{rules, ◌≡◌, ℕ, ◌<◌, List, [], ◌∷◌, ◌++◌, length, take, sym, subst, ap, refl, ◌∙◌, arith}, lemmas.{Int.ints, List.length-take}}, specs.{Prelude.{ℤ, pos, ◌+ℤ◌}, List.AllByRecursion}}
 use Rattle.stn_net.{specs.{Difference.Difference, Matrix.Tightest.IsTightest}, proofs.Tightest.tightest_unique}
 use Rattle.stn_conflict.{specs.{declared.links.Link.Link, Arcs.{Arc, arc_of, IsChain, weight_of}, Named.{IsTight, IsTightChain, IsFirstStep, IsWay}}, proofs.Tightness.arc_before}
 
@@ -32,16 +32,11 @@ last_of link (next ∷ links) =
 
 -- a way is a chain of tight links
 pub way_is_tight : (bounds : List Difference) (start x : ℕ) (links : List Link) → IsWay bounds start x links → IsTightChain bounds start x links
-way_is_tight bounds start x links way = record {
-  chain = way.chain;
-  tight = each-weaker (IsFirstStep bounds start) (IsTight bounds start) (λ link f. f.step.tight) links way.first;
-}
+way_is_tight bounds start x links way = search (rules, each-weaker)
 
 -- over tight links the tightest difference grows by the sum of their weights
 pub weight_of_tight : (bounds : List Difference) (start : ℕ) (links : List Link) (x y : ℕ) (m : ℤ) → IsTightest bounds start x m → IsChain bounds links x y → AllByRecursion (IsTight bounds start) links → IsTightest bounds start y (m +ℤ weight_of bounds links)
-weight_of_tight bounds start [] x y m far chain tight =
-    let same : m ≡ m +ℤ pos 0 = omega (arith, ints) in
-    subst (λ z. IsTightest bounds start z (m +ℤ pos 0)) chain (subst (λ n. IsTightest bounds start x n) same far)
+weight_of_tight bounds start [] x y m far chain tight = search rules
 weight_of_tight bounds start (link ∷ links) x y m far (placed, from, rest) (tight, others) =
     let (near, near_is, far_is) = tight.tight in
     let w = (arc_of bounds link).weight in

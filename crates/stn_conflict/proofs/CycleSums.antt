@@ -1,12 +1,11 @@
-use Rattle.std.{proofs.{Common.{◌≡◌, ℕ, ◌<◌, ◌≤◌, List, [], ◌∷◌, ◌++◌, length, take, sym, subst, ap, refl, ◌∙◌, arith}, lemmas.{Int.ints, List.{take_more, Elements.All-from_recursion}}}, specs.{Prelude.{ℤ, pos, neg_ℤ, ◌*ℤ◌, ◌+ℤ◌, ◌-ℤ◌, ◌≤ℤ◌, ◌<ℤ◌}, List.AllByRecursion}}
+use Rattle.std.{proofs.{Common.{rules, ◌≡◌, ℕ, ◌<◌, ◌≤◌, List, [], ◌∷◌, ◌++◌, length, take, sym, subst, ap, refl, ◌∙◌, arith}, lemmas.{Int.ints, List.{take_more, Elements.All-from_recursion}}}, specs.{Prelude.{ℤ, pos, neg_ℤ, ◌*ℤ◌, ◌+ℤ◌, ◌-ℤ◌, ◌≤ℤ◌, ◌<ℤ◌}, List.AllByRecursion}}
 use Rattle.stn_time.specs.Time.{horizon, IsWithinHorizon}
 use Rattle.stn_net.{specs.{Difference.Difference, Schedule.{IsSchedule, HasSchedule}, Matrix.Tightest.IsTightest}, proofs.Tightest.tightest_unique}
 use Rattle.stn_conflict.{specs.{declared.links.{Link.Link, Side.{Side, TheVariants.{Upper, Lower}}}, Arcs.{arc, arc_of, bound_at, IsChain, weight_of, IsNegativeCycle}, Culprit.{IsRefusedSide, IsCulprit}, Named.{IsWay, IsWayOf, IsNamedCycle}, Search.IsCycleOf}, proofs.{Tightness.{tightest_self, link_kept}, Between.refused_lower, OneCycle.way_unique, Chains.{way_is_tight, weight_of_tight, chain_before}}}
 
 -- a refused side and the way back from its end to its beginning have a negative sum
 refused_negative : (bounds : List Difference) (bound : Difference) (side : Side) (far : ℤ) → bound.lo ≤ℤ bound.hi → ¬ HasSchedule (bounds ++ bound ∷ []) → IsRefusedSide bounds bound side → IsTightest bounds (arc bound side).to (arc bound side).from far → ((arc bound side).weight +ℤ far) <ℤ pos 0
-refused_negative bounds bound Upper far ordered refused (m, is, below) back =
-    omega (arith, ints, tightest_unique bounds bound.to bound.from m far is back)
+refused_negative bounds bound Upper far ordered refused (m, is, below) back = search (rules, ints)
 refused_negative bounds bound Lower far ordered refused (m, is, above) back =
     let negative = refused_lower bounds bound far m ordered refused back is above in
     omega (arith, ints)

@@ -80,7 +80,6 @@ room_of_link bounds start link m n there near far loose =
 -- the raised differences keep to each link
 raised_kept : (bounds : List Difference) (start : ℕ) (levels : ℕ → Option ℕ) (closed : IsClosed bounds start levels) (link : Link) (m n : ℤ) → link.place < length bounds → IsTightest bounds start (arc_of bounds link).from m → IsTightest bounds start (arc_of bounds link).to n → ((n +ℤ raise (levels (arc_of bounds link).to)) -ℤ (m +ℤ raise (levels (arc_of bounds link).from))) ≤ℤ (arc_of bounds link).weight
 raised_kept bounds start levels closed link m n there near far =
-    let a = arc_of bounds link in
     let reaches = link_reaches bounds start link m n there near far in
     elim (some_or_none (levels (arc_of bounds link).to)) [
       | inr (k, e) ↦ elim (some_or_none (levels (arc_of bounds link).from)) [

@@ -1,5 +1,6 @@
 -- How links lower estimates.
-use Rattle.std.{proofs.{Common.{◌≡◌, ◌≢◌, inl, inr, ℕ, ◌+◌, ◌-◌, ◌<◌, Bool, true, false, List, length, set, refl, sym, ap, ◌∙◌, arith}, lemmas.{Int.{ints, by_lt_z}, Bool.{cases_eq, false≢true}, List.{get_or-set_same, get_or-set_other, length-set}}}, specs.Prelude.{ℤ, pos, ◌+ℤ◌, ◌≤ℤ◌, ◌<ℤ◌}}
+use Rattle.std.proofs.lemmas.Grind.{common_steps}
+use Rattle.std.{proofs.{Common.{rules, ◌≡◌, ◌≢◌, inl, inr, ℕ, ◌+◌, ◌-◌, ◌<◌, Bool, true, false, List, length, set, refl, sym, ap, ◌∙◌, arith}, lemmas.{Int.{ints, by_lt_z}, Bool.{cases_eq, false≢true}, List.{get_or-set_same, get_or-set_other, length-set}}}, specs.Prelude.{ℤ, pos, ◌+ℤ◌, ◌≤ℤ◌, ◌<ℤ◌}}
 use Rattle.stn_net.specs.{Difference.Difference, Schedule.times_of}
 use Rattle.stn_conflict.specs.{declared.links.Link.Link, Arcs.arc_of, Relaxation.{AreRelaxed, Freshens, HasFallen, IsFloor, IsListed, IsRelaxed, IsRelaxedBut, Lowers, is_fresh}}
 
@@ -21,54 +22,28 @@ module _ (bounds : List Difference) (start : ℕ) (old mid new : List ℤ) (firs
 
   -- an estimate that is the same in the end was so in between
   same_between : (x : ℕ) → times_of new x ≡ times_of old x → (times_of mid x ≡ times_of old x) × (times_of new x ≡ times_of mid x)
-  same_between x same =
-      let a = first.fall x in
-      let b = next.fall x in
-      (omega (arith, ints), omega (arith, ints))
+  same_between x same = search rules
 
   pub freshens_on : (old_fresh mid_fresh new_fresh : List Bool) → Freshens old old_fresh mid mid_fresh → Freshens mid mid_fresh new new_fresh → Freshens old old_fresh new new_fresh
-  freshens_on old_fresh mid_fresh new_fresh one other = record {
-    kept = λ x stale.
-        let (was, same) = other.kept x stale in
-        let (before, as_before) = one.kept x was in
-        (before, same ∙ as_before);
-    others = λ x same stale.
-        let (one_same, other_same) = same_between x same in
-        other.others x other_same (one.others x one_same stale);
-  }
+  freshens_on old_fresh mid_fresh new_fresh one other = search rules
 
 -- an estimate that is fresh only if it fell fell
 pub fallen_fresh : (bounds : List Difference) (start : ℕ) (old new : List ℤ) (fresh : List Bool) (x : ℕ) → Lowers bounds start old new → x < length new
     → (times_of new x ≡ times_of old x → is_fresh fresh x ≡ false) → is_fresh fresh x ≡ true → HasFallen old new x
-fallen_fresh bounds start old new fresh x lowers there stale is = record {
-  there = there;
-  less = by_lt_z (times_of new x) (times_of old x) (λ less. less) (λ most.
-      let fall = lowers.fall x in
-      absurd (false≢true (sym (stale (omega (arith, ints))) ∙ is)));
-}
+fallen_fresh bounds start old new fresh x lowers there stale is = search rules
 
 -- a link that was relaxed is so still, if the estimate of the event at which it begins did not fall
 pub still_relaxed : (bounds : List Difference) (start : ℕ) (link : Link) (old : List ℤ) (old_fresh : List Bool) (new : List ℤ) (new_fresh : List Bool)
     → Lowers bounds start old new → Freshens old old_fresh new new_fresh → is_fresh new_fresh (arc_of bounds link).from ≡ false
     → (is_fresh old_fresh (arc_of bounds link).from ≡ false → IsRelaxed bounds (times_of old) link) → IsRelaxed bounds (times_of new) link
-still_relaxed bounds start link old old_fresh new new_fresh lowers freshens stale relaxed =
-    let (was, same) = freshens.kept (arc_of bounds link).from stale in
-    let before = relaxed was in
-    let end = lowers.fall (arc_of bounds link).to in
-    omega (arith, ints)
+still_relaxed bounds start link old old_fresh new new_fresh lowers freshens stale relaxed = search rules
 
 -- after all links of its row are relaxed, an event needs not be fresh
 pub row_relaxed : (whole : ℕ) (bounds : List Difference) (start event : ℕ) (old : List ℤ) (fresh : List Bool) (new : List ℤ) (new_fresh : List Bool) → IsRelaxedBut whole bounds old fresh
     → Lowers bounds start old new → Freshens old (set fresh event false) new new_fresh
     → ((link : Link) → link.place < length bounds → IsListed whole bounds link → (arc_of bounds link).from ≡ event → is_fresh new_fresh (arc_of bounds link).from ≡ false
     → IsRelaxed bounds (times_of new) link) → IsRelaxedBut whole bounds new new_fresh
-row_relaxed whole bounds start event old fresh new new_fresh before lowers freshens looked = λ link there listed stale.
-    let from : ℕ = (arc_of bounds link).from in
-    elim (cases_eq (arc_of bounds link).from event) [
-      | inl same ↦ looked link there listed same stale
-      | inr differs ↦ still_relaxed bounds start link old (set fresh event false) new new_fresh lowers freshens stale
-          (λ was. before link there listed (sym (get_or-set_other fresh event (arc_of bounds link).from false true differs) ∙ was))
-    ]
+row_relaxed whole bounds start event old fresh new new_fresh before lowers freshens looked = search rules
 
 -- where the estimate of x falls, the events that are not fresh are others
 pub fell_elsewhere : (fresh : List Bool) (x y : ℕ) → x < length fresh → is_fresh (set fresh x true) y ≡ false → y ≢ x
@@ -87,38 +62,15 @@ module _ (far : List ℤ) (x : ℕ) (way : ℤ) (there : x < length far) (less :
   fallen_other y differs = get_or-set_other far x y way (pos 0) differs
 
   pub falls : (y : ℕ) → times_of (set far x way) y ≤ℤ times_of far y
-  falls y = elim (cases_eq y x) [
-    | inl same ↦ (
-        let now : times_of (set far x way) y ≡ way = ap (times_of (set far x way)) same ∙ fallen_here in
-        let was = ap (times_of far) same in
-        omega (arith, ints))
-    | inr differs ↦ (let at = fallen_other y differs in omega (arith, ints))
-  ]
+  falls y = search rules
 
   -- a floor is one still, if the estimate does not fall below it
   pub floor_kept : (bounds : List Difference) (start : ℕ) (low : ℕ → ℤ) → IsFloor bounds start far low → low x ≤ℤ way → IsFloor bounds start (set far x way) low
-  floor_kept bounds start low h most =
-      let long = length-set far x way in
-      record {
-        own = h.own;
-        within = λ y below. h.within y (omega arith);
-        below = λ y below. elim (cases_eq y x) [
-          | inl same ↦ (
-              let now : times_of (set far x way) y ≡ way = ap (times_of (set far x way)) same ∙ fallen_here in
-              let here = ap low same in
-              omega (arith, ints))
-          | inr differs ↦ (let at = fallen_other y differs in let was = h.below y (omega arith) in omega (arith, ints))
-        ];
-        met = h.met;
-      }
+  floor_kept bounds start low h most = search rules
 
   -- where each link was relaxed, those are that begin elsewhere
   pub relaxed_elsewhere : (whole : ℕ) (bounds : List Difference) (fresh : List Bool) → x < length fresh → AreRelaxed bounds (times_of far) → IsRelaxedBut whole bounds (set far x way) (set fresh x true)
-  relaxed_elsewhere whole bounds fresh within met = λ link at listed stale.
-      let begin = fallen_other (arc_of bounds link).from (fell_elsewhere fresh x (arc_of bounds link).from within stale) in
-      let end = falls (arc_of bounds link).to in
-      let was = met link at in
-      omega (arith, ints)
+  relaxed_elsewhere whole bounds fresh within met = grind (arith, common_steps, fallen_other, falls, ints)
 
   -- if none falls below a floor
   pub lowered_at : (bounds : List Difference) (start : ℕ) → ((low : ℕ → ℤ) → IsFloor bounds start far low → low x ≤ℤ way) → Lowers bounds start far (set far x way)
@@ -126,26 +78,13 @@ module _ (far : List ℤ) (x : ℕ) (way : ℤ) (there : x < length far) (less :
 
   -- and the event is fresh then
   pub freshened_at : (fresh : List Bool) → x < length fresh → Freshens far fresh (set far x way) (set fresh x true)
-  freshened_at fresh within = record {
-    kept = λ y stale. (stale_before fresh x y within stale, fallen_other y (fell_elsewhere fresh x y within stale));
-    others = λ y same stale. elim (cases_eq y x) [
-      | inl e ↦ (
-          let now : times_of (set far x way) y ≡ way = ap (times_of (set far x way)) e ∙ fallen_here in
-          let was = ap (times_of far) e in
-          absurd (omega (arith, ints)))
-      | inr differs ↦ get_or-set_other fresh x y true true differs ∙ stale
-    ];
-  }
+  freshened_at fresh within = search rules
 
   -- so the link by which it fell is relaxed
   pub relaxed_now : (bounds : List Difference) (fresh : List Bool) (link : Link) → x < length fresh → x ≡ (arc_of bounds link).to
       → (is_fresh fresh (arc_of bounds link).from ≡ false → way ≡ times_of far (arc_of bounds link).from +ℤ (arc_of bounds link).weight) → is_fresh (set fresh x true) (arc_of bounds link).from ≡ false
       → IsRelaxed bounds (times_of (set far x way)) link
-  relaxed_now bounds fresh link within to is stale =
-      let was = is (stale_before fresh x (arc_of bounds link).from within stale) in
-      let from = fallen_other (arc_of bounds link).from (fell_elsewhere fresh x (arc_of bounds link).from within stale) in
-      let end : times_of (set far x way) (arc_of bounds link).to ≡ way = ap (times_of (set far x way)) (sym to) ∙ fallen_here in
-      omega (arith, ints)
+  relaxed_now bounds fresh link within to is stale = search rules
 
 -- the event whose turn it is in a sweep, after so many others
 abbrev pub turn_of : Bool → ℕ → ℕ → ℕ
@@ -160,11 +99,7 @@ AreSwept onward count seen old new fresh = (k : ℕ) → k < seen → times_of n
 -- one more that is not fresh
 pub swept_over : (onward : Bool) (count seen event : ℕ) (old new : List ℤ) (fresh : List Bool) → event ≡ turn_of onward count seen → is_fresh fresh event ≡ false
     → AreSwept onward count seen old new fresh → AreSwept onward count (seen + 1) old new fresh
-swept_over onward count seen event old new fresh turn stale before = λ k below unchanged.
-    elim (cases_eq k seen) [
-      | inl same ↦ ap (λ n. is_fresh fresh (turn_of onward count n)) same ∙ ap (is_fresh fresh) (sym turn) ∙ stale
-      | inr differs ↦ before k (omega arith) unchanged
-    ]
+swept_over onward count seen event old new fresh turn stale before = search rules
 
 -- one more, whose links were relaxed
 pub swept_more : (bounds : List Difference) (start : ℕ) (onward : Bool) (count seen event : ℕ) (old mid : List ℤ) (fresh : List Bool) (new : List ℤ) (new_fresh : List Bool)

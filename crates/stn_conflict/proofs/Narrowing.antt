@@ -1,5 +1,5 @@
 -- How the ends of windows come on with bounds on single events.
-use Rattle.std.{proofs.{Common.{◌≡◌, inl, inr, ℕ, ◌+◌, ◌<◌, ◌≤◌, List, [], ◌∷◌, ◌++◌, length, take, refl, sym, subst, ap, ◌∙◌, arith}, lemmas.{Int.ints, Bool.cases_lt, List.{get_or-take, length-take, take-append-le, Elements.{All-from_get_or, All-push}}}}, specs.Prelude.{ℤ, pos, ◌-ℤ◌, ◌≤ℤ◌, All}}
+use Rattle.std.{proofs.{Common.{rules, ◌≡◌, inl, inr, ℕ, ◌+◌, ◌<◌, ◌≤◌, List, [], ◌∷◌, ◌++◌, length, take, refl, sym, subst, ap, ◌∙◌, arith}, lemmas.{Int.ints, Bool.cases_lt, List.{get_or-take, length-take, take-append-le, Elements.{All-from_get_or, All-push}}}}, specs.Prelude.{ℤ, pos, ◌-ℤ◌, ◌≤ℤ◌, All}}
 use Rattle.stn_net.{specs.{Difference.{Difference, NamesEvents}, Schedule.{Meets, IsSchedule, HasSchedule, times_of}}, proofs.Closure.{schedule_before, schedule_last}}
 use Rattle.stn_conflict.{specs.{declared.{arcs.Direction.{Direction, TheVariants.{Forward, Backward}}, windows.Ends.Ends}, Arcs.bound_at, Directions.{faced, facing}, Relaxation.{AreDistances, AreRelaxed, AreRows, AreSingle, HasTables, IsEnds, IsFloor, IsNetwork, NamesAmong}}, proofs.{LevelTable.meets_moved, Relaxing.{distances_relaxed, network_near, relaxed_schedule}, Tightness.{arc_before, link_kept, tightest_self}, Turned.{append_facing, bound_facing, faced_ends, has_facing, length_facing, network_facing, take_facing}}}
 
@@ -7,12 +7,7 @@ module _ (bounds : List Difference) (bound : Difference) (given events : ℕ) (o
     (ends : NamesEvents events bound) (network : IsNetwork events (take given bounds)) (long : length old ≡ events + 1) (far : AreDistances bounds 0 old) (possible : HasSchedule (bounds ++ bound ∷ [])) where
   -- a schedule of all is one of the given bounds
   given_schedule : (time : ℕ → ℤ) → IsSchedule bounds time → IsSchedule (take given bounds) time
-  given_schedule time s = record {
-    origin = s.origin;
-    met = λ k d below.
-        let front : k < given = omega (arith, length-take given bounds) in
-        subst (Meets time) (sym (get_or-take given bounds k d front)) (s.met k d (omega (arith, length-take given bounds, within)));
-  }
+  given_schedule time s = search (rules, get_or-take)
 
   old_own : times_of old 0 ≡ pos 0
   old_own = tightest_self bounds 0 (times_of old 0) (far.tightest 0 far.start_named)
@@ -125,9 +120,7 @@ module _ {A : Type 0} (direction : Direction) (events : ℕ) (given bounds : Lis
   faced_within = omega (arith, bounds_within, length_facing direction bounds)
 
   faced_single : AreSingle (length given) (facing direction bounds)
-  faced_single = λ place past there.
-      let below : place < length bounds = omega (arith, there, length_facing direction bounds) in
-      ap (λ (b : Difference). b.from) (bound_facing direction bounds place below) ∙ (faced_ends direction (bound_at bounds place)).0 ∙ single place past below
+  faced_single = search (rules, length_facing, bound_facing)
 
   faced_from : (faced direction bound).from ≡ 0
   faced_from = (faced_ends direction bound).0 ∙ from
@@ -165,7 +158,6 @@ module _ {A : Type 0} (direction : Direction) (events : ℕ) (given bounds : Lis
       → IsEnds direction events (length given) (bounds ++ bound ∷ []) new
   ends_narrowed new rows tables start own met fall here floors =
       let to = (faced_ends direction bound).1 in
-      let f = new.search.far.items in
       record {
         rows_are = subst (λ l. AreRows direction events l (events + 1) new.rows) (sym (take-append-le (length given) bounds (bound ∷ []) bounds_within))
             (subst (AreRows direction events (take (length given) bounds) (events + 1)) (sym rows) are.rows_are);

@@ -1,4 +1,4 @@
-use Rattle.std.proofs.{Common.{◌≡◌, inl, inr, ℕ, zero, suc, ◌+◌, ◌≤◌, List, [], ◌∷◌, ◌++◌, length, take, sym, subst, ap, refl, ◌∙◌, arith}, lemmas.{Int.ints, Bool.cases_order, List.{length_push, take-take}}}
+use Rattle.std.proofs.{Common.{rules, ◌≡◌, inl, inr, ℕ, zero, suc, ◌+◌, ◌≤◌, List, [], ◌∷◌, ◌++◌, length, take, sym, subst, ap, refl, ◌∙◌, arith}, lemmas.{Int.ints, Bool.cases_order, List.{length_push, take-take}}}
 use Rattle.stn_time.proofs.Each.{each_parted}
 use Rattle.stn_net.{specs.{Difference.Difference, Schedule.{IsSchedule, HasSchedule}}, proofs.Tightest.tightest_unique}
 use Rattle.stn_conflict.{specs.{declared.links.{Link.Link, Side.{Side, TheVariants.{Upper, Lower}}}, Arcs.{arc_of, bound_at, rank, side_rank}, Culprit.{IsRefusedSide, IsCulprit}, Named.{IsLevel, IsLevelStep, IsFirstStep, IsWay, IsNamedCycle}}, proofs.{Tightness.schedule_before, Chains.{IsPushedChain, chain-unpush, last_of}}}
@@ -19,17 +19,11 @@ rank_tells one other e = tells one.side other.side refl refl
 
 -- an event has one level
 pub level_unique : (bounds : List Difference) (start x i k : ℕ) → IsLevel bounds start x i → IsLevel bounds start x k → i ≡ k
-level_unique bounds start x i k one other =
-    let (cs, c, c_long) = one.reached in
-    let (ds, d, d_long) = other.reached in
-    omega (arith, one.least ds d, other.least cs c)
+level_unique bounds start x i k one other = omega arith
 
 -- the start has the level 0
 pub level_of_start : (bounds : List Difference) (start : ℕ) → IsLevel bounds start start 0
-level_of_start bounds start = record {
-  reached = ([], record { chain = refl; tight = tt }, refl);
-  least = λ links chain. omega arith;
-}
+level_of_start bounds start = search rules
 
 -- no step ends at the start
 pub no_step_to_start : (bounds : List Difference) (start : ℕ) (link : Link) → (arc_of bounds link).to ≡ start → ¬ IsLevelStep bounds start link
@@ -40,12 +34,7 @@ no_step_to_start bounds start link e step =
 
 -- two first steps that end at one event are one link
 pub first_step_unique : (bounds : List Difference) (start : ℕ) (one other : Link) → (arc_of bounds one).to ≡ (arc_of bounds other).to → IsFirstStep bounds start one → IsFirstStep bounds start other → one ≡ other
-first_step_unique bounds start one other e p q =
-    elim (cases_order (rank one) (rank other)) [
-      | inl same ↦ rank_tells one other same
-      | inr (inl below) ↦ absurd (q.first one below e p.step)
-      | inr (inr above) ↦ absurd (p.first other above (sym e) q.step)
-    ]
+first_step_unique bounds start one other e p q = search rules
 
 -- a way that is not empty has a last first step, and before it is a way to where that begins
 unpush_way : (bounds : List Difference) (start x : ℕ) (links : List Link) (link : Link) → IsWay bounds start x (links ++ link ∷ []) → IsPushedChain bounds links link start x × IsWay bounds start (arc_of bounds link).from links × IsFirstStep bounds start link

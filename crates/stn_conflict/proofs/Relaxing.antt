@@ -1,15 +1,12 @@
-use Rattle.std.{proofs.{Common.{◌≡◌, ◌≢◌, inl, inr, ℕ, Bool, true, false, ◌||◌, lt-ltb, le-ltb, ◌+◌, ◌<◌, ◌≤◌, List, [], ◌∷◌, ◌++◌, length, get_or, set, take, replicate, sym, subst, ap, refl, ◌∙◌, arith}, lemmas.{Int.ints, Bool.{cases_eq, cases_lt, false≢true, or_left, or_right}, List.{take-take, get_or-set_same, get_or-set_other, get_or-replicate, get_or-take, get_or_default, get_or_push, length-take, length-append, length-set, length-replicate, Elements.{All-from_get_or, All-take, All-append, All-push}}}}, specs.Prelude.{ℤ, pos, ◌+ℤ◌, ◌-ℤ◌, ◌≤ℤ◌, nat_lt, int_lt, IsTrue, All}}
+use Rattle.std.proofs.lemmas.Grind.{common_steps}
+use Rattle.std.{proofs.{Common.{rules, ◌≡◌, ◌≢◌, inl, inr, ℕ, Bool, true, false, ◌||◌, lt-ltb, le-ltb, ◌+◌, ◌<◌, ◌≤◌, List, [], ◌∷◌, ◌++◌, length, get_or, set, take, replicate, sym, subst, ap, refl, ◌∙◌, arith}, lemmas.{Int.ints, Bool.{cases_eq, cases_lt, false≢true, or_left, or_right}, List.{take-take, get_or-set_same, get_or-set_other, get_or-replicate, get_or-take, get_or_default, get_or_push, length-take, length-append, length-set, length-replicate, Elements.{All-from_get_or, All-take, All-append, All-push}}}}, specs.Prelude.{ℤ, pos, ◌+ℤ◌, ◌-ℤ◌, ◌≤ℤ◌, nat_lt, int_lt, IsTrue, All}}
 use Rattle.stn_time.{specs.Time.{horizon}, proofs.Each.All-left}
 use Rattle.stn_net.{specs.{Difference.{Difference, NamesEvents}, Schedule.{Meets, IsSchedule, HasSchedule, times_of}, Horizon.horizon_bounds}, proofs.Widest.horizon_times}
 use Rattle.stn_conflict.{specs.{declared.links.{Link.Link, Side.{Side, TheVariants.{Upper, Lower}}}, Arcs.{Arc, arc, arc_of, bound_at}, Relaxation.{NamesAmong, IsNetwork, AreEstimates, AreDistances, AreLimited, AreRelaxed, IsArcBetween, IsFloor, IsListed, IsRelaxed, IsRelaxedBut, IsPossibleGap, is_fresh}}, proofs.{Lowering.{fell_elsewhere, stale_before}, Tightness.{arc_longer, schedule_before, link_kept, link_reaches, link_among}, Known.known_first, LevelTable.meets_moved}}
 
 -- the events of the plan are so many and the origin
 pub among_events : (bounds : List Difference) (events count : ℕ) → count ≡ events + 1 → All (NamesEvents events) bounds → All (NamesAmong count) bounds
-among_events bounds events count long named = λ k d below.
-    let ends = named k d below in
-    let from = ends.from in
-    let to = ends.to in
-    (omega arith, omega arith)
+among_events bounds events count long named = search rules
 
 -- bounds that begin with the horizon bounds keep all events within the horizon of each other
 pub network_known : (events : ℕ) (bounds : List Difference) → take events bounds ≡ horizon_bounds events → All (NamesEvents events) bounds → IsNetwork events bounds
@@ -34,8 +31,7 @@ network_known events bounds begins named = record {
 -- in a schedule of a network, two events are within the horizon of each other
 pub network_near : (events : ℕ) (bounds : List Difference) → IsNetwork events bounds → (time : ℕ → ℤ) → IsSchedule bounds time → (x y : ℕ) → x ≤ events → y ≤ events
     → (time y -ℤ time x) ≤ℤ horizon
-network_near events bounds network time s =
-    network.apart time (λ link there listed. let kept = link_kept bounds link time there s in omega (arith, ints))
+network_near events bounds network time s = search (rules, ints)
 
 -- where each link of a network that is looked at is relaxed, each is
 pub all_relaxed : (events : ℕ) (bounds : List Difference) (time : ℕ → ℤ) → IsNetwork events bounds → AreLimited events bounds time → AreRelaxed bounds time
@@ -54,10 +50,7 @@ all_relaxed events bounds time network met = λ link there. by_test link there (
 
 -- where more bounds are whole, no less is looked at
 pub listed_more : (less more : ℕ) (bounds : List Difference) (link : Link) → less ≤ more → IsListed less bounds link → IsListed more bounds link
-listed_more less more bounds link most listed = elim (cases_lt link.place less) [
-  | inl first ↦ or_left _ _ (lt-ltb link.place more (omega arith))
-  | inr past ↦ or_right _ _ (subst (λ b. (b || int_lt (arc_of bounds link).weight horizon) ≡ true) (le-ltb link.place less past) listed)
-]
+listed_more less more bounds link most listed = search rules
 
 -- where no estimate is fresh, each link is relaxed
 pub all_met : (whole : ℕ) (bounds : List Difference) (events : ℕ) (far : List ℤ) (fresh : List Bool) → events ≤ whole → IsNetwork events bounds → All (NamesAmong (events + 1)) bounds
@@ -67,23 +60,15 @@ all_met whole bounds events far fresh kept network named relaxed stale = all_rel
 
 -- bounds of a plan and more bounds after them
 pub network_of : (events : ℕ) (base extra : List Difference) → take events base ≡ horizon_bounds events → All (NamesEvents events) base → All (NamesEvents events) extra → IsNetwork events (base ++ extra)
-network_of events base extra begins base_named extra_named =
-    network_known events (base ++ extra) (known_first events base extra begins) (All-append (NamesEvents events) base extra base_named extra_named)
+network_of events base extra begins base_named extra_named = search (rules, network_known, known_first, All-append)
 
 -- and so do those before a place past the horizon bounds
 pub network_before : (events place : ℕ) (bounds : List Difference) → events ≤ place → take events bounds ≡ horizon_bounds events → All (NamesEvents events) bounds → IsNetwork events (take place bounds)
-network_before events place bounds past begins named =
-    network_known events (take place bounds) (take-take events place bounds past ∙ begins) (All-take (NamesEvents events) place bounds named)
+network_before events place bounds past begins named = search (rules, network_known, take-take, All-take)
 
 -- and so do all, with one more
 pub network_more : (events : ℕ) (bounds : List Difference) (bound : Difference) → IsNetwork events bounds → NamesEvents events bound → IsNetwork events (bounds ++ bound ∷ [])
-network_more events bounds bound network named = record {
-  named = All-push (NamesEvents events) bounds bound network.named named;
-  apart = λ time met. network.apart time (λ link there listed.
-      let same = arc_longer bounds (bound ∷ []) link there in
-      subst (λ (a : Arc). time a.to ≤ℤ (time a.from +ℤ a.weight)) same
-      (met link (omega (arith, there, length-append bounds (bound ∷ []))) (subst (λ (a : Arc). IsTrue (nat_lt link.place events || int_lt a.weight horizon)) (sym same) listed)));
-}
+network_more events bounds bound network named = grind (arith, common_steps, All-push, arc_longer)
 
 -- a network has no event later after another than the horizon, nor earlier
 pub network_estimates : (bounds : List Difference) (events start : ℕ) (far : List ℤ) → far ≡ set (replicate (events + 1) horizon) start (pos 0) → start ≤ events
@@ -126,20 +111,12 @@ estimates_of_more bounds events low middle start far more long named h =
 -- a schedule, moved so that `start` stands at 0, is a floor of the estimates
 pub floor_of : (bounds : List Difference) (start : ℕ) (far : List ℤ) (time : ℕ → ℤ) → AreEstimates bounds start far → IsSchedule bounds time
     → IsFloor bounds start far (λ x. time x -ℤ time start)
-floor_of bounds start far time h s = record {
-  own = omega (arith, ints);
-  within = h.least time s;
-  below = h.sound time s;
-  met = λ link there. (let kept = link_kept bounds link time there s in omega (arith, ints));
-}
+floor_of bounds start far time h s = search (rules, ints)
 
 -- by a floor the link's end comes no later than the estimate at its beginning and the link allow
 pub below_way : (bounds : List Difference) (start : ℕ) (far : List ℤ) (link : Link) (low : ℕ → ℤ) → All (NamesAmong (length far)) bounds → link.place < length bounds
     → IsFloor bounds start far low → low (arc_of bounds link).to ≤ℤ (times_of far (arc_of bounds link).from +ℤ (arc_of bounds link).weight)
-below_way bounds start far link low named there h =
-    let begin = h.below (arc_of bounds link).from (link_among bounds (length far) link named there).0 in
-    let met = h.met link there in
-    omega (arith, ints)
+below_way bounds start far link low named there h = grind (arith, link_among, ints)
 
 -- where each link is relaxed, the estimates, moved so that the origin stands at 0, are a schedule
 pub relaxed_schedule : (bounds : List Difference) (far : List ℤ) → AreRelaxed bounds (times_of far)
@@ -176,8 +153,7 @@ back_over bounds start here from weight sum (link, there, is) kept low met =
 -- where all estimates are fresh, nothing is claimed
 pub all_fresh : (whole : ℕ) (bounds : List Difference) (far : List ℤ) (fresh : List Bool) (count : ℕ) → fresh ≡ replicate count true → All (NamesAmong count) bounds
     → IsRelaxedBut whole bounds far fresh
-all_fresh whole bounds far fresh count is named = λ link there listed stale.
-    absurd (false≢true (sym stale ∙ ap (λ l. is_fresh l (arc_of bounds link).from) is ∙ get_or-replicate count (arc_of bounds link).from true true (link_among bounds count link named there).0))
+all_fresh whole bounds far fresh count is named = search (rules, get_or-replicate, link_among)
 
 -- over the distances each link is met
 pub distances_relaxed : (bounds : List Difference) (start : ℕ) (far : List ℤ) → AreDistances bounds start far → AreRelaxed bounds (times_of far)
@@ -200,8 +176,6 @@ pub estimates_push : (events start : ℕ) (bounds : List Difference) (bound : Di
 estimates_push events start bounds bound far long ends h =
     let back : (time : ℕ → ℤ) → IsSchedule (bounds ++ bound ∷ []) time → IsSchedule bounds time =
     λ time s. record { origin = s.origin; met = All-left (Meets time) bounds (bound ∷ []) s.met } in
-    let from = ends.from in
-    let to = ends.to in
     record {
       named = All-push (NamesAmong (length far)) bounds bound h.named (omega arith, omega arith);
       start_named = h.start_named;

@@ -1,5 +1,5 @@
 -- Rows of looks, by the event at which their links begin.
-use Rattle.std.{proofs.{Common.{◌≡◌, ◌≢◌, inl, inr, ℕ, zero, suc, min, ◌||◌, ◌+◌, ◌-◌, ◌*◌, ◌<◌, ◌≤◌, List, [], ◌∷◌, ◌++◌, length, map, set, take, refl, sym, subst, ap, ◌∙◌, arith}, lemmas.{Bool.{cases_eq, cases_lt}, List.{map-set, map-append, get_or-map, get_or_default, get_or-take, length-map, length-set, length-take, length-append, get_or-set_same, get_or-set_other, get_or_append_left, get_or-append_right, get_or_past, Sorted.{IsNonDecreasingBy-push, IsNonDecreasingBy-short}, Elements.{Contains-push, Contains-append_left, Contains-push_cases}}}}, specs.{Prelude.{Vec, nat_lt, int_lt, IsTrue, slice_index_or}, List.{Contains, Sorted.IsNonDecreasingBy}}}
+use Rattle.std.{proofs.{Common.{rules, ◌≡◌, ◌≢◌, inl, inr, ℕ, zero, suc, min, ◌||◌, ◌+◌, ◌-◌, ◌*◌, ◌<◌, ◌≤◌, List, [], ◌∷◌, ◌++◌, length, map, set, take, refl, sym, subst, ap, ◌∙◌, arith}, lemmas.{Bool.{cases_eq, cases_lt}, List.{map-set, map-append, get_or-map, get_or_default, get_or-take, length-map, length-set, length-take, length-append, get_or-set_same, get_or-set_other, get_or_append_left, get_or-append_right, get_or_past, Sorted.{IsNonDecreasingBy-push, IsNonDecreasingBy-short}, Elements.{Contains-push, Contains-append_left, Contains-push_cases}}}}, specs.{Prelude.{Vec, nat_lt, int_lt, IsTrue, slice_index_or}, List.{Contains, Sorted.IsNonDecreasingBy}}}
 use Rattle.stn_time.specs.Time.{horizon}
 use Rattle.stn_net.specs.Difference.{Difference}
 use Rattle.stn_conflict.{specs.{declared.{arcs.Direction.Direction, links.Link.Link, outgoing.{Look.Look, Rows.Rows}}, Arcs.{Arc, arc_of, rank}, Directions.facing, Relaxation.{row_of, AreFirstRows, AreRowsTo, HasLink, HasRows, IsCutAt, IsListed, IsLook, IsRow}}, proofs.{OneCycle.rank_tells, Steps.{place_of_rank, rank_place, rank_within}, Tightness.{arc_before, arc_longer}, Turned.{append_facing, length_facing, take_facing}}}
@@ -21,30 +21,15 @@ cut_has row place count link cut below (look, (k, within, at), names) = elim (ca
 
 -- and no others
 cut_in : (row : List Look) (place count : ℕ) (look : Look) → IsCutAt row place count → Contains (take count row) look → Contains row look × (look.link.place < place)
-cut_in row place count look cut (k, within, at) =
-    let front : k < count = omega (arith, length-take count row) in
-    let read : slice_index_or row k look ≡ look = sym (get_or-take count row k look front) ∙ at in
-    ((k, omega (arith, length-take count row), read), omega (arith, cut.before k look front, ap (λ (l : Look). l.link.place) read))
+cut_in row place count look cut (k, within, at) = search (rules, get_or-take)
 
 -- in the same order
 cut_ordered : (row : List Look) (place count : ℕ) → IsCutAt row place count → IsNonDecreasingBy (λ look. look.link.place) row → IsNonDecreasingBy (λ look. look.link.place) (take count row)
-cut_ordered row place count cut ordered = λ i j d before within.
-    let front : j < count = omega (arith, length-take count row) in
-    omega (
-      arith,
-      ordered i j d before (omega (arith, length-take count row)),
-      ap (λ (l : Look). l.link.place) (get_or-take count row i d (omega arith)),
-      ap (λ (l : Look). l.link.place) (get_or-take count row j d front),
-    )
+cut_ordered row place count cut ordered = search (rules, get_or-take)
 
 -- a look at a link that says the same of other bounds
 look_moved : (bounds other : List Difference) (event : ℕ) (look : Look) → look.link.place < length other → arc_of bounds look.link ≡ arc_of other look.link → IsLook bounds event look → IsLook other event look
-look_moved bounds other event look there same is = record {
-  there = there;
-  from = ap (λ (a : Arc). a.from) (sym same) ∙ is.from;
-  to = ap (λ (a : Arc). a.to) (sym same) ∙ is.to;
-  weight = ap (λ (a : Arc). a.weight) (sym same) ∙ is.weight;
-}
+look_moved bounds other event look there same is = search rules
 
 module _ {A : Type 0} where
   -- the looks of each row
@@ -57,10 +42,7 @@ module _ {A : Type 0} where
 
   -- a row with a link is one of the rows
   there : (rows : List (Vec Look A)) (x : ℕ) (link : Link) {count : ℕ} → length rows ≡ count → HasLink (row_of rows x) link → x < count
-  there rows x link long (look, has, names) = elim (cases_lt x (length rows)) [
-    | inl within ↦ omega arith
-    | inr past ↦ (let (k, below, at) = subst (λ l. Contains l look) (past_rows rows x past) has in absurd (omega arith))
-  ]
+  there rows x link long (look, has, names) = search (rules, past_rows)
 
   -- one more empty row
   pub rows_empty : (rows : List (Vec Look A)) (row : Vec Look A) → ((x : ℕ) → row_of rows x ≡ []) → row.items ≡ [] → (x : ℕ) → row_of (rows ++ row ∷ []) x ≡ []
@@ -90,14 +72,10 @@ module _ {A : Type 0} where
 
   -- a row that is put in place of another, and the others
   pub replaced_here : (rows : List (Vec Look A)) (from : ℕ) (row : Vec Look A) → from < length rows → row_of (set rows from row) from ≡ row.items
-  replaced_here rows from row there =
-      let long = length-map rows (λ (r : Vec Look A). r.items) in
-      let below : from < length (lists rows) = omega arith in
-      ap (λ l. slice_index_or l from []) (map-set (λ (r : Vec Look A). r.items) rows from row) ∙ get_or-set_same (lists rows) from row.items [] below
+  replaced_here rows from row there = search (rules, length-map, map-set)
 
   pub replaced_other : (rows : List (Vec Look A)) (from : ℕ) (row : Vec Look A) (x : ℕ) → x ≢ from → row_of (set rows from row) x ≡ row_of rows x
-  replaced_other rows from row x apart =
-      ap (λ l. slice_index_or l x []) (map-set (λ (r : Vec Look A). r.items) rows from row) ∙ get_or-set_other (lists rows) from x row.items [] apart
+  replaced_other rows from row x apart = search (rules, map-set)
 
   -- a row that is read
   pub row_is : (rows : List (Vec Look A)) (x : ℕ) (row : Vec Look A) → x < length rows → row ≡ slice_index_or rows x row → row_of rows x ≡ row.items
@@ -211,9 +189,7 @@ module _ {A : Type 0} where
   -- the same, as the rows themselves say
   pub first_own : (direction : Direction) (whole : ℕ) (bounds : List Difference) (count : ℕ) (rows : Rows A) → AreFirstRows direction whole bounds count rows
       → AreFirstRows rows.direction rows.whole bounds (length rows.outgoing.items) rows
-  first_own direction whole bounds count rows h =
-      subst (λ n. AreFirstRows rows.direction rows.whole bounds n rows) (sym h.stand.long)
-      (subst (λ d. AreFirstRows d rows.whole bounds count rows) (sym h.faced) (subst (λ w. AreFirstRows direction w bounds count rows) (sym h.choice) h))
+  first_own direction whole bounds count rows h = search rules
 
   -- the looks of a row at links before a place are those of the bounds before it
   pub row_cut : (events end x count : ℕ) (bounds : List Difference) (rows : Rows A) → HasRows events end bounds rows → IsCutAt (row_of rows.outgoing.items x) end count

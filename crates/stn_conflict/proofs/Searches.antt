@@ -1,4 +1,5 @@
 -- How a search goes on.
+use Rattle.std.proofs.lemmas.Grind.{common_steps}
 use Rattle.std.{proofs.{Common.{◌≡◌, ℕ, ◌+◌, ◌≤◌, List, Result, Ok, Err, length, refl, sym, subst, ap, ◌∙◌, arith}, lemmas.Bool.false≢true}, specs.{Prelude.{ℤ, All, OnOk, is_ok, is_err, true}}}
 use Rattle.stn_net.specs.{Difference.Difference, Schedule.{HasSchedule, times_of}}
 use Rattle.stn_conflict.{specs.{declared.relaxation.Search.Search, Relaxation.{AreDistances, AreRelaxed, HasTables, IsBegun, IsFloor, IsNetwork, IsSearch, Lowers, NamesAmong, Searched}}, proofs.Relaxing.{floor_of, settled}}
@@ -11,14 +12,7 @@ module _ {A : Type 0} where
   -- a search has begun
   pub begun_of : (searched : Searched) (search : Search A) → IsNetwork searched.events searched.bounds → searched.events ≤ searched.whole → IsSearch searched.bounds search.start (searched.events + 1) search
       → IsBegun searched search
-  begun_of searched search network kept h = record {
-    tables = h.tables;
-    network = network;
-    kept = kept;
-    named = subst (λ n. All (NamesAmong n) searched.bounds) h.tables.far h.estimates.named;
-    start_named = omega (arith, h.estimates.start_named, h.tables.far);
-    own = h.estimates.own;
-  }
+  begun_of searched search network kept h = grind (arith)
 
   module _ (searched : Searched) (old new : Search A) (was : IsSearch searched.bounds old.start (searched.events + 1) old) (begun : IsBegun searched new) (start : new.start ≡ old.start)
       (lowers : Lowers searched.bounds old.start old.far.items new.far.items) where

@@ -1,5 +1,5 @@
 -- The earliest, the latest and the soonest times that a search finds.
-use Rattle.std.{proofs.{Common.{◌≡◌, ℕ, ℤ, pos, ◌+◌, ◌≤◌, ◌≤ℤ◌, neg_ℤ, Bool, List, ◌++◌, length, map, sym, subst, append_assoc, arith}, lemmas.{Int.ints, List.{get_or-map, Elements.All-append}}}, specs.Prelude.{Vec, All, Option, Some, None, MatchOption}}
+use Rattle.std.{proofs.{Common.{rules, ◌≡◌, ℕ, ℤ, pos, ◌+◌, ◌≤◌, ◌≤ℤ◌, neg_ℤ, Bool, List, ◌++◌, length, map, sym, subst, append_assoc, arith}, lemmas.{Int.ints, List.{get_or-map, Elements.All-append}}}, specs.Prelude.{Vec, All, Option, Some, None, MatchOption}}
 use Rattle.stn_time.specs.Time.{horizon}
 use Rattle.stn_net.{specs.{Difference.{Difference, NamesEvents}, Schedule.{IsSchedule, HasSchedule, times_of}, Windows.{Window.IsInWindow, Dispatch.{IsLeft, CanWaitUntil}, Leading.AreFloorsBelow, Soonest.{AreEarliest, AreLatest, AreSoonest}}}, proofs.{Readiness.left_within, Ends.{earliest_of_tightest, latest_of_tightest}, Soonest.{waits_above, soonest_of_earliest}}}
 use Rattle.stn_conflict.{specs.{declared.relaxation.Search.Search, Distances.{AreDistancesFrom, AreDistancesTo}, Relaxation.{AreDistances, HasTables, IsNetwork}}, proofs.Relaxing.network_near}
@@ -30,7 +30,6 @@ module _ (base extra floors : List Difference) (events : ℕ) (done : List Bool)
     (named : All (NamesEvents events) floors) (are : AreFloorsBelow done now (length done) floors) where
   by_horizon : (times : ℕ → ℤ) → IsSchedule (base ++ extra) times → (event : ℕ) → IsLeft done event → times event ≤ℤ horizon
   by_horizon times schedule event left =
-      let origin = schedule.origin in
       let near = network_near events (base ++ extra) network times schedule 0 event (omega arith) (omega (arith, left_within done event left)) in
       omega (arith, ints)
 
@@ -39,9 +38,4 @@ module _ (base extra floors : List Difference) (events : ℕ) (done : List Bool)
       → MatchOption found (¬ HasSchedule (base ++ (extra ++ floors))) (λ times. (length times.items ≡ events + 1) × AreEarliest (base ++ (extra ++ floors)) events (times_of times.items))
       → MatchOption found (¬ CanWaitUntil (base ++ extra) done now) (λ times. (length times.items ≡ events + 1) × AreSoonest (base ++ extra) done now (times_of times.items))
   found_soonest None none = λ can. none (subst HasSchedule (append_assoc base extra floors) ((waits_above (base ++ extra) floors done now are by_horizon).1 can))
-  found_soonest (Some times) (long, earliest) = (
-    long,
-    soonest_of_earliest (base ++ extra) floors done now are by_horizon events (times_of times.items) one_each
-        (All-append (NamesEvents events) (base ++ extra) floors network.named named)
-        (subst (λ bounds. AreEarliest bounds events (times_of times.items)) (sym (append_assoc base extra floors)) earliest),
-  )
+  found_soonest (Some times) (long, earliest) = search (rules, soonest_of_earliest, by_horizon, All-append, append_assoc)

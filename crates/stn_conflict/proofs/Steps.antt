@@ -1,4 +1,4 @@
-use Rattle.std.{proofs.{Common.{◌≡◌, ◌≢◌, inl, inr, ℕ, zero, suc, ◌+◌, ◌*◌, ◌<◌, ◌≤◌, Option, Some, lt-ltb, List, [], ◌∷◌, ◌++◌, length, eqb, eqb-true, eq-eqb, sym, subst, ap, refl, ◌∙◌, arith, to_z, of_z, w64}, lemmas.{List.{get_or_default, reverse-append}, Bool.{cases_eq, cases_lt, or_left}, Int.ints}}, specs.{Prelude.{ℤ, ◌+ℤ◌, IsTrue, reverse, slice_index_or}, List.AllByRecursion}}
+use Rattle.std.{proofs.{Common.{rules, ◌≡◌, ◌≢◌, inl, inr, ℕ, zero, suc, ◌+◌, ◌*◌, ◌<◌, ◌≤◌, Option, Some, lt-ltb, List, [], ◌∷◌, ◌++◌, length, eqb, eqb-true, eq-eqb, sym, subst, ap, refl, ◌∙◌, arith, to_z, of_z, w64}, lemmas.{List.{get_or_default, reverse-append}, Bool.{cases_eq, cases_lt, or_left}, Int.ints}}, specs.{Prelude.{ℤ, ◌+ℤ◌, IsTrue, reverse, slice_index_or}, List.AllByRecursion}}
 use Rattle.stn_time.specs.Time.{IsWithinHorizon}
 use Rattle.stn_net.specs.{Difference.Difference, Matrix.Tightest.IsTightest}
 use Rattle.stn_conflict.{specs.{declared.{links.{Link.Link, Side.{Side, TheVariants.{Upper, Lower}}}, outgoing.Look.Look}, Arcs.{arc, arc_of, bound_at, rank, side_rank, IsChain}, Named.{IsTight, IsLevel, IsLevelStep, IsFirstStep}, Relaxation.{HasLink, IsRow, Searched}, Search.{other_side, across, HasLevels, HasNoStep, IsFirstStepTo}}, proofs.{Tightness.{tight_from_sum, sum_from_tight}, OneCycle.{link_same, level_unique}}}
@@ -7,19 +7,11 @@ use Rattle.stn_conflict.{specs.{declared.{links.{Link.Link, Side.{Side, TheVaria
 pub sum_test : (m w n : ℤ) → IsWithinHorizon m → IsWithinHorizon w → IsWithinHorizon n
     → (IsTrue (eqb (of_z w64 (to_z w64 (of_z w64 m) +ℤ to_z w64 (of_z w64 w))) (of_z w64 n)) → m +ℤ w ≡ n)
     × (m +ℤ w ≡ n → IsTrue (eqb (of_z w64 (to_z w64 (of_z w64 m) +ℤ to_z w64 (of_z w64 w))) (of_z w64 n)))
-sum_test m w n (ml, mh) (wl, wh) (nl, nh) = (
-  λ t. let e = ap (to_z w64) (eqb-true _ _ t) in omega (arith, ints, e),
-  λ e. let s : to_z w64 (of_z w64 m) +ℤ to_z w64 (of_z w64 w) ≡ n = omega (arith, ints, e) in eq-eqb _ _ (ap (of_z w64) s),
-)
+sum_test m w n (ml, mh) (wl, wh) (nl, nh) = search rules
 
 -- a link is tight exactly where its weight is the difference of the tightest differences to its ends
 pub tight_decided : (bounds : List Difference) (start : ℕ) (link : Link) (x y : ℕ) (w m n : ℤ) → link.place < length bounds → x ≡ (arc_of bounds link).from → y ≡ (arc_of bounds link).to → w ≡ (arc_of bounds link).weight → IsTightest bounds start x m → IsTightest bounds start y n → (m +ℤ w ≡ n → IsTight bounds start link) × (IsTight bounds start link → m +ℤ w ≡ n)
-tight_decided bounds start link x y w m n there from to weight near far =
-    let near' : IsTightest bounds start (arc_of bounds link).from m = subst (λ z. IsTightest bounds start z m) from near in
-    let far' : IsTightest bounds start (arc_of bounds link).to n = subst (λ z. IsTightest bounds start z n) to far in (
-      λ e. tight_from_sum bounds start link m n there near' far' (ap (λ z. m +ℤ z) (sym weight) ∙ e),
-      λ t. ap (λ z. m +ℤ z) weight ∙ sum_from_tight bounds start link m n near' far' t,
-    )
+tight_decided bounds start link x y w m n there from to weight near far = search rules
 
 -- a tight link whose entries differ by one is a step
 pub step_from_entries : (bounds : List Difference) (start events : ℕ) (levels : ℕ → Option ℕ) (link : Link) (x y : ℕ) → HasLevels bounds start events levels → x ≡ (arc_of bounds link).from → y ≡ (arc_of bounds link).to → IsTight bounds start link → (level : ℕ) × (levels x ≡ Some level) × (levels y ≡ Some (suc level)) → IsLevelStep bounds start link
@@ -44,7 +36,7 @@ rank_within count link there = omega (arith, side_low link.side)
 
 -- and only these
 pub rank_place : (link : Link) (count : ℕ) → rank link < 2 * count → link.place < count
-rank_place link count below = omega (arith, side_low link.side)
+rank_place link count below = omega (arith)
 
 -- a link that stands before another is of no later bound
 pub place_of_rank : (one other : Link) → rank one ≤ rank other → one.place ≤ other.place
@@ -89,9 +81,7 @@ link_before_across one link place before = sides one.side link.side refl refl
 
 -- a step ends at another event
 step_leaves : (bounds : List Difference) (start : ℕ) (link : Link) → IsLevelStep bounds start link → (arc_of bounds link).from ≢ (arc_of bounds link).to
-step_leaves bounds start link step same =
-    let (level, low, high) = step.level in
-    absurd (omega (arith, level_unique bounds start _ level (suc level) low (subst (λ x. IsLevel bounds start x (suc level)) (sym same) high)))
+step_leaves bounds start link step same = search rules
 
 -- none of the first links of a row is across from a step
 abbrev pub ArePassed : List Difference → ℕ → List Look → ℕ → Type 0
@@ -100,13 +90,7 @@ ArePassed bounds start row seen = (k : ℕ) (look : Look) → k < seen → slice
 -- one more
 pub passed_more : (bounds : List Difference) (start seen : ℕ) (row : List Look) (look : Look) → seen < length row → slice_index_or row seen look ≡ look
     → ¬ IsLevelStep bounds start (across look.link) → ArePassed bounds start row seen → ArePassed bounds start row (seen + 1)
-passed_more bounds start seen row look there here none passed = λ k other below at.
-    elim (cases_eq k seen) [
-      | inl same ↦
-          let e : other ≡ look = sym at ∙ ap (λ n. slice_index_or row n other) same ∙ get_or_default row seen other look there ∙ here in
-          λ step. none (subst (λ (l : Look). IsLevelStep bounds start (across l.link)) e step)
-      | inr differs ↦ passed k other (omega arith) at
-    ]
+passed_more bounds start seen row look there here none passed = search (rules, get_or_default)
 
 module _ (searched : Searched) (start event seen : ℕ) (row : List Look) (whole : length searched.bounds ≤ searched.whole) (is : IsRow searched event row) where
   -- a link that ends at the event stands in its row, across
@@ -149,9 +133,7 @@ module _ (searched : Searched) (start event seen : ℕ) (row : List Look) (whole
 
   -- where no link of the event's row is across from a step, none leads to the event
   pub none_in_row : length row ≤ seen → ArePassed searched.bounds start row seen → HasNoStep searched.bounds start event
-  none_in_row all passed = λ link ends step.
-      let (found, (k, within, at), names) = across_in_row link step.tight.there ends in
-      passed k found (omega arith) at (subst (IsLevelStep searched.bounds start) (sym (ap across names ∙ across_twice link)) step)
+  none_in_row all passed = search (rules, across_in_row)
 
 -- a step to an event begins one level lower
 pub lower_by_one : (bounds : List Difference) (start count x : ℕ) (levels : ℕ → Option ℕ) (link : Link) → HasLevels bounds start count levels
@@ -174,8 +156,4 @@ at_start bounds start count x levels has none within =
 
 -- a first step added before a way to its end
 pub chain_before_way : (bounds : List Difference) (start here x : ℕ) (links : List Link) (link : Link) → IsFirstStep bounds start link → (arc_of bounds link).to ≡ here → IsChain bounds (reverse links) here x → AllByRecursion (IsFirstStep bounds start) (reverse links) → IsChain bounds (reverse (links ++ link ∷ [])) (arc_of bounds link).from x × AllByRecursion (IsFirstStep bounds start) (reverse (links ++ link ∷ []))
-chain_before_way bounds start here x links link first ends chain all =
-    let e = reverse-append links (link ∷ []) in (
-      subst (λ l. IsChain bounds l (arc_of bounds link).from x) (sym e) (first.step.tight.there, refl, subst (λ z. IsChain bounds (reverse links) z x) (sym ends) chain),
-      subst (AllByRecursion (IsFirstStep bounds start)) (sym e) (first, all),
-    )
+chain_before_way bounds start here x links link first ends chain all = search (rules, reverse-append)

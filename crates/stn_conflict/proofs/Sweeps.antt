@@ -1,6 +1,6 @@
 -- Each sweep that lowers anything leaves fewer estimates above the highest times that are a floor: else all that are above these could be raised by one,
 -- and be a floor still.
-use Rattle.std.{proofs.{Common.{◌≡◌, inl, inr, ℕ, zero, suc, ◌+◌, ◌<◌, ◌≤◌, Bool, false, List, length, refl, subst, arith}, lemmas.{Int.{ints, by_lt_z}, Bool.{cases_eq, cases_lt}}}, specs.Prelude.{ℤ, pos, negsuc, ◌+ℤ◌, ◌-ℤ◌, ◌≤ℤ◌, ◌<ℤ◌, All, unsigned_abs}}
+use Rattle.std.{proofs.{Common.{rules, ◌≡◌, inl, inr, ℕ, zero, suc, ◌+◌, ◌<◌, ◌≤◌, Bool, false, List, length, refl, subst, arith}, lemmas.{Int.{ints, by_lt_z}, Bool.{cases_eq, cases_lt}}}, specs.Prelude.{ℤ, pos, negsuc, ◌+ℤ◌, ◌-ℤ◌, ◌≤ℤ◌, ◌<ℤ◌, All, unsigned_abs}}
 use Rattle.stn_net.specs.{Difference.Difference, Schedule.times_of}
 use Rattle.stn_conflict.{specs.{Arcs.arc_of, Relaxation.{AreLimited, HasFallen, IsFloor, IsNetwork, IsRelaxedBut, Lowers, NamesAmong, is_fresh}}, proofs.{Relaxing.{all_relaxed, listed_more}, Tightness.link_among}}
 
@@ -18,7 +18,6 @@ total_most : (n : ℕ) (f g : ℕ → ℕ) → ((x : ℕ) → x < n → f x ≤ 
 total_most zero f g most = omega arith
 total_most (suc n) f g most =
     let before = total_most n f g (λ x below. most x (omega arith)) in
-    let last = most n (omega arith) in
     omega arith
 
 total_less : (n x : ℕ) (f g : ℕ → ℕ) → ((x : ℕ) → x < n → f x ≤ g x) → x < n → f x < g x → total n f < total n g
@@ -30,7 +29,6 @@ total_less (suc n) x f g most below less = elim (cases_eq x n) [
       omega arith
   | inr differs ↦
       let before = total_less n x f g (λ x below. most x (omega arith)) (omega arith) less in
-      let last = most n (omega arith) in
       omega arith
 ]
 
@@ -127,23 +125,14 @@ module _ (whole events : ℕ) (bounds : List Difference) (start : ℕ) (first mi
   floor = sweep.floors top (before.floors top highest.floor)
 
   still : (x : ℕ) → x < length new → lifted new x ≤ lifted mid x
-  still x there =
-      let low = floor.below x there in
-      let fall = sweep.fall x in
-      by_lt_z (pos 0) (times_of new x -ℤ top x)
-      (λ more. (let one = sign_above (times_of mid x -ℤ top x) (omega (arith, ints)) in let now = sign_above (times_of new x -ℤ top x) more in omega arith))
-      (λ none. (let zero = sign_else (times_of new x -ℤ top x) none in omega arith))
+  still x there = search rules
 
   -- the highest floor, and one more where the estimates are above it
   abbrev raised : ℕ → ℤ
   raised x = top x +ℤ pos (lifted new x)
 
   raised_most : (x : ℕ) → x < length new → raised x ≤ℤ times_of new x
-  raised_most x there =
-      let low = floor.below x there in
-      by_lt_z (pos 0) (times_of new x -ℤ top x)
-      (λ more. (let one = sign_above (times_of new x -ℤ top x) more in omega (arith, ints)))
-      (λ none. (let zero = sign_else (times_of new x -ℤ top x) none in omega (arith, ints)))
+  raised_most x there = search (rules, floor, by_lt_z, sign_above, ints)
 
   module _ (all : (x : ℕ) → x < length new → lifted mid x ≤ lifted new x) where
     raised_met : AreLimited events bounds raised
@@ -199,8 +188,6 @@ module _ (whole events : ℕ) (bounds : List Difference) (start : ℕ) (first mi
           | inl less ↦ (let fewer : above (length new) top new < above (length new) top mid = total_less (length new) x (lifted new) (lifted mid) still there less in absurd (omega (arith, more)))
           | inr same ↦ same
         ]) in
-        let long = before.long in
-        let longer = sweep.long in
         let low = floor.below event fell.there in
         let less = fell.less in
         let was = sign_above (times_of mid event -ℤ top event) (omega (arith, ints)) in

@@ -1,12 +1,10 @@
-use Rattle.std.{proofs.{Common.{◌≡◌, ℕ, ◌<◌, List, ◌++◌, length, take, sym, subst, ap, ◌∙◌, arith}, lemmas.{Int.ints, List.{get_or-take, get_or_append_left, Elements.All-take}}}, specs.{Prelude.{ℤ, pos, ◌+ℤ◌, ◌-ℤ◌, ◌≤ℤ◌}, List.All}}
+use Rattle.std.{proofs.{Common.{rules, ◌≡◌, ℕ, ◌<◌, List, ◌++◌, length, take, sym, subst, ap, ◌∙◌, arith}, lemmas.{Int.ints, List.{get_or-take, get_or_append_left, Elements.All-take}}}, specs.{Prelude.{ℤ, pos, ◌+ℤ◌, ◌-ℤ◌, ◌≤ℤ◌}, List.All}}
 use Rattle.stn_net.{specs.{Difference.Difference, Schedule.{Meets, IsSchedule}, Matrix.Tightest.IsTightest}, proofs.Tightest.tightest_unique}
 use Rattle.stn_conflict.specs.{declared.links.{Link.Link, Side.{Side, TheVariants.{Upper, Lower}}}, Arcs.{arc, arc_of, bound_at}, Relaxation.NamesAmong, Named.IsTight}
 
 -- an event lies at 0 from itself
 pub tightest_self : (bounds : List Difference) (x : ℕ) (m : ℤ) → IsTightest bounds x x m → m ≡ pos 0
-tightest_self bounds x m far =
-    let (s, s_is, s_at) = far.attained in
-    omega (arith, ints)
+tightest_self bounds x m far = omega (arith, ints)
 
 -- a schedule of the bounds is one of those before a place
 pub schedule_before : (bounds : List Difference) (place : ℕ) (time : ℕ → ℤ) → IsSchedule bounds time → IsSchedule (take place bounds) time
@@ -19,14 +17,11 @@ arc_kept bound Lower time met = let low = met.0 in omega (arith, ints)
 
 -- a schedule keeps to what each link says
 pub link_kept : (bounds : List Difference) (link : Link) (time : ℕ → ℤ) → link.place < length bounds → IsSchedule bounds time → (time (arc_of bounds link).to -ℤ time (arc_of bounds link).from) ≤ℤ (arc_of bounds link).weight
-link_kept bounds link time there s =
-    arc_kept (bound_at bounds link.place) link.side time (s.met link.place _ there)
+link_kept bounds link time there s = search rules
 
 -- over a link the tightest differences from one event grow by its weight at most
 pub link_reaches : (bounds : List Difference) (start : ℕ) (link : Link) (m n : ℤ) → link.place < length bounds → IsTightest bounds start (arc_of bounds link).from m → IsTightest bounds start (arc_of bounds link).to n → n ≤ℤ (m +ℤ (arc_of bounds link).weight)
-link_reaches bounds start link m n there near far =
-    let (s, s_is, s_at) = far.attained in
-    omega (arith, ints, link_kept bounds link s there s_is, near.bound s s_is)
+link_reaches bounds start link m n there near far = search (rules, ints)
 
 -- a link of the bounds before a place is the same link of all the bounds
 pub arc_before : (bounds : List Difference) (place : ℕ) (link : Link) → link.place < place → arc_of (take place bounds) link ≡ arc_of bounds link
@@ -38,18 +33,11 @@ arc_longer bounds more link there = ap (λ b. arc b link.side) (get_or_append_le
 
 -- a link is tight where the tightest differences to its ends differ by its weight
 pub tight_from_sum : (bounds : List Difference) (start : ℕ) (link : Link) (m n : ℤ) → link.place < length bounds → IsTightest bounds start (arc_of bounds link).from m → IsTightest bounds start (arc_of bounds link).to n → m +ℤ (arc_of bounds link).weight ≡ n → IsTight bounds start link
-tight_from_sum bounds start link m n there near far e = record {
-  there = there;
-  tight = (m, near, subst (λ k. IsTightest bounds start (arc_of bounds link).to k) (sym e) far);
-}
+tight_from_sum bounds start link m n there near far e = search rules
 
 -- the tightest differences to the ends of a tight link differ by its weight
 pub sum_from_tight : (bounds : List Difference) (start : ℕ) (link : Link) (m n : ℤ) → IsTightest bounds start (arc_of bounds link).from m → IsTightest bounds start (arc_of bounds link).to n → IsTight bounds start link → m +ℤ (arc_of bounds link).weight ≡ n
-sum_from_tight bounds start link m n near far tight =
-    let (k, k_is, sum_is) = tight.tight in
-    let same = tightest_unique bounds start (arc_of bounds link).from m k near k_is in
-    let e = tightest_unique bounds start (arc_of bounds link).to _ n sum_is far in
-    ap (λ z. z +ℤ (arc_of bounds link).weight) same ∙ e
+sum_from_tight bounds start link m n near far tight = search rules
 
 -- both ends of a link are among the events that the bounds name
 pub link_among : (bounds : List Difference) (count : ℕ) (link : Link) → All (NamesAmong count) bounds → link.place < length bounds → ((arc_of bounds link).from < count) × ((arc_of bounds link).to < count)

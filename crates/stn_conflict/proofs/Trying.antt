@@ -1,19 +1,12 @@
 -- A way to an event by a link, tried against the event's estimate.
-use Rattle.std.{proofs.{Common.{◌≡◌, ◌⊎◌, inl, inr, ℕ, Bool, false, ◌<◌, List, length, sym, ap, ◌∙◌, arith}, lemmas.Int.ints}, specs.Prelude.{ℤ, pos, ◌+ℤ◌, ◌≤ℤ◌, All}}
+use Rattle.std.{proofs.{Common.{rules, ◌≡◌, ◌⊎◌, inl, inr, ℕ, Bool, false, ◌<◌, List, length, sym, ap, ◌∙◌, arith}, lemmas.Int.ints}, specs.Prelude.{ℤ, pos, ◌+ℤ◌, ◌≤ℤ◌, All}}
 use Rattle.stn_net.specs.{Difference.Difference, Schedule.times_of}
 use Rattle.stn_conflict.{specs.{declared.outgoing.Look.Look, Relaxation.{AreBegun, AreTables, Freshens, IsFloor, IsKept, IsLook, IsLowered, LeavesNoFloor, IsRelaxedOf, Lowers, NamesAmong, Searched, is_fresh}}, proofs.{Tightness.link_among, Lowering.{lowers_none, freshens_none, lowered_at, freshened_at, fallen_other, relaxed_now}, Relaxing.below_way}}
 
 -- estimates that have begun have so still, if that of the start is kept
 pub begun_on : {by new_by : List ℕ} {fresh new_fresh : List Bool} (searched : Searched) (start : ℕ) {far : List ℤ} (new : List ℤ) → AreBegun searched start far by fresh
     → AreTables (length far) new new_by new_fresh → times_of new start ≡ pos 0 → AreBegun searched start new new_by new_fresh
-begun_on searched start new begun tables own = record {
-  tables = rw begun.tables.far at tables;
-  network = begun.network;
-  kept = begun.kept;
-  named = begun.named;
-  start_named = begun.start_named;
-  own = own;
-}
+begun_on searched start new begun tables own = search rules
 
 module _ (searched : Searched) (start event : ℕ) (here : ℤ) (look : Look) (far : List ℤ) (by : List ℕ) (fresh : List Bool) (new : List ℤ) (new_fresh : List Bool)
     (begun : AreBegun searched start far by fresh) (is : IsLook searched.bounds event look) (most : times_of far event ≤ℤ here)
@@ -35,27 +28,14 @@ module _ (searched : Searched) (start event : ℕ) (here : ℤ) (look : Look) (f
   there = rw is.to at (link_among bounds (length far) look.link named is.there).1
 
   there_fresh : look.to < length fresh
-  there_fresh = omega (arith, there, begun.tables.far, begun.tables.fresh)
+  there_fresh = omega (arith, there, begun.tables.far)
 
   -- what a floor allows
   allowed : (low : ℕ → ℤ) → IsFloor bounds start far low → low look.to ≤ℤ (here +ℤ look.weight)
-  allowed low h =
-      let below = below_way bounds start far look.link low named is.there h in
-      let at = ap low is.to in
-      let from = ap (times_of far) is.from in
-      let weight = is.weight in
-      omega (arith, ints)
+  allowed low h = search (rules, named, there, ints)
 
   tried_kept : IsKept look.to (here +ℤ look.weight) far fresh new new_fresh → Tried
-  tried_kept k = rw (k.far_is, k.fresh_is) (record {
-    own = begun.own;
-    lowers = lowers_none bounds start far;
-    freshens = freshens_none far fresh;
-    relaxed = λ stale.
-        let same = still (rw is.from at stale) in
-        let met = k.most in
-        rw (is.to, is.from, is.weight) (omega (arith, ints));
-  })
+  tried_kept k = search rules
 
   tried_lowered : IsLowered start look.to (here +ℤ look.weight) far fresh new new_fresh → Tried
   tried_lowered k = rw (k.far_is, k.fresh_is) (record {
@@ -71,13 +51,4 @@ module _ (searched : Searched) (start event : ℕ) (here : ℤ) (look : Look) (f
   tried (inr lowered) = tried_lowered lowered
 
   pub tried_refused : LeavesNoFloor start look.to (here +ℤ look.weight) far fresh new new_fresh → (low : ℕ → ℤ) → ¬ IsFloor bounds start far low
-  tried_refused k low h =
-      let most = allowed low h in
-      let less = k.less in
-      let zero = h.own in
-      let own = begun.own in
-      let within = h.within look.to there in
-      elim k.cause [
-        | inl same ↦ (let now = ap low same in let was = ap (times_of far) same in omega (arith, ints))
-        | inr beyond ↦ omega (arith, ints)
-      ]
+  tried_refused k low h = search (rules, there, ints)

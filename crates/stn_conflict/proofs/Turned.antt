@@ -1,4 +1,4 @@
-use Rattle.std.{proofs.{Common.{◌≡◌, ℕ, Bool, ◌||◌, ◌<◌, List, ◌++◌, length, map, take, refl, subst, sym, ap, ◌∙◌, arith}, Math.IntN.neg_ℤ-neg_ℤ, lemmas.{Int.ints, List.{get_or-map, get_or-take, map-append, take-map, length-map, length-take, Elements.All-map}}}, specs.Prelude.{ℤ, neg_ℤ, ◌+ℤ◌, ◌≤ℤ◌, nat_lt, int_lt, IsTrue, All}}
+use Rattle.std.{proofs.{Common.{rules, ◌≡◌, ℕ, Bool, ◌||◌, ◌<◌, List, ◌++◌, length, map, take, refl, subst, sym, ap, ◌∙◌, arith}, Math.IntN.neg_ℤ-neg_ℤ, lemmas.{Int.ints, List.{get_or-map, get_or-take, map-append, take-map, length-map, length-take, Elements.All-map}}}, specs.Prelude.{ℤ, neg_ℤ, ◌+ℤ◌, ◌≤ℤ◌, nat_lt, int_lt, IsTrue, All}}
 use Rattle.stn_time.specs.Time.{horizon}
 use Rattle.stn_net.specs.{Difference.{Difference, NamesEvents}, Schedule.{Meets, IsSchedule, HasSchedule}, Matrix.Tightest.IsTightest}
 use Rattle.stn_conflict.specs.{declared.{arcs.Direction.{Direction, TheVariants.{Forward, Backward}}, links.{Side.{Side, TheVariants.{Upper, Lower}}}}, Arcs.{arc, bound_at}, Directions.{turned, faced, facing}, Distances.{AreDistancesFrom, AreDistancesTo}, Relaxation.{AreLimited, IsNetwork, NamesAmong}, Search.{across, other_side}}
@@ -92,10 +92,7 @@ bound_facing Backward bounds place there = get_or-map turned bounds place _ _ th
 -- one of the first of the bounds
 pub bound_listed : (direction : Direction) (all bounds : List Difference) (end place : ℕ) → facing direction (take end all) ≡ bounds → place < length bounds
     → bound_at bounds place ≡ bound_at (facing direction all) place
-bound_listed direction all bounds end place is there =
-    let first : take end (facing direction all) ≡ bounds = sym (take_facing direction end all) ∙ is in
-    let below : place < end = omega (arith, there, ap length first, length-take end (facing direction all)) in
-    ap (λ l. bound_at l place) (sym first) ∙ get_or-take end (facing direction all) place _ below
+bound_listed direction all bounds end place is there = search (rules, take_facing, length-take, get_or-take)
 
 -- more bounds after them
 pub append_facing : (direction : Direction) (bounds more : List Difference) → facing direction (bounds ++ more) ≡ facing direction bounds ++ facing direction more

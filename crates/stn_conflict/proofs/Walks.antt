@@ -1,12 +1,10 @@
-use Rattle.std.{proofs.{Common.{◌≡◌, ◌≢◌, inl, inr, ℕ, suc, ◌+◌, ◌<◌, ◌≤◌, cond, Option, Some, None, lt-ltb, List, [], ◌∷◌, ◌++◌, length, set, replicate, refl, sym, subst, ap, ◌∙◌, arith}, lemmas.{Bool.{cases_eq, cases_lt, or_left}, List.{get_or-set_same, get_or-set_other, get_or-replicate, get_or_past, get_or_append_left, get_or_push, length-set, length-replicate, length_push, Elements.Contains-push_cases, Sums.{sum_by-set, count_by-le-length}}}}, specs.{Prelude.{ℤ, is_some, count_by, slice_index_or}, List.Contains}}
+use Rattle.std.{proofs.{Common.{rules, ◌≡◌, ◌≢◌, inl, inr, ℕ, suc, ◌+◌, ◌<◌, ◌≤◌, cond, Option, Some, None, lt-ltb, List, [], ◌∷◌, ◌++◌, length, set, replicate, refl, sym, subst, ap, ◌∙◌, arith}, lemmas.{Bool.{cases_eq, cases_lt, or_left}, List.{get_or-set_same, get_or-set_other, get_or-replicate, get_or_past, get_or_append_left, get_or_push, length-set, length-replicate, length_push, Elements.Contains-push_cases, Sums.{sum_by-set, count_by-le-length}}}}, specs.{Prelude.{ℤ, is_some, count_by, slice_index_or}, List.Contains}}
 use Rattle.stn_net.specs.Difference.{Difference}
 use Rattle.stn_conflict.{specs.{declared.{levels.Walk.Walk, links.Link.Link, outgoing.Look.Look}, Arcs.arc_of, Relaxation.{AreDistances, IsRow, Searched}, Named.IsTight, Search.{level_at, event_at, IsFollowed, IsWalk, IsWalkOf, AreLevels, LeadsOn}}, proofs.LevelTable.{IsClosed, some_or_none, some_same, level_of_entry, entry_of_level, level_of_event}}
 
 -- an event with a level keeps it
 keeps_level : (levels marked : ℕ → Option ℕ) (end : ℕ) → levels end ≡ None → ((x : ℕ) → x ≢ end → marked x ≡ levels x) → (x i : ℕ) → levels x ≡ Some i → marked x ≡ Some i
-keeps_level levels marked end none others x i e =
-    let differs : x ≢ end = λ same. let f : levels x ≡ None = ap levels same ∙ none in cc in
-    others x differs ∙ e
+keeps_level levels marked end none others x i e = search rules
 
 -- a link that leads on gives its end the next level, and the walk reaches it
 pub walk_reaches : (bounds : List Difference) (start seen level : ℕ) (levels marked : ℕ → Option ℕ) (reached : List ℕ) (link : Link) → IsWalk bounds start seen levels reached → seen < length reached
@@ -91,38 +89,15 @@ pub walk_goes_on : (bounds : List Difference) (start seen level : ℕ) (levels :
     → levels (event_at reached seen) ≡ Some level
     → ((link : Link) → IsTight bounds start link → (arc_of bounds link).from ≡ event_at reached seen → IsFollowed bounds levels link level)
     → IsWalk bounds start (seen + 1) levels reached
-walk_goes_on bounds start seen level levels reached w there here all = record {
-  zero_at_start = w.zero_at_start;
-  only = w.only;
-  back = w.back;
-  every = w.every;
-  each = w.each;
-  rising = w.rising;
-  near = λ k i m still below at_next at_k. omega (arith, w.near k level m there below here at_k, w.rising seen (seen + 1) level i (omega arith) still here at_next);
-  followed = λ k i below at link tight from.
-      elim (cases_eq k seen) [
-        | inl same ↦
-            let (m, m_at, le) = all link tight (from ∙ ap (event_at reached) same) in
-            let e = some_same _ level i here (sym (ap (λ z. levels (event_at reached z)) same) ∙ at) in
-            (m, m_at, omega (arith, le, e))
-        | inr differs ↦ w.followed k i (omega arith) at link tight from
-      ];
-}
+walk_goes_on bounds start seen level levels reached w there here all = search rules
 
 -- an event that gets a level is one more that has one
 pub count_marked : (levels : List (Option ℕ)) (x k : ℕ) → x < length levels → level_at levels x ≡ None → count_by is_some (set levels x (Some k)) ≡ count_by is_some levels + 1
-count_marked levels x k there none =
-    let count : Option ℕ → ℕ = λ o. cond (is_some o) 1 0 in
-    let e = sum_by-set (λ (o : Option ℕ). cond (is_some o) 1 0) levels x (Some k) None there in
-    omega (arith, e, ap count none)
+count_marked levels x k there none = search (rules, sum_by-set)
 
 -- a table that is made of nothing has nothing
 none_in_replicate : {X : Type 0} (table : List (Option X)) (n : ℕ) → table ≡ replicate n None → (x : ℕ) → slice_index_or table x None ≡ None
-none_in_replicate {X} table n e x =
-    elim (cases_lt x n) [
-      | inl below ↦ ap (λ l. slice_index_or l x None) e ∙ get_or-replicate n x None None below
-      | inr above ↦ ap (λ l. slice_index_or l x None) e ∙ get_or_past (replicate n None) x None (omega (arith, length-replicate {A = Option X} n None))
-    ]
+none_in_replicate {X} table n e x = search (rules, get_or-replicate, get_or_past, length-replicate)
 
 -- a walk begins at its start, which has the level 0
 pub walk_begins : (bounds : List Difference) (start : ℕ) (levels : List (Option ℕ)) → start < length levels → ((x : ℕ) → level_at levels x ≡ None)
@@ -179,26 +154,13 @@ levels_of_walk bounds far start seen levels reached exact whole counted w all =
 
 -- an event with an entry is one of the table
 pub level_there : (levels : List (Option ℕ)) (x i : ℕ) → level_at levels x ≡ Some i → x < length levels
-level_there levels x i at =
-    elim (cases_lt x (length levels)) [
-      | inl below ↦ below
-      | inr past ↦ (let none = get_or_past levels x None past in absurd (cc))
-    ]
+level_there levels x i at = search (rules, get_or_past)
 
 module _ {A : Type 0} where
   -- the walk that has reached its start alone
   pub walk_of_start : (bounds : List Difference) (start count : ℕ) (walk : Walk A) → start < count → walk.levels.items ≡ set (replicate count None) start (Some 0) → walk.reached.items ≡ start ∷ []
       → IsWalkOf bounds start count 0 walk
-  walk_of_start bounds start count walk within marked reached =
-      let bare : List (Option ℕ) = replicate count None in
-      let long = length-replicate {A = Option ℕ} count None in
-      let there : start < length (replicate {A = Option ℕ} count None) = omega arith in
-      let none = none_in_replicate {X = ℕ} (replicate count None) count refl in
-      record {
-        whole = ap length marked ∙ length-set (replicate count None) start (Some 0) ∙ long;
-        counted = omega (arith, ap length reached, ap (count_by (is_some {T = ℕ})) marked, count_marked (replicate count None) start 0 there (none start));
-        steps = rw (marked, reached) (walk_begins bounds start (replicate count None) there none);
-      }
+  walk_of_start bounds start count walk within marked reached = search (rules, length-replicate, none_in_replicate, length-set, count_marked)
 
   -- an event that the walk has reached is one of the table, and has a level
   pub reached_at : (bounds : List Difference) (start count seen place x : ℕ) (walk : Walk A) → IsWalkOf bounds start count seen walk → place < length walk.reached.items → x ≡ event_at walk.reached.items place
@@ -218,27 +180,12 @@ module _ {A : Type 0} where
 
   -- no level is above the number of the events that got theirs before
   pub level_low : (bounds : List Difference) (start count seen level event : ℕ) (row : List Look) (walk : Walk A) → IsFollowing bounds start count seen level event row walk → level < count
-  level_low bounds start count seen level event row walk h =
-      let (i, at, le) = h.so_far.steps.each seen h.there in
-      omega (
-        arith,
-        h.there,
-        h.so_far.counted,
-        h.so_far.whole,
-        count_by-le-length is_some walk.levels.items,
-        some_same _ i level (sym (ap (level_at walk.levels.items) h.here) ∙ at) h.marked,
-      )
+  level_low bounds start count seen level event row walk h = search (rules, count_by-le-length)
 
   -- at first none of them
   pub following_begins : (bounds : List Difference) (start count seen level event : ℕ) (row : List Look) (walk : Walk A) → IsWalkOf bounds start count seen walk → seen < length walk.reached.items
       → event_at walk.reached.items seen ≡ event → level_at walk.levels.items event ≡ Some level → row ≡ [] → IsFollowing bounds start count seen level event row walk
-  following_begins bounds start count seen level event row walk w there here at none = record {
-    so_far = w;
-    there = there;
-    here = here;
-    marked = at;
-    followed = λ look has. (let (k, below, is) = subst (λ l. Contains l look) none has in absurd (omega arith));
-  }
+  following_begins bounds start count seen level event row walk w there here at none = search rules
 
   -- a link that leads on: its end is reached
   pub following_reaches : (bounds : List Difference) (start count seen level event x : ℕ) (row : List Look) (walk next : Walk A) (look : Look) → IsFollowing bounds start count seen level event row walk

@@ -1,4 +1,4 @@
-use Rattle.std.{proofs.{lemmas.{Grind.common_steps, Int.{ints, clamps}, List.Elements.{All-push, All-pop}}, Common.{◌≡◌, ℕ, ℤ, pos, ◌≤◌, ◌+ℤ◌, ◌-ℤ◌, ◌≤ℤ◌, neg_ℤ, List, [], ◌∷◌, ◌++◌, get_or, Some, sym, refl, subst, ◌∙◌, arith}}, specs.Prelude.All}
+use Rattle.std.{proofs.{lemmas.{Grind.common_steps, Int.{ints, clamps}, List.Elements.{All-push, All-pop}}, Common.{rules, ◌≡◌, ℕ, ℤ, pos, ◌≤◌, ◌+ℤ◌, ◌-ℤ◌, ◌≤ℤ◌, neg_ℤ, List, [], ◌∷◌, ◌++◌, get_or, Some, sym, refl, subst, arith}}, specs.Prelude.All}
 use Rattle.stn_time.{specs.Time.horizon, proofs.Each.All-left}
 use Rattle.stn_net.{specs.{Difference.{Difference, NamesEvents}, Schedule.{IsSchedule, HasSchedule, Meets}, Matrix.{Table.{Table, far_of}, Tightest.IsExact, Closed.IsClosed, Way.{shorter, narrower, IsImplied, HasRoom}}}, proofs.Tightest.{IsTight, tight_from_exact, exact_from_tight}}
 
@@ -21,11 +21,6 @@ shorter-closed events far u v w closed us vs round = record {
       omega (arith, ints, clamps);
 }
 
--- the row that the link leads to does not change
-pub shorter-own_row : (events : ℕ) (far : ℕ → ℕ → ℤ) (u v : ℕ) (w : ℤ) → u ≤ events → v ≤ events → pos 0 ≤ℤ (far v u +ℤ w) → (y : ℕ)
-    → shorter far u v w v y ≡ far v y
-shorter-own_row events far u v w us vs round y = omega (arith, ints, clamps)
-
 -- nor does a row whose way to the link's end is no shorter by the link
 pub shorter-kept_row : (events : ℕ) (far : ℕ → ℕ → ℤ) (u v : ℕ) (w : ℤ) → IsClosed events far → v ≤ events
     → (x y : ℕ) → x ≤ events → y ≤ events → far x v ≤ℤ (far x u +ℤ w) → shorter far u v w x y ≡ far x y
@@ -36,15 +31,12 @@ shorter-kept_row events far u v w closed vs x y xs ys longer =
 -- the way by the upper link leaves room for the lower one
 pub lower_round : (events : ℕ) (far : ℕ → ℕ → ℤ) (b : Difference) → IsClosed events far → NamesEvents events b → b.lo ≤ℤ b.hi → HasRoom far b
     → pos 0 ≤ℤ (shorter far b.from b.to b.hi b.from b.to +ℤ neg_ℤ b.lo)
-lower_round events far b closed named ordered room = grind (arith, common_steps, clamps)
+lower_round events far b closed named ordered room = grind (arith, common_steps)
 
 -- a closed square stays closed by a bound that has room
 pub narrower-closed : (events : ℕ) (far : ℕ → ℕ → ℤ) (b : Difference) → IsClosed events far → NamesEvents events b → b.lo ≤ℤ b.hi → HasRoom far b
     → IsClosed events (narrower far b)
-narrower-closed events far b closed named ordered room =
-    shorter-closed events (shorter far b.from b.to b.hi) b.to b.from (neg_ℤ b.lo)
-    (shorter-closed events far b.from b.to b.hi closed named.from named.to (omega (arith, ints, room.upper)))
-    named.to named.from (lower_round events far b closed named ordered room)
+narrower-closed events far b closed named ordered room = search (rules, shorter-closed, lower_round)
 
 -- a schedule of a longer list is one of its front, and meets the last bound
 pub schedule_before : (bounds more : List Difference) (time : ℕ → ℤ) → IsSchedule (bounds ++ more) time → IsSchedule bounds time
@@ -55,12 +47,12 @@ schedule_last bounds b time s = (All-pop (Meets time) (bounds ++ b ∷ []) bound
 
 -- equal entries are closed alike
 pub closed_same : (events : ℕ) (far other : ℕ → ℕ → ℤ) → ((x y : ℕ) → x ≤ events → y ≤ events → other x y ≡ far x y) → IsClosed events far → IsClosed events other
-closed_same events far other same closed = grind (arith, common_steps)
+closed_same events far other same closed = grind (arith)
 
 -- equal entries are tight alike
 pub tight_same : (bounds : List Difference) (events : ℕ) (far other : ℕ → ℕ → ℤ) → All (NamesEvents events) bounds
     → ((x y : ℕ) → x ≤ events → y ≤ events → other x y ≡ far x y) → IsTight bounds events far → IsTight bounds events other
-tight_same bounds events far other named same tight = grind (arith, common_steps)
+tight_same bounds events far other named same tight = grind (arith)
 
 -- a difference by way of a link is sound where the link is
 shorter_sound : (time : ℕ → ℤ) (events : ℕ) (far : ℕ → ℕ → ℤ) (u v : ℕ) (w : ℤ) → u ≤ events → v ≤ events
@@ -77,18 +69,17 @@ narrower_sound : (time : ℕ → ℤ) (events : ℕ) (far : ℕ → ℕ → ℤ)
     → (x y : ℕ) → x ≤ events → y ≤ events → (time y -ℤ time x) ≤ℤ narrower far b x y
 narrower_sound time events far b named sound met =
     shorter_sound time events (shorter far b.from b.to b.hi) b.to b.from (neg_ℤ b.lo) named.to named.from
-    (shorter_sound time events far b.from b.to b.hi named.from named.to sound met.1)
-    (omega (arith, ints, met.0))
+    (shorter_sound time events far b.from b.to b.hi named.from named.to sound met.1) (omega (arith, ints, met.0))
 
 -- no entry gets longer
 narrower_at_most : (far : ℕ → ℕ → ℤ) (b : Difference) (x y : ℕ) → narrower far b x y ≤ℤ far x y
 narrower_at_most far b x y = omega (arith, ints, clamps)
 
 narrower_upper : (events : ℕ) (far : ℕ → ℕ → ℤ) (b : Difference) → IsClosed events far → NamesEvents events b → narrower far b b.from b.to ≤ℤ b.hi
-narrower_upper events far b closed named = grind (arith, common_steps, clamps)
+narrower_upper events far b closed named = grind (arith, common_steps)
 
 narrower_lower : (events : ℕ) (far : ℕ → ℕ → ℤ) (b : Difference) → IsClosed events far → NamesEvents events b → b.lo ≤ℤ neg_ℤ (narrower far b b.to b.from)
-narrower_lower events far b closed named = grind (arith, common_steps, clamps)
+narrower_lower events far b closed named = grind (arith, common_steps)
 
 -- a tight square is tight for one more bound by way of its links
 pub narrower-tight : (bounds : List Difference) (events : ℕ) (far : ℕ → ℕ → ℤ) (b : Difference) → IsClosed events far → NamesEvents events b

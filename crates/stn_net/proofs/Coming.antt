@@ -1,4 +1,4 @@
-use Rattle.std.{proofs.{lemmas.{Grind.common_steps, Bool.{cases_lt, false≢true}, Int.{ints, by_lt_z}}, Common.{◌≡◌, ℕ, ℤ, ◌+◌, ◌<◌, ◌≤◌, ◌≤ℤ◌, ◌<ℤ◌, Bool, true, false, List, length, Option, Some, None, refl, sym, inl, inr, arith}}, specs.Prelude.{int_le, is_none, IfSome, IfNone}}
+use Rattle.std.{proofs.{lemmas.{Grind.common_steps, Bool.{cases_lt, false≢true}, Int.{ints, by_lt_z}}, Common.{rules, ◌≡◌, ℕ, ℤ, ◌+◌, ◌<◌, ◌≤◌, ◌≤ℤ◌, ◌<ℤ◌, Bool, true, false, List, length, Option, Some, None, refl, sym, arith}}, specs.Prelude.{int_le, is_none, IfSome, IfNone}}
 use Rattle.stn_net.{specs.{Difference.Difference, Matrix.{Table.{Table, far_of}, Tightest.IsExact}, Windows.{Dispatch.{IsLeft, IsReady, IsFirstReady, ComesFirst}, Leading.{earliest, MayLead, NonePast, CanLead, IsFirstPast, IsLeastLeader, IsEarliestBelow, IsEarliestSoFar, earlier_of}}}, proofs.Readiness.{left_within, exact_triangle, exact_itself, ready_now, ready_can_lead, ready_none_past}}
 
 -- what a look for the first event whose latest time has passed says where it finds none
@@ -12,7 +12,6 @@ pub past_none_ready : (bounds : List Difference) (table : Table) (done : List Bo
 past_none_ready bounds table done time event None exact one_each test past ready = false≢true (sym test)
 past_none_ready bounds table done time event (Some other) exact one_each test past ready =
     let before = ready_none_past bounds table done event time exact one_each ready other past.left in
-    let late = past.past in
     absurd (omega (arith, ints))
 
 -- the least event that can lead runs first, now
@@ -31,7 +30,6 @@ pub earliest_is_first : (bounds : List Difference) (table : Table) (done : List 
     → ((event : ℕ) → ¬ CanLead (far_of table) done now event) → IsEarliestBelow (earliest (far_of table)) done (length done) run → IsFirstReady bounds done now run.0 run.1
 earliest_is_first bounds table done now run exact one_each none first =
     let event = run.1 in
-    let at = first.at in
     let within : event ≤ table.events = omega (arith, left_within done event first.left) in
     let itself = exact_itself bounds table 0 exact (omega arith) in
     let leads : MayLead (far_of table) done event = λ other left.
@@ -47,8 +45,7 @@ earliest_is_first bounds table done now run exact one_each none first =
     omega (arith, ints) in
     record {
       ready = ready_now bounds table done event run.0 exact one_each can in_time;
-      later = by_lt_z run.0 now
-          (λ come. absurd (none event (record { left = first.left; come = omega (arith, ints); leads = leads })))
+      later = by_lt_z run.0 now (λ come. absurd (none event (record { left = first.left; come = omega (arith, ints); leads = leads })))
           (λ later. later);
       first = λ time other from ready.
           let sooner = first.first other (left_within done other ready.left) ready.left in
@@ -66,41 +63,32 @@ earlier_takes run other before = let test : int_le run.0 other.0 ≡ false = gri
 -- where no event below a number is left, one of that number is the first below the next
 first_of_all : (times : ℕ → ℤ) (done : List Bool) (number event : ℕ) (time : ℤ) → event ≡ number → IsLeft done event → time ≡ times event
     → ((other : ℕ) → other < number → ¬ IsLeft done other) → IsEarliestBelow times done (number + 1) (time, event)
-first_of_all times done number event time same left at none = grind (arith, common_steps, cases_lt)
+first_of_all times done number event time same left at none = grind (arith, cases_lt)
 
 -- a run that is the first below a number is the first below the next, where it comes before an event of that number that is left
 one_further : (times : ℕ → ℤ) (done : List Bool) (number : ℕ) (run : ℤ × ℕ) → IsEarliestBelow times done number run
     → (IsLeft done number → ComesFirst run.0 run.1 (times number) number) → IsEarliestBelow times done (number + 1) run
-one_further times done number run first next = grind (arith, common_steps, cases_lt)
+one_further times done number run first next = grind (arith, cases_lt)
 
 -- it stays the first, where the event of that number is no earlier
 first_stays : (times : ℕ → ℤ) (done : List Bool) (number event : ℕ) (run : ℤ × ℕ) (time : ℤ) → event ≡ number → time ≡ times event
     → IsEarliestBelow times done number run → run.0 ≤ℤ time → IsEarliestBelow times done (number + 1) run
-first_stays times done number event run time same at first no_later =
-    one_further times done number run first (λ _. rw (← same) (omega (arith, ints), λ _. omega (arith, first.below)))
-
--- and gives way, where that event is earlier
-first_gives_way : (times : ℕ → ℤ) (done : List Bool) (number event : ℕ) (run : ℤ × ℕ) (time : ℤ) → event ≡ number → time ≡ times event
-    → IsLeft done event → IsEarliestBelow times done number run → time <ℤ run.0 → IsEarliestBelow times done (number + 1) (time, event)
-first_gives_way times done number event run time same at left first before = grind (arith, common_steps, cases_lt)
+first_stays times done number event run time same at first no_later = search rules
 
 -- a look at one more event that is left: the earlier of the two runs comes first among those so far
 pub one_more_run : (times : ℕ → ℤ) (done : List Bool) (number event : ℕ) (first : Option (ℤ × ℕ)) (time : ℤ) → event ≡ number → IsLeft done event → time ≡ times event
     → IsEarliestSoFar times done number first → IsEarliestBelow times done (number + 1) (earlier_of first (time, event))
 one_more_run times done number event None time same left at none = first_of_all times done number event time same left at none
-one_more_run times done number event (Some run) time same left at first = grind (arith, common_steps, by_lt_z, earlier_takes, first_gives_way, earlier_keeps, first_stays)
+one_more_run times done number event (Some run) time same left at first =
+    grind (arith, common_steps, by_lt_z, earlier_takes, earlier_keeps, first_stays)
 
 -- a look at one more event that is not left changes nothing
 pub same_first : (times : ℕ → ℤ) (done : List Bool) (number event : ℕ) (first : Option (ℤ × ℕ)) → event ≡ number → ¬ IsLeft done event
     → IsEarliestSoFar times done number first → IsEarliestSoFar times done (number + 1) first
-same_first times done number event None same not_left none = grind (arith, common_steps, cases_lt)
+same_first times done number event None same not_left none = grind (arith, cases_lt)
 same_first times done number event (Some run) same not_left first = one_further times done number run first (λ is_left. absurd (not_left (rw same is_left)))
 
 -- no event below the next number can lead, where none below the number can and that of the number can't
 pub one_more_behind : (far : ℕ → ℕ → ℤ) (done : List Bool) (now : ℤ) (number event : ℕ) → event ≡ number → ¬ CanLead far done now event
     → ((other : ℕ) → other < number → ¬ CanLead far done now other) → (other : ℕ) → other < number + 1 → ¬ CanLead far done now other
-one_more_behind far done now number event same cannot none = λ other within can.
-    elim (cases_lt other number) [
-      | inl before ↦ none other before can
-      | inr here ↦ let is : other ≡ event = omega arith in cannot (rw (← is) can)
-    ]
+one_more_behind far done now number event same cannot none = search rules

@@ -8,10 +8,8 @@ pub earliest_of_tightest : (bounds : List Difference) (events : ℕ) (back : ℕ
 earliest_of_tightest bounds events back tightest = record {
   taken = λ event within.
       let (times, schedule, attains) = (tightest event within).attained in
-      let origin = schedule.origin in
       (times, schedule, omega (arith, ints));
   least = λ others schedule event within.
-      let origin = schedule.origin in
       let least = (tightest event within).bound others schedule in
       omega (arith, ints);
 }
@@ -22,10 +20,8 @@ pub latest_of_tightest : (bounds : List Difference) (events : ℕ) (far : ℕ �
 latest_of_tightest bounds events far tightest = record {
   taken = λ event within.
       let (times, schedule, attains) = (tightest event within).attained in
-      let origin = schedule.origin in
       (times, schedule, omega (arith, ints));
   most = λ others schedule event within.
-      let origin = schedule.origin in
       let most = (tightest event within).bound others schedule in
       omega (arith, ints);
 }
@@ -99,7 +95,6 @@ module _ (bounds : List Difference) (events : ℕ) (latest : ℕ → ℤ) (done 
     none = λ time other later ready.
         let (times, schedule, at, waits) = ready.possible in
         let before = waits_none_past time (times, schedule, waits) event past.left in
-        let late = past.past in
         omega (arith, ints);
     left = past.left;
     past = (past_without_time now event past.left).0 past.past;

@@ -1,6 +1,6 @@
-use Rattle.std.{proofs.{lemmas.{Grind.common_steps, Int.{ints, clamps}, Bool.{cases_eq, cases_lt}, Nat.{mul-add-lt, same_from_place}, List.{get_or_default, Elements.{All-push, Contains-push, Contains-append_left}}}, Common.{◌≡◌, ◌≢◌, ℕ, ℤ, pos, ◌+◌, ◌*◌, ◌<◌, ◌≤◌, ◌+ℤ◌, ◌≤ℤ◌, ◌<ℤ◌, ◌⊎◌, neg_ℤ, inl, inr, List, [], ◌∷◌, ◌++◌, length, set, refl, ap, sym, ◌∙◌, arith, get_or-set_same, get_or-set_other}}, specs.{Prelude.{All, Contains, slice_index_or}, Int.int_min}}
+use Rattle.std.{proofs.{lemmas.{Grind.common_steps, Int.{ints, clamps}, Bool.{cases_eq, cases_lt}, Nat.{mul-add-lt, same_from_place}, List.{get_or_default, Elements.{All-push, Contains-push, Contains-append_left}}}, Common.{rules, ◌≡◌, ◌≢◌, ℕ, ℤ, pos, ◌+◌, ◌*◌, ◌<◌, ◌≤◌, ◌+ℤ◌, ◌≤ℤ◌, ◌<ℤ◌, ◌⊎◌, neg_ℤ, inl, inr, List, [], ◌∷◌, ◌++◌, length, set, refl, ap, sym, ◌∙◌, arith, get_or-set_same, get_or-set_other}}, specs.{Prelude.{All, Contains, slice_index_or}, Int.int_min}}
 use Rattle.stn_time.specs.Time.{horizon}
-use Rattle.stn_net.{specs.Matrix.{Closed.IsClosed, Table.{Square, entry}, Way.{IsWholeSquare, shorter, IsWithinTwoHorizons, AreNearer, AreRunsOf, IsWrittenEntry, IsRowShortened}}, proofs.Closure.{shorter-own_row, shorter-kept_row}}
+use Rattle.stn_net.{specs.Matrix.{Closed.IsClosed, Table.{Square, entry}, Way.{IsWholeSquare, shorter, IsWithinTwoHorizons, AreNearer, AreRunsOf, IsWrittenEntry, IsRowShortened}}, proofs.Closure.shorter-kept_row}
 
 -- the place of an entry lies in the square
 pub place_within : (events row column : ℕ) → row ≤ events → column ≤ events → row * (events + 1) + column < (events + 1) * (events + 1)
@@ -85,20 +85,12 @@ pub shortened_columns : (size : ℕ) (old new onward : ℕ → ℤ) (through : �
     → AreShortened size old new onward through columns place → length columns ≤ place
     → ((y : ℕ) → y < size → Contains columns y ⊎ (old y ≤ℤ (through +ℤ onward y)))
     → (y : ℕ) → y < size → new y ≡ int_min (old y) (through +ℤ onward y)
-shortened_columns size old new onward through columns place so_far all left_out y ys = elim (left_out y ys) [
-  | inl there ↦ (
-      let e : slice_index_or columns there.0 0 ≡ y = get_or_default columns there.0 0 y there.1 ∙ there.2 in
-      rw e at (so_far.here there.0 (let h = there.1 in omega arith) there.1))
-  | inr longer ↦ elim (so_far.either y ys) [
-    | inl own ↦ omega (arith, ints, clamps)
-    | inr own ↦ own
-  ]
-]
+shortened_columns size old new onward through columns place so_far all left_out y ys = search (rules, get_or_default, ints)
 
 -- a column that comes no nearer is left out
 pub nearer_skip : (events : ℕ) (far : ℕ → ℕ → ℤ) (u v : ℕ) (w : ℤ) (columns : List ℕ) (column : ℕ) → AreNearer events far u v w columns column
     → far u column ≤ℤ (w +ℤ far v column) → AreNearer events far u v w columns (column + 1)
-nearer_skip events far u v w columns column so_far longer = grind (arith, common_steps, cases_eq)
+nearer_skip events far u v w columns column so_far longer = grind (arith, cases_eq)
 
 -- the others are listed
 pub nearer_more : (events : ℕ) (far : ℕ → ℕ → ℤ) (u v : ℕ) (w : ℤ) (columns : List ℕ) (column : ℕ) → AreNearer events far u v w columns column
@@ -129,7 +121,7 @@ pub record IsShortenedTo (events : ℕ) (old new : ℕ → ℕ → ℤ) (u v : �
 -- the row that the link leads to is as it was all the while
 pub shortened-own_row : (events : ℕ) (old new : ℕ → ℕ → ℤ) (u v : ℕ) (w : ℤ) (row : ℕ) → IsShortenedTo events old new u v w row
     → u ≤ events → v ≤ events → pos 0 ≤ℤ (old v u +ℤ w) → (y : ℕ) → y ≤ events → new v y ≡ old v y
-shortened-own_row events old new u v w row so_far us vs round y ys = grind (arith, common_steps, cases_lt, shorter-own_row)
+shortened-own_row events old new u v w row so_far us vs round y ys = grind (arith, common_steps, cases_lt)
 
 -- the row as it was
 pub shortened_skip : (events : ℕ) (old new : ℕ → ℕ → ℤ) (u v : ℕ) (w : ℤ) (row : ℕ) → IsShortenedTo events old new u v w row
@@ -183,7 +175,6 @@ nearer_row events old new u v w row through so_far closed us vs round rs is near
     let end = so_far.left row v (omega arith) rs vs in
     let most = closed.most row v rs vs in
     let itself = closed.itself v vs in
-    let least = least_way events old u v w closed us vs round row v rs vs in
     record {
       apart = λ e.
           let own : old row v ≡ old v v = ap (λ x. old x v) e in

@@ -1,5 +1,5 @@
 -- The table of some differences, and that of a plan's once an event is fixed.
-use Rattle.std.{proofs.{Common.{◌≡◌, ℕ, ℤ, pos, ◌+◌, ◌*◌, ◌/◌, ◌%◌, ◌≤◌, ◌+ℤ◌, ◌-ℤ◌, ◌≤ℤ◌, List, [], ◌∷◌, ◌++◌, map, refl, sym, ap, subst, ◌∙◌, arith}, lemmas.{Int.{ints, clamps}, Nat.{div-mul-add, mod-mul-add}, List.{Elements.All-push, FromFn.get_or-map-range_with_len}}}, specs.{Prelude.All, Int.int_min, List.range_with_len}}
+use Rattle.std.{proofs.{Common.{rules, ◌≡◌, ℕ, ℤ, pos, ◌+◌, ◌*◌, ◌/◌, ◌%◌, ◌≤◌, ◌+ℤ◌, ◌-ℤ◌, ◌≤ℤ◌, List, [], ◌∷◌, ◌++◌, map, refl, arith}, lemmas.{Int.{ints, clamps}, Nat.{div-mul-add, mod-mul-add}, List.{Elements.All-push, FromFn.get_or-map-range_with_len}}}, specs.{Prelude.All, Int.int_min, List.range_with_len}}
 use Rattle.stn_net.{specs.{Difference.{Difference, NamesEvents}, Schedule.{IsSchedule, HasSchedule}, Matrix.{Table.{Table, far_of}, Tightest.{IsTightest, IsExact}}, Windows.Rehearsal.fixed_at}, proofs.{Entries.place_within, Closure.{schedule_before, schedule_last}, Readiness.{exact_itself, exact_triangle, exact_row}, Rehearsals.fixed_schedule}}
 
 -- the table of so many events that has these differences
@@ -12,19 +12,12 @@ table_of events far = record {
 
 far_of-table_of : (events : ℕ) (far : ℕ → ℕ → ℤ) (x y : ℕ) → x ≤ events → y ≤ events → far_of (table_of events far) x y ≡ far x y
 far_of-table_of events far x y xs ys =
-    get_or-map-range_with_len (λ place. far (place / (events + 1)) (place % (events + 1))) 0 ((events + 1) * (events + 1)) (x * (events + 1) + y) (x * (events + 1) + y) (pos 0)
-    (place_within events x y xs ys) (omega arith)
-    ∙ ap (λ row. far row ((x * (events + 1) + y) % (events + 1))) (div-mul-add x (events + 1) y (omega arith))
-    ∙ ap (far x) (mod-mul-add x (events + 1) y (omega arith))
+    cc (get_or-map-range_with_len (λ place. far (place / (events + 1)) (place % (events + 1))) 0 ((events + 1) * (events + 1)) (x * (events + 1) + y) (x * (events + 1) + y) (pos 0) (place_within events x y xs ys) (omega arith), div-mul-add x (events + 1) y (omega arith), mod-mul-add x (events + 1) y (omega arith))
 
 -- the table of the tightest differences is exact
 pub exact_of_tightest : (bounds : List Difference) (events : ℕ) (far : ℕ → ℕ → ℤ) → All (NamesEvents events) bounds → HasSchedule bounds
     → ((x y : ℕ) → x ≤ events → y ≤ events → IsTightest bounds x y (far x y)) → IsExact bounds (table_of events far)
-exact_of_tightest bounds events far named possible tightest = record {
-  named = named;
-  possible = possible;
-  far = λ x y xs ys. subst (IsTightest bounds x y) (sym (far_of-table_of events far x y xs ys)) (tightest x y xs ys);
-}
+exact_of_tightest bounds events far named possible tightest = search (rules, far_of-table_of)
 
 -- some schedule has the event at the time
 pub record CanBeFixed (bounds : List Difference) (table : Table) (time : ℤ) (event : ℕ) : Type 0 where
@@ -65,23 +58,19 @@ module _ (bounds : List Difference) (table : Table) (time : ℤ) (event : ℕ) (
 
   fixed_row : (x : ℕ) → x ≤ table.events → IsSchedule (bounds ++ fixed_at time event ∷ []) (λ z. fixed_far x z -ℤ fixed_far x 0)
   fixed_row x xs =
-      fixed_schedule bounds (λ z. fixed_far x z -ℤ fixed_far x 0) time event
-      (record {
+      fixed_schedule bounds (λ z. fixed_far x z -ℤ fixed_far x 0) time event (record {
         origin = omega (arith, ints);
         met = λ k d h.
             let own = (exact_row bounds table x can.exact xs).met k d h in
             let by_event = (exact_row bounds table event can.exact can.within).met k d h in
             let by_origin = (exact_row bounds table 0 can.exact (omega arith)).met k d h in
             (omega (arith, ints, clamps), omega (arith, ints, clamps));
-      })
-      (fixed_apart x xs)
+      }) (fixed_apart x xs)
 
   fixed_bound : (times : ℕ → ℤ) → IsSchedule (bounds ++ fixed_at time event ∷ []) times → (x y : ℕ) → x ≤ table.events → y ≤ table.events → (times y -ℤ times x) ≤ℤ fixed_far x y
   fixed_bound times is x y xs ys =
       let before = schedule_before bounds (fixed_at time event ∷ []) times is in
       let at = schedule_last bounds (fixed_at time event) times is in
-      let early = at.0 in
-      let late = at.1 in
       let own = (can.exact.far x y xs ys).bound times before in
       let to_origin = (can.exact.far x 0 xs (omega arith)).bound times before in
       let from_event = (can.exact.far event y can.within ys).bound times before in

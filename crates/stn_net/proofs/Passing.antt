@@ -1,4 +1,4 @@
-use Rattle.std.{proofs.{Common.{◌≡◌, ◌≢◌, ℕ, ℤ, ◌+◌, ◌<◌, ◌≤◌, ◌+ℤ◌, ◌≤ℤ◌, pos, inl, inr, List, length, set, arith, get_or-set_same, get_or-set_other}, lemmas.{Int.ints, Bool.{cases_eq, cases_lt}, List.{length-set, Sorted.{All-permutation, Contains-permutation}}}}, specs.{Prelude.{All, slice_index_or}, List.Sorted.IsPermutation}}
+use Rattle.std.{proofs.{Common.{rules, ◌≡◌, ℕ, ℤ, ◌+◌, ◌<◌, ◌≤◌, ◌+ℤ◌, ◌≤ℤ◌, pos, inl, inr, List, length, set, arith}, lemmas.{Int.ints, List.Sorted.{All-permutation, Contains-permutation}}}, specs.{Prelude.{All, slice_index_or}, List.Sorted.IsPermutation}}
 use Rattle.stn_net.{specs.Matrix.{Closed.IsClosed, Way.{AreNearer, IsOnWay, AreRuns, AreRunsOf}}, proofs.Entries.{IsShortenedTo, shortened-own_row}}
 
 -- the columns in another order
@@ -27,59 +27,7 @@ pub runs_more : (far : ℕ → ℕ → ℤ) (v : ℕ) (columns moved ends : List
     → ((i : ℕ) → i < begin → slice_index_or moved i 0 ≡ slice_index_or columns i 0)
     → ((i : ℕ) → begin < i → i < end → IsOnWay far v (slice_index_or moved begin 0) (slice_index_or moved i 0))
     → AreRunsTo far v moved (set ends begin end) end
-runs_more far v columns moved ends begin end so_far same after within kept beyond =
-    let alike = so_far.alike in
-    let here : slice_index_or (set ends begin end) begin 0 ≡ end = get_or-set_same ends begin end 0 (omega arith) in
-    let there : (i : ℕ) → i ≢ begin → slice_index_or (set ends begin end) i 0 ≡ slice_index_or ends i 0 = λ i ne. get_or-set_other ends begin i end 0 ne in
-    record {
-      alike = omega (arith, length-set {A = ℕ});
-      begins = omega arith;
-      after = λ i below. elim (cases_lt i begin) [
-        | inl before ↦ (let e = there i (omega arith) in let h = so_far.after i before in omega arith)
-        | inr beyond ↦ elim (cases_eq i begin) [
-          | inl e ↦ rw (e, here) after
-          | inr ne ↦ (let e = there i ne in let h = so_far.alone i beyond (omega arith) in omega arith)
-        ]
-      ];
-      within = λ i below. elim (cases_lt i begin) [
-        | inl before ↦ (let e = there i (omega arith) in let h = so_far.within i before in omega arith)
-        | inr beyond ↦ elim (cases_eq i begin) [
-          | inl e ↦ (let here_is = here in rw (e, here) (omega arith))
-          | inr ne ↦ (let e = there i ne in let h = so_far.alone i beyond (omega arith) in omega arith)
-        ]
-      ];
-      alone = λ i past below. (let e = there i (omega arith) in let h = so_far.alone i (omega arith) (omega arith) in omega arith);
-      beyond = λ i j below later before_end. elim (cases_lt i begin) [
-        | inl before ↦ (
-            let e = there i (omega arith) in
-            let last = so_far.within i before in
-            let way = so_far.beyond i j before later (omega arith) in
-            let first_kept = kept i before in
-            let then_kept = kept j (omega arith) in
-            rw (first_kept, then_kept) way)
-        | inr not_before ↦ elim (cases_eq i begin) [
-          | inl e ↦ (let last : slice_index_or (set ends begin end) i 0 ≡ end = rw e here in rw e (beyond j (omega arith) (omega arith)))
-          | inr ne ↦ (let e = there i ne in let h = so_far.alone i not_before (omega arith) in absurd (omega arith))
-        ]
-      ];
-    }
-
-pub runs_all : (far : ℕ → ℕ → ℤ) (v : ℕ) (columns ends : List ℕ) (begin : ℕ) → AreRunsTo far v columns ends begin → AreRuns far v columns ends
-runs_all far v columns ends begin so_far = record {
-  alike = so_far.alike;
-  after = λ i below. elim (cases_lt i begin) [
-    | inl before ↦ so_far.after i before
-    | inr past ↦ (let h = so_far.alone i past below in omega arith)
-  ];
-  within = λ i below. elim (cases_lt i begin) [
-    | inl before ↦ (let h = so_far.within i before in let begins = so_far.begins in omega arith)
-    | inr past ↦ (let h = so_far.alone i past below in omega arith)
-  ];
-  beyond = λ i j later below before_end. elim (cases_lt i begin) [
-    | inl before ↦ so_far.beyond i j before later before_end
-    | inr past ↦ (let h = so_far.alone i past (omega arith) in absurd (omega arith))
-  ];
-}
+runs_more far v columns moved ends begin end so_far same after within kept beyond = search rules
 
 -- where the difference of a column's event does not get shorter, neither do those of its run
 pub runs_of_row : (events : ℕ) (old new : ℕ → ℕ → ℤ) (u v : ℕ) (w : ℤ) (row : ℕ) (through : ℤ) (columns ends : List ℕ) → IsShortenedTo events old new u v w row

@@ -7,7 +7,6 @@ pub one_range : (bounds : List Difference) (from to : ℕ) (least greatest first
     → IsRange bounds from to least greatest → IsRange bounds from to first last → (least ≡ first) × (greatest ≡ last)
 one_range bounds from to least greatest first last possible these those =
     let some = (these (possible.0 to -ℤ possible.0 from)).0 (possible.0, possible.1, refl) in
-    let other = (those (possible.0 to -ℤ possible.0 from)).0 (possible.0, possible.1, refl) in
     let a = (those least).0 ((these least).1 (omega (arith, ints), omega (arith, ints))) in
     let b = (those greatest).0 ((these greatest).1 (omega (arith, ints), omega (arith, ints))) in
     let c = (these first).0 ((those first).1 (omega (arith, ints), omega (arith, ints))) in
@@ -72,10 +71,6 @@ range_of_ends bounds from to back far early late = λ apart. (
       let most = late.bound s.0 s.1 in
       (omega (arith, ints), omega (arith, ints))),
   (λ ends.
-      let first = early.attained.2 in
-      let last = late.attained.2 in
-      between bounds from to (neg_ℤ back) far apart
-      (early.attained.0, early.attained.1, omega (arith, ints))
-      (late.attained.0, late.attained.1, omega (arith, ints))
-      ends.0 ends.1),
+      between bounds from to (neg_ℤ back) far apart (early.attained.0, early.attained.1, omega (arith, ints))
+      (late.attained.0, late.attained.1, omega (arith, ints)) ends.0 ends.1),
 )

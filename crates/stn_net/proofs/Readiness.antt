@@ -10,7 +10,6 @@ pub exact_triangle : (bounds : List Difference) (table : Table) (x y z : ℕ) �
     → far_of table x z ≤ℤ (far_of table x y +ℤ far_of table y z)
 exact_triangle bounds table x y z exact xs ys zs =
     let whole = (exact.far x z xs zs).attained in
-    let attains = whole.2 in
     let first = (exact.far x y xs ys).bound whole.0 whole.1 in
     let second = (exact.far y z ys zs).bound whole.0 whole.1 in
     omega (arith, ints)
@@ -31,7 +30,6 @@ ready_now bounds table done event time exact one_each can none =
     let within : event ≤ table.events = omega (arith, left_within done event can.left) in
     let itself = exact_itself bounds table event exact within in
     let origin = exact_itself bounds table 0 exact (omega arith) in
-    let come = can.come in
     let in_time = none event can.left in
     record {
       left = can.left;
@@ -51,8 +49,6 @@ ready_can_lead bounds table done event time exact one_each ready =
     let within : event ≤ table.events = omega (arith, left_within done event ready.left) in
     let times = ready.possible.0 in
     let schedule = ready.possible.1 in
-    let at = ready.possible.2 in
-    let origin = schedule.origin in
     let early = (exact.far event 0 within (omega arith)).bound times schedule in
     record {
       left = ready.left;
@@ -69,7 +65,6 @@ pub ready_none_past : (bounds : List Difference) (table : Table) (done : List Bo
     → IsReady bounds done event time → NonePast (far_of table 0) done time
 ready_none_past bounds table done event time exact one_each ready = λ other left.
     let others : other ≤ table.events = omega (arith, left_within done other left) in
-    let origin = ready.possible.1.origin in
     let after = ready.possible.3 other left in
     let late = (exact.far 0 other (omega arith) others).bound ready.possible.0 ready.possible.1 in
     omega (arith, ints)

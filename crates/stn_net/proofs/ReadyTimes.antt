@@ -20,7 +20,6 @@ ready_between bounds table done event last time exact one_each left leads least 
       let in_time = ready_none_past bounds table done event time exact one_each ready other is_left in
       ((ready_can_lead bounds table done event time exact one_each ready).come, omega (arith, ints))),
   (λ between.
-      let in_time = between.1 in
       ready_now bounds table done event time exact one_each (record { left = left; come = between.0; leads = leads })
       (λ other is_left. let late = least.least other is_left in omega (arith, ints))),
 )

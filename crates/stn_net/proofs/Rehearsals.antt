@@ -1,5 +1,5 @@
-use Rattle.std.{proofs.{lemmas.{Grind.common_steps, Int.ints, Bool.{false≢true, Decides.eqb_tells}, List.{Sums.sum_by-cons, Elements.{All-nil, All-cons, All-push}}}, Common.{◌≡◌, ◌≢◌, ℕ, ℤ, true, Bool, List, [], ◌∷◌, ◌++◌, get_or, set, cond, eqb, inl, inr, refl, sym, ap, subst, ◌∙◌, arith, get_or-set_same, get_or-set_other}}, specs.Prelude.{slice_set, Result, Err, IfErr}}
-use Rattle.stn_net.{specs.{Difference.Difference, Schedule.{IsSchedule, HasSchedule, Meets}, Matrix.{Table.Table, Tightest.IsExact}, declared.windows.answers.{Next.{Next, TheVariants.{Run, AllDone, Overdue}}, RehearseFault.{RehearseFault, TheVariants.Memory}}, Windows.{Dispatch.{IsLeft, IsReady, IsOverdue, IsNext, CanWaitUntil}, Rehearsal.{fixed_at, IsRehearsal, NeverFalls, RunsEachOnce, HasScheduleThrough, IsRehearseFault}}}, proofs.{Closure.{schedule_before, schedule_last}, Readiness.left_within}}
+use Rattle.std.{proofs.{lemmas.{Grind.common_steps, Int.ints, Bool.{false≢true, Decides.eqb_tells}, List.{Sums.sum_by-cons, Elements.{All-nil, All-cons}}}, Common.{rules, ◌≡◌, ◌≢◌, ℕ, ℤ, true, Bool, List, [], ◌∷◌, ◌++◌, cond, eqb, inl, inr, refl, sym, ap, subst, ◌∙◌, arith, get_or-set_other}}, specs.Prelude.{slice_set, Result, Err, IfErr}}
+use Rattle.stn_net.{specs.{Difference.Difference, Schedule.{IsSchedule, HasSchedule}, Matrix.{Table.Table, Tightest.IsExact}, declared.windows.answers.{Next.{Next, TheVariants.{Run, AllDone, Overdue}}, RehearseFault.{RehearseFault, TheVariants.Memory}}, Windows.{Dispatch.{IsLeft, IsReady, IsOverdue, IsNext, CanWaitUntil}, Rehearsal.{fixed_at, IsRehearsal, NeverFalls, RunsEachOnce, HasScheduleThrough, IsRehearseFault}}}, proofs.Closure.{schedule_before, schedule_last}}
 
 -- a schedule that has the event at the time is one of the bounds and the fixed event
 pub fixed_schedule : (bounds : List Difference) (times : ℕ → ℤ) (time : ℤ) (event : ℕ) → IsSchedule bounds times → times event ≡ time → IsSchedule (bounds ++ fixed_at time event ∷ []) times
@@ -12,7 +12,7 @@ ready_can_be_fixed bounds done time event ready =
 
 -- what is left once an event is done is another event, which was left before
 pub left_before : (done : List Bool) (event other : ℕ) → IsLeft done event → IsLeft (slice_set done event true) other → (other ≢ event) × IsLeft done other
-left_before done event other was_left left = grind (arith, common_steps, false≢true, left_within)
+left_before done event other was_left left = grind (arith, common_steps, false≢true)
 
 -- and another event that was left is left
 pub left_after : (done : List Bool) (event other : ℕ) → IsLeft done other → other ≢ event → IsLeft (slice_set done event true) other
@@ -35,7 +35,6 @@ rehearsed_schedule [] bounds done now possible rehearsal = (possible.0, possible
 rehearsed_schedule (run ∷ runs) bounds done now possible rehearsal =
     let rest = rehearsed_schedule runs (bounds ++ fixed_at run.0 run.1 ∷ []) (slice_set done run.1 true) run.0 (ready_can_be_fixed bounds done run.0 run.1 rehearsal.0.ready) rehearsal.1 in
     let times = rest.0 in
-    let origin = rest.1.origin in
     let fixed = schedule_last bounds (fixed_at run.0 run.1) times rest.1 in
     let at : times run.1 ≡ run.0 = omega (arith, ints, fixed.0, fixed.1) in
     (times, schedule_before bounds (fixed_at run.0 run.1 ∷ []) times rest.1, All-cons (λ (run : ℤ × ℕ). times run.1 ≡ run.0) run runs at rest.2)
@@ -49,10 +48,7 @@ rehearsed_rising (run ∷ runs) bounds done now rehearsal =
 -- where no event is overdue, the plan can wait
 pub can_wait : (bounds : List Difference) (done : List Bool) (now : ℤ) (answer : Next) → HasSchedule bounds → IsNext bounds done now answer
     → ((event : ℕ) → answer ≢ Overdue event) → CanWaitUntil bounds done now
-can_wait bounds done now (Run time event) possible next none =
-    let ready = next.ready in
-    let later = next.later in
-    (ready.possible.0, ready.possible.1, λ other left. (let after = ready.possible.3 other left in omega (arith, ints)))
+can_wait bounds done now (Run time event) possible next none = search rules
 can_wait bounds done now AllDone possible next none = (possible.0, possible.1, λ event left. absurd (next event left))
 can_wait bounds done now (Overdue event) possible next none = absurd (none event refl)
 
@@ -63,8 +59,7 @@ rehearsed_in_time (run ∷ runs) bounds done now possible rehearsal = can_wait b
 
 -- a plan in which an event is overdue can't
 pub overdue_cannot_wait : (bounds : List Difference) (done : List Bool) (now : ℤ) (event : ℕ) → IsOverdue bounds done now event → ¬ CanWaitUntil bounds done now
-overdue_cannot_wait bounds done now event overdue wait =
-    overdue.past (wait.0 event, wait.2 event overdue.left, (wait.0, wait.1, refl))
+overdue_cannot_wait bounds done now event overdue wait = search rules
 
 abbrev pub one_or_none : Bool → ℕ
 one_or_none test = cond test 1 0

@@ -1,7 +1,7 @@
 -- Schedules of bounds and more, and of bounds in another order.
-use Rattle.std.{proofs.{Common.{ℕ, ℤ, List, ◌++◌, All}, lemmas.List.{Elements.All-append, Sorted.{All-permutation, IsPermutation-sym}}}, specs.List.Sorted.IsPermutation}
+use Rattle.std.{proofs.{Common.{rules, ℕ, ℤ, List, ◌++◌, All}, lemmas.List.{Elements.All-append, Sorted.{All-permutation, IsPermutation-sym}}}, specs.List.Sorted.IsPermutation}
 use Rattle.stn_time.proofs.Each.{All-right}
-use Rattle.stn_net.{specs.{Difference.{Difference, NamesEvents}, Schedule.{IsSchedule, Meets}, Matrix.{Table.Table, Tightest.IsExact}}, proofs.Tightest.exact_same_schedules}
+use Rattle.stn_net.{specs.{Difference.Difference, Schedule.{IsSchedule, Meets}, Matrix.{Table.Table, Tightest.IsExact}}, proofs.Tightest.exact_same_schedules}
 
 -- a schedule of bounds and more meets those after
 pub met_behind : (bounds more : List Difference) (time : ℕ → ℤ) → IsSchedule (bounds ++ more) time → All (Meets time) more
@@ -17,6 +17,4 @@ schedule_permuted these those moved time s = record { origin = s.origin; met = A
 
 -- a table that is exact for bounds is so for them in another order
 pub exact_permuted : (these those : List Difference) (table : Table) → IsPermutation these those → IsExact these table → IsExact those table
-exact_permuted these those table moved exact =
-    exact_same_schedules these those table (schedule_permuted these those moved) (schedule_permuted those these (IsPermutation-sym these those moved))
-    (All-permutation (NamesEvents table.events) these those moved exact.named) exact
+exact_permuted these those table moved exact = search (rules, exact_same_schedules, schedule_permuted, IsPermutation-sym, All-permutation)

@@ -37,8 +37,7 @@ module _ (far : ℕ → ℕ → ℤ) (done : List Bool) where
         | inl left ↦ elim (leads_told event) [
           | inr behind ↦ inr (λ can. behind can.leads)
           | inl leads ↦
-              by_lt_z now (earliest far event)
-              (λ later. inr (λ can. let come = can.come in absurd (omega (arith, ints))))
+              by_lt_z now (earliest far event) (λ later. inr (λ can. let come = can.come in absurd (omega (arith, ints))))
               (λ come. inl (record { left = left; come = come; leads = leads }))
         ]
       ]

@@ -1,12 +1,11 @@
 -- The rest of a plan can be rehearsed, or an event is overdue.
-use Rattle.std.{proofs.{Common.{◌≡◌, ◌≢◌, ◌⊎◌, inl, inr, ℕ, ℤ, zero, suc, ◌+◌, ◌≤◌, Bool, true, not, cond, List, [], ◌∷◌, ◌++◌, refl, ap, subst, arith, length-set}, lemmas.List.Sums.sum_by-set}, specs.Prelude.{count_by, slice_set}}
+use Rattle.std.{proofs.{Common.{rules, ◌≡◌, ◌≢◌, ◌⊎◌, inl, inr, ℕ, ℤ, zero, suc, ◌+◌, ◌≤◌, Bool, true, not, List, [], ◌∷◌, ◌++◌, refl, subst, arith, length-set}, lemmas.List.Sums.sum_by-set}, specs.Prelude.{count_by, slice_set}}
 use Rattle.stn_net.{specs.{Difference.Difference, Matrix.Table.Table, declared.windows.answers.Next.{Next, TheVariants.{Run, AllDone, Overdue}}, Windows.{Dispatch.{IsLeft, IsNext}, Rehearsal.{fixed_at, IsRehearsal, IsRehearseFault}}}, proofs.{Readiness.left_within, Rehearsals.{ready_can_be_fixed, none_overdue_after, overdue_cannot_wait}, Fixed.exact_fixed, SomeNext.{AreFlagged, some_next}}}
 use Rattle.stn_net.specs.declared.windows.answers.RehearseFault.TheVariants as fault
 
 -- one event fewer is left once one is done
 one_fewer : (done : List Bool) (event : ℕ) → IsLeft done event → count_by not (slice_set done event true) + 1 ≡ count_by not done
-one_fewer done event left =
-    omega (arith, sum_by-set (λ b. cond (not b) 1 0) done event true true (left_within done event left), ap {B = ℕ} (λ b. cond (not b) 1 0) left.1)
+one_fewer done event left = search (rules, sum_by-set, left_within)
 
 -- the bounds and the flags, and what comes next, which is no overdue event
 record AreUnderWay (bounds : List Difference) (table : Table) (done : List Bool) (now : ℤ) (answer : Next) : Type 0 where

@@ -1,5 +1,5 @@
 -- What the soonest times say of what comes next, of the rest of a plan, and of when an event may run.
-use Rattle.std.{proofs.{lemmas.{Grind.common_steps, Int.{ints, clamps}, Bool.{cases_eq, cases_lt, eq-eqb, ne_eqb, false≢true, Decides.nat_tests}, Cmp.{nat_cmp_total, int_cmp_total, on_total, then_total}, List.{Sorted.{sorted_far, ranks_by, All-permutation, sum_by-IsPermutation}, Elements.{All-tail, All-append, All-contains, All-push, All-nil, Contains-append_left, Contains-push}, Sums.{sum_by-cons, sum_by_push}}}, Common.{◌≡◌, ◌≢◌, inl, inr, ℕ, ℤ, pos, zero, suc, ◌+◌, ◌<◌, ◌≤◌, ◌+ℤ◌, ◌-ℤ◌, ◌≤ℤ◌, ◌<ℤ◌, ◌↔◌, Bool, true, false, eqb, List, [], ◌∷◌, ◌++◌, length, get_or, Ordering, Less, Equal, Greater, refl, sym, ap, subst, ◌∙◌, arith}}, specs.{Prelude.{All, Option, Some, None, slice_set, count_by, MatchOption}, List.{AllPairs, Contains, Sorted.{IsSorted, IsPermutation}}, Int.{int_min, int_max}, Ordering.{ord_max, int_cmp, nat_cmp, is_lt, ordering_then, MatchOrdering}, Cmp.{IsTotalOrder, ranks, int_ranks}}}
+use Rattle.std.{proofs.{lemmas.{Int.{ints, clamps}, Bool.{cases_eq, cases_lt, eq-eqb, ne_eqb, false≢true, Decides.nat_tests}, Cmp.{nat_cmp_total, int_cmp_total, on_total, then_total}, List.{Sorted.{sorted_far, ranks_by, All-permutation, sum_by-IsPermutation}, Elements.{All-tail, All-append, All-contains, All-push, Contains-append_left, Contains-push}, Sums.{sum_by-cons, sum_by_push}}}, Common.{rules, ◌≡◌, ◌≢◌, inl, inr, ℕ, ℤ, pos, zero, suc, ◌+◌, ◌<◌, ◌≤◌, ◌+ℤ◌, ◌-ℤ◌, ◌≤ℤ◌, ◌<ℤ◌, ◌↔◌, Bool, true, false, eqb, List, [], ◌∷◌, ◌++◌, length, get_or, Ordering, Less, Equal, Greater, refl, sym, ap, subst, ◌∙◌, arith}}, specs.{Prelude.{All, Option, Some, None, slice_set, count_by, MatchOption}, List.{AllPairs, Contains, Sorted.{IsSorted, IsPermutation}}, Int.{int_min, int_max}, Ordering.{ord_max, int_cmp, nat_cmp, is_lt, ordering_then, MatchOrdering}, Cmp.{IsTotalOrder, ranks, int_ranks}}}
 use Rattle.stn_time.{proofs.Each.All-right, specs.Time.horizon}
 use Rattle.stn_net.{specs.{Difference.{Difference, NamesEvents}, Schedule.{IsSchedule, HasSchedule, Meets}, Windows.{Dispatch.{IsLeft, LeavesNoneBefore, IsReady, AreReadyTimes, ComesFirst, IsFirstReady, CanWaitUntil}, Rehearsal.{fixed_at, IsRehearsal, RunsEachOnce}, Leading.{floor_at, AreFloorsBelow, RunsBefore, AreRunsBelow, AreReadyAt, IsEarliestBelow, IsEarliestSoFar}, Soonest.{AreEarliest, AreSoonest}}}, proofs.{Closure.{schedule_before, schedule_last}, Readiness.left_within, WindowEnds.lesser_schedule, ReadyTimes.later_of, Ends.earliest_schedule, Rehearsals.{fixed_schedule, left_before, left_after, one_or_none, runs_at}, SomeNext.left_told}}
 
@@ -10,7 +10,7 @@ module _ (bounds : List Difference) (done : List Bool) (now : ℤ) (times : ℕ 
 
   -- whatever may run from now on comes no sooner
   pub ready_no_sooner : (event : ℕ) (time : ℤ) → now ≤ℤ time → IsReady bounds done event time → times event ≤ℤ time
-  ready_no_sooner event time later ready = grind (arith, common_steps)
+  ready_no_sooner event time later ready = grind (arith)
 
   -- so the first of those that are left, by its soonest time and then by number, comes next
   pub soonest_is_first : (time : ℤ) (event : ℕ) → IsLeft done event → time ≡ times event → ((other : ℕ) → IsLeft done other → ComesFirst time event (times other) other)
@@ -32,14 +32,11 @@ module _ (bounds : List Difference) (done : List Bool) (now : ℤ) (times : ℕ 
     waits = λ other still. first other (left_before done event other left still).1;
     least = λ others schedule waits other still.
         let (low, high) = schedule_last bounds (fixed_at (times event) event) others schedule in
-        let origin = schedule.origin in
         let after = are.waits event left in
-        are.least others (schedule_before bounds (fixed_at (times event) event ∷ []) others schedule)
-        (λ one is_left. elim (cases_eq one event) [
+        are.least others (schedule_before bounds (fixed_at (times event) event ∷ []) others schedule) (λ one is_left. elim (cases_eq one event) [
           | inl same ↦ (let e : others one ≡ others event = ap others same in omega (arith, ints))
           | inr differs ↦ (let later = waits one (left_after done event one is_left differs) in omega (arith, ints))
-        ])
-        other (left_before done event other left still).1;
+        ]) other (left_before done event other left still).1;
   }
 
 -- what counts in a list stands somewhere in it
@@ -126,7 +123,6 @@ pub schedule_above : (bounds floors : List Difference) (done : List Bool) (now :
 schedule_above bounds floors done now times are schedule = (
   schedule_before bounds floors times schedule,
   λ event left.
-      let origin = schedule.origin in
       let (low, high) = All-contains (Meets times) floors (floor_at now event) (All-right (Meets times) bounds floors schedule.met) (are.every event (left_within done event left) left) in
       omega (arith, ints),
 )
@@ -139,7 +135,6 @@ above_schedule bounds floors done now times are schedule waits by_horizon = reco
   met = All-append (Meets times) bounds floors schedule.met (λ k d below.
       let (left, is) = are.each k d below in
       let floor = get_or floors k d in
-      let origin = schedule.origin in
       let after = waits floor.to left in
       let before = by_horizon floor.to left in
       let met : Meets times (floor_at now floor.to) = (omega (arith, ints), omega (arith, ints)) in
@@ -150,7 +145,7 @@ above_schedule bounds floors done now times are schedule waits by_horizon = reco
 pub first_of_left : (times : ℕ → ℤ) (done : List Bool) (limit : ℕ) (first : Option (ℤ × ℕ)) → length done ≤ limit → IsEarliestSoFar times done limit first
     → MatchOption first ((event : ℕ) → ¬ IsLeft done event) (IsEarliestBelow times done (length done))
 first_of_left times done limit None all none = λ event left. none event (omega (arith, all, left_within done event left)) left
-first_of_left times done limit (Some run) all first = grind (arith, common_steps, left_within)
+first_of_left times done limit (Some run) all first = grind (arith, left_within)
 
 -- one more event, which is left
 pub floor_pushed : (done : List Bool) (now : ℤ) (number : ℕ) (floors : List Difference) → IsLeft done number → AreFloorsBelow done now number floors
@@ -167,7 +162,7 @@ floor_pushed done now number floors left are = record {
 -- one more that is not
 pub floor_kept : (done : List Bool) (now : ℤ) (number : ℕ) (floors : List Difference) → ¬ IsLeft done number → AreFloorsBelow done now number floors
     → AreFloorsBelow done now (number + 1) floors
-floor_kept done now number floors not_left are = grind (arith, common_steps, cases_lt)
+floor_kept done now number floors not_left are = grind (arith, cases_lt)
 
 module _ (bounds floors : List Difference) (done : List Bool) (now : ℤ) (are : AreFloorsBelow done now (length done) floors)
     (by_horizon : (times : ℕ → ℤ) → IsSchedule bounds times → (event : ℕ) → IsLeft done event → times event ≤ℤ horizon) where
@@ -197,13 +192,7 @@ module _ (bounds floors : List Difference) (done : List Bool) (now : ℤ) (are :
 -- the greater of one schedule and of another that is brought forward, as long as neither passes the origin, is a schedule
 greater_schedule : (bounds : List Difference) (early late : ℕ → ℤ) (delay : ℤ) → IsSchedule bounds early → IsSchedule bounds late → pos 0 ≤ℤ delay
     → IsSchedule bounds (λ y. int_max (early y) (late y -ℤ delay))
-greater_schedule bounds early late delay is_early is_late after = record {
-  origin = let a = is_early.origin in let b = is_late.origin in omega (arith, ints, clamps);
-  met = λ k d h.
-      let a = is_early.met k d h in
-      let b = is_late.met k d h in
-      (omega (arith, ints, clamps), omega (arith, ints, clamps));
-}
+greater_schedule bounds early late delay is_early is_late after = search (rules, ints, clamps)
 
 module _ (bounds : List Difference) (events : ℕ) (done : List Bool) (earliest latest times : ℕ → ℤ) (last : ℤ) (are : AreReadyAt bounds events done earliest latest times last) where
   -- an event that may run does so by then
@@ -228,7 +217,7 @@ module _ (bounds : List Difference) (events : ℕ) (done : List Bool) (earliest 
 
   -- it comes no earlier than it can
   earliest_by : (event : ℕ) (time : ℤ) → IsReady bounds done event time → earliest event ≤ℤ time
-  earliest_by event time ready = grind (arith, common_steps, left_within)
+  earliest_by event time ready = grind (arith, left_within)
 
   -- such an event may run from its earliest time on until then
   ready_from_earliest : (event : ℕ) (time : ℤ) → IsLeft done event → times event ≡ last → earliest event ≤ℤ time → time ≤ℤ last → IsReady bounds done event time

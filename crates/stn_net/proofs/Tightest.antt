@@ -1,9 +1,9 @@
-use Rattle.std.{proofs.{lemmas.{Grind.common_steps, Int.ints}, Common.{◌≡◌, ℕ, ℤ, ◌≤◌, ◌+ℤ◌, ◌-ℤ◌, ◌≤ℤ◌, neg_ℤ, List, get_or, arith}}, specs.Prelude.All}
+use Rattle.std.{proofs.{lemmas.Int.ints, Common.{◌≡◌, ℕ, ℤ, ◌≤◌, ◌+ℤ◌, ◌-ℤ◌, ◌≤ℤ◌, neg_ℤ, List, get_or, arith}}, specs.Prelude.All}
 use Rattle.stn_net.specs.{Difference.{Difference, NamesEvents}, Schedule.IsSchedule, Matrix.{Table.{Table, far_of}, Tightest.{IsTightest, IsExact}, Closed.IsClosed}}
 
 -- two tightest differences of the same events are equal
 pub tightest_unique : (bounds : List Difference) (x y : ℕ) (most other : ℤ) → IsTightest bounds x y most → IsTightest bounds x y other → most ≡ other
-tightest_unique bounds x y most other p q = grind (arith, common_steps)
+tightest_unique bounds x y most other p q = grind (arith)
 
 -- a tightest difference depends on the set of schedules alone
 pub tightest_same_schedules : (these those : List Difference) (x y : ℕ) (most : ℤ)
@@ -49,14 +49,12 @@ tight_from_exact bounds table p = record {
       let named = p.named k d h in
       let best = (p.far b.from b.to named.from named.to).attained in
       let met = best.1.met k d h in
-      let attains = best.2 in
       omega (arith, ints);
   lower = λ k d h.
       let b = get_or bounds k d in
       let named = p.named k d h in
       let best = (p.far b.to b.from named.to named.from).attained in
       let met = best.1.met k d h in
-      let attains = best.2 in
       omega (arith, ints);
 }
 

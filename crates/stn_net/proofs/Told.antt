@@ -1,5 +1,5 @@
 -- What can be told, and the least number of which it holds.
-use Rattle.std.proofs.{Common.{◌≡◌, ◌⊎◌, inl, inr, ℕ, ℤ, zero, suc, ◌<◌, ◌<ℤ◌, Bool, true, false, refl, sym, subst, arith}, lemmas.{Bool.{cases_lt, false≢true}, Int.{ints, by_lt_z}}}
+use Rattle.std.proofs.{Common.{rules, ◌≡◌, ◌⊎◌, inl, inr, ℕ, ℤ, zero, suc, ◌<◌, ◌<ℤ◌, Bool, true, false, refl, sym, subst, arith}, lemmas.{Bool.{cases_lt, false≢true}, Int.{ints, by_lt_z}}}
 
 -- it holds, or it doesn't
 abbrev pub Told : Type 0 → Type 0
@@ -15,9 +15,7 @@ told_as P Q forth back (inl p) = inl (forth p)
 told_as P Q forth back (inr none) = inr (λ q. none (back q))
 
 pub same_told : (a b : ℤ) → Told (a ≡ b)
-same_told a b =
-    by_lt_z a b (λ below. inr (λ e. omega (arith, ints)))
-    (λ le. by_lt_z b a (λ above. inr (λ e. omega (arith, ints))) (λ ge. inl (omega (arith, ints))))
+same_told a b = search rules
 
 pub less_told : (a b : ℤ) → Told (a <ℤ b)
 less_told a b = by_lt_z a b (λ below. inl below) (λ le. inr (λ below. omega (arith, ints)))

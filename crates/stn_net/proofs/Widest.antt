@@ -1,23 +1,17 @@
-use Rattle.std.{proofs.{lemmas.{Grind.common_steps, Int.ints, Bool.cases_eq, List.Elements.{All-push, All-nil}}, Common.{◌≡◌, ◌≢◌, ℕ, zero, suc, ℤ, pos, ◌≤◌, ◌+ℤ◌, ◌≤ℤ◌, neg_ℤ, ◌⊎◌, inl, inr, [], ◌∷◌, refl, ap, arith}}, specs.Prelude.All}
+use Rattle.std.{proofs.{lemmas.{Grind.common_steps, Int.ints, Bool.cases_eq, List.Elements.All-nil}, Common.{◌≡◌, ◌≢◌, ℕ, zero, suc, ℤ, pos, ◌≤◌, ◌≤ℤ◌, neg_ℤ, ◌⊎◌, inl, inr, [], ◌∷◌, ap, arith}}, specs.Prelude.All}
 use Rattle.stn_time.specs.Time.{horizon}
 use Rattle.stn_net.{specs.{Difference.{Difference, NamesEvents}, Horizon.{horizon_bound, horizon_bounds}, Schedule.IsSchedule, Matrix.{Table.{Table, far_of}, Tightest.IsExact, Closed.{IsClosed, IsWidest}}}, proofs.{Tightest.{IsTight, exact_from_tight}, Closure.{schedule_before, schedule_last}}}
 
 -- the widest difference of two events is 0 or the horizon
 widest_cases : (events : ℕ) (far : ℕ → ℕ → ℤ) → IsWidest events far → (x y : ℕ) → x ≤ events → y ≤ events → (far x y ≡ pos 0) ⊎ (far x y ≡ horizon)
-widest_cases events far widest x y xs ys = grind (arith, common_steps, cases_eq)
-
-widest_least : (events : ℕ) (far : ℕ → ℕ → ℤ) → IsWidest events far → (x y : ℕ) → x ≤ events → y ≤ events → pos 0 ≤ℤ far x y
-widest_least events far widest x y xs ys = elim (widest_cases events far widest x y xs ys) [ inl e ↦ omega (arith, ints) | inr e ↦ omega (arith, ints) ]
+widest_cases events far widest x y xs ys = grind (arith, cases_eq)
 
 widest_most : (events : ℕ) (far : ℕ → ℕ → ℤ) → IsWidest events far → (x y : ℕ) → x ≤ events → y ≤ events → far x y ≤ℤ horizon
 widest_most events far widest x y xs ys = elim (widest_cases events far widest x y xs ys) [ inl e ↦ omega (arith, ints) | inr e ↦ omega (arith, ints) ]
 
-widest_triangle : (events : ℕ) (far : ℕ → ℕ → ℤ) → IsWidest events far → (x y z : ℕ) → x ≤ events → y ≤ events → z ≤ events → far x z ≤ℤ (far x y +ℤ far y z)
-widest_triangle events far widest x y z xs ys zs = grind (arith, common_steps, widest_least, widest_most, cases_eq)
-
 -- the widest differences are closed
 pub widest-closed : (events : ℕ) (far : ℕ → ℕ → ℤ) → IsWidest events far → IsClosed events far
-widest-closed events far widest = grind (arith, common_steps, widest_triangle, widest_most)
+widest-closed events far widest = grind (arith, common_steps, widest_most)
 
 -- what holds of each horizon bound holds of all of them
 pub horizon_each : (P : Difference → Type 0) (events : ℕ) → ((event : ℕ) → event ≢ 0 → event ≤ events → P (horizon_bound event)) → All P (horizon_bounds events)
@@ -28,7 +22,7 @@ horizon_each P (suc events) each = grind (arith, common_steps, (horizon_each P e
 -- in a schedule of the horizon bounds each event lies from the origin to the horizon
 pub horizon_times : (events : ℕ) (time : ℕ → ℤ) → IsSchedule (horizon_bounds events) time → (event : ℕ) → event ≤ events → (pos 0 ≤ℤ time event) × (time event ≤ℤ horizon)
 unfolding horizon_bounds
-horizon_times zero time s event within = grind (arith, common_steps)
+horizon_times zero time s event within = grind (arith)
 horizon_times (suc events) time s event within =
     let before = schedule_before (horizon_bounds events) (horizon_bound (suc events) ∷ []) time s in
     let last = schedule_last (horizon_bounds events) (horizon_bound (suc events)) time s in

@@ -6,7 +6,6 @@ pub one_window : (bounds : List Difference) (event : ℕ) (earliest latest first
     → IsWindow bounds event earliest latest → IsWindow bounds event first last → (earliest ≡ first) × (latest ≡ last)
 one_window bounds event earliest latest first last possible these those =
     let some = (these (possible.0 event)).0 (possible.0, possible.1, refl) in
-    let other = (those (possible.0 event)).0 (possible.0, possible.1, refl) in
     let a = (those earliest).0 ((these earliest).1 (omega (arith, ints), omega (arith, ints))) in
     let b = (those latest).0 ((these latest).1 (omega (arith, ints), omega (arith, ints))) in
     let c = (these first).0 ((those first).1 (omega (arith, ints), omega (arith, ints))) in
@@ -28,7 +27,6 @@ lesser_schedule bounds late early delay is_late is_early after = record {
 pub between_in_window : (bounds : List Difference) (event : ℕ) (earliest latest time : ℤ) → IsInWindow bounds event earliest → IsInWindow bounds event latest
     → earliest ≤ℤ time → time ≤ℤ latest → IsInWindow bounds event time
 between_in_window bounds event earliest latest time early late after before =
-    let e = early.2 in
     let l = late.2 in (
       (λ y. int_min (late.0 y) (early.0 y +ℤ (time -ℤ earliest))),
       lesser_schedule bounds late.0 early.0 (time -ℤ earliest) late.1 early.1 (omega (arith, ints)),
@@ -46,14 +44,10 @@ window_of_ends bounds event back far early late = λ time. (
       let most = late.bound s.0 s.1 in
       (omega (arith, ints), omega (arith, ints))),
   (λ between.
-      let first = early.attained.1.origin in
       let last = late.attained.1.origin in
-      let attains_first = early.attained.2 in
       let attains_last = late.attained.2 in
-      between_in_window bounds event (neg_ℤ back) far time
-      (early.attained.0, early.attained.1, omega (arith, ints))
-      (late.attained.0, late.attained.1, omega (arith, ints))
-      between.0 between.1),
+      between_in_window bounds event (neg_ℤ back) far time (early.attained.0, early.attained.1, omega (arith, ints))
+      (late.attained.0, late.attained.1, omega (arith, ints)) between.0 between.1),
 )
 
 -- those ends stand in the row and the column of the origin of an exact table

@@ -1,17 +1,14 @@
 -- Frames with the same bodies are one.
-use Rattle.std.{proofs.Common.{◌≡◌, ℕ, List, [], ◌∷◌, ◌++◌, ◌≤◌, drop, get_or, refl, sym, ap, ◌∙◌, append-nil, arith}, specs.FinMap.{entries, same_entries_map}}
+use Rattle.std.{proofs.Common.{rules, ◌≡◌, ℕ, List, [], ◌∷◌, ◌++◌, ◌≤◌, drop, get_or, refl, sym, ap, ◌∙◌, append-nil, arith}, specs.FinMap.{entries, same_entries_map}}
 use Rattle.stn_lift.specs.PlanSource.{PlanSource, bare, files}
 use Rattle.stn_records.specs.{Id.SiteCounter, Content.Content}
-use Rattle.stn_wire.{specs.{Spelling.{entry_bytes, IsEntry, entry_width, tomb_bytes, IsTomb, amendment_bytes, amendments_bytes, AreIds, counted, AreCounted, measured}, Apart.{two_apart, entry_apart, entry_sized, tomb_apart, amendment_apart}, declared.layout.Layout.{Layout, TheVariants.{Old, New}}, Frame.{FrameContent, old_hello, old_records, hello, records, ask, text, refused, same, source_bytes, IsSaidSource, state_bytes, IsState, HasSpelling, records_kind, kind_of, body_of}}, proofs.Chunks.{counted_cut, measured_cut}}
+use Rattle.stn_wire.{specs.{Spelling.{entry_bytes, IsEntry, entry_width, tomb_bytes, IsTomb, amendment_bytes, amendments_bytes, AreIds, counted, AreCounted}, Apart.{two_apart, entry_apart, entry_sized, tomb_apart, amendment_apart}, declared.layout.Layout.{Layout, TheVariants.{Old, New}}, Frame.{FrameContent, old_hello, old_records, hello, records, ask, text, refused, same, source_bytes, IsSaidSource, state_bytes, IsState, HasSpelling, records_kind, kind_of, body_of}}, proofs.Chunks.{counted_cut, measured_cut}}
 
 pub source_apart : (a b : PlanSource) → IsSaidSource a → IsSaidSource b → source_bytes a ≡ source_bytes b → a ≡ b
 source_apart (bare m) (bare n) p q e = ap (λ n. bare n) (two_apart m n p q (ap (drop 1) e))
 source_apart (bare m) (files c d) p q e = let forms : ◌≡◌ {A = ℕ} 0 1 = ap (λ l. get_or l 0 0) e in absurd (omega arith)
 source_apart (files a b) (bare n) p q e = let forms : ◌≡◌ {A = ℕ} 1 0 = ap (λ l. get_or l 0 0) e in absurd (omega arith)
-source_apart (files a b) (files c d) p q e =
-    let first = measured_cut a c (measured b) (measured d) p.0 q.0 (ap (drop 1) e) in
-    let second = measured_cut b d [] [] p.1 q.1 (append-nil _ ∙ first.1 ∙ sym (append-nil _)) in
-    λ i. files (first.0 i) (second.0 i)
+source_apart (files a b) (files c d) p q e = search (rules, measured_cut)
 
 -- lists of entries with the same bytes are one
 amendments_apart : (l m : List (SiteCounter × SiteCounter)) → AreCounted AreIds l → AreCounted AreIds m → amendments_bytes l ≡ amendments_bytes m → l ≡ m

@@ -1,5 +1,6 @@
 -- Texts of pieces of one length.
-use Rattle.std.{proofs.{Common.{◌≡◌, ℕ, ◌*◌, ◌<◌, ◌≤◌, ◌^◌, List, [], ◌∷◌, ◌++◌, length, take, drop, refl, sym, ap, ◌∙◌, append_assoc, arith, length-append}, lemmas.List.take_at}, specs.List.{flat_map, AllByRecursion}}
+use Rattle.std.proofs.lemmas.Grind.{common_steps}
+use Rattle.std.{proofs.Common.{◌≡◌, ℕ, ◌*◌, ◌<◌, ◌≤◌, ◌^◌, List, [], ◌∷◌, ◌++◌, length, take, drop, refl, sym, ap, ◌∙◌, append_assoc, arith, length-append}, specs.List.{flat_map, AllByRecursion}}
 use Rattle.stn_wire.specs.{Spelling.{measured, counted, AreCounted}, Apart.{two_apart, four_apart, cut_alike}}
 
 -- texts after their lengths with the same bytes are the same
@@ -14,7 +15,7 @@ module _ {X : Type 0} (Valid : X → Type 0) (spell : X → List ℕ) (wide : �
 
   pub length-flat_map : (xs : List X) → length (flat_map spell xs) ≡ length xs * wide
   length-flat_map [] = omega arith
-  length-flat_map (x ∷ xs) = omega (arith, length-append (spell x) (flat_map spell xs), sized x, length-flat_map xs)
+  length-flat_map (x ∷ xs) = omega (arith, length-append (spell x) (flat_map spell xs), length-flat_map xs)
 
   -- what stands after some items in a text of more valid ones begins with one of these
   pub next_spelled : (xs vs : List X) (rest behind : List ℕ) → length xs < length vs → AllByRecursion Valid vs → flat_map spell xs ++ rest ≡ flat_map spell vs ++ behind → (v : X) × Valid v × ((more : List ℕ) × (rest ≡ spell v ++ more))
@@ -40,13 +41,6 @@ module _ {X : Type 0} (Valid : X → Type 0) (spell : X → List ℕ) (wide : �
         let long = two_apart (length xs) (length vs) p.few q.few (ap (take 2) e) in
         flat_cut xs vs rest behind long p.each q.each (ap (drop 2) e)
 
-  -- a text that begins with an item's bytes is long enough, and its front is these
-  pub front_wide : (v : X) (rest more : List ℕ) → rest ≡ spell v ++ more → (wide ≤ length rest) × (take wide rest ≡ spell v)
-  front_wide v rest more e = (
-    omega (arith, ap length e, length-append (spell v) more, sized v),
-    ap (take wide) e ∙ take_at (spell v) more wide (sized v),
-  )
-
   -- so the next item stands in front of what is left
   pub record IsNext (rest : List ℕ) : Type 0 where
     pub item : X
@@ -55,7 +49,4 @@ module _ {X : Type 0} (Valid : X → Type 0) (spell : X → List ℕ) (wide : �
     pub front : take wide rest ≡ spell item
 
   pub next_item : (xs vs : List X) (bytes rest behind : List ℕ) → length xs < length vs → AllByRecursion Valid vs → bytes ≡ flat_map spell xs ++ rest → bytes ≡ flat_map spell vs ++ behind → IsNext rest
-  next_item xs vs bytes rest behind l all ours theirs =
-      let next = next_spelled xs vs rest behind l all (sym ours ∙ theirs) in
-      let wide = front_wide next.0 rest next.2.0 next.2.1 in
-      record { item = next.0; valid = next.1; long = wide.0; front = wide.1 }
+  next_item xs vs bytes rest behind l all ours theirs = grind (arith, common_steps, next_spelled)

@@ -1,6 +1,6 @@
 -- Bytes are whole frames, and a rest that begins with none.
-use Rattle.std.{proofs.Common.{◌≡◌, ℕ, zero, suc, ◌+◌, ◌<◌, ◌≤◌, ◌^◌, List, [], ◌∷◌, ◌++◌, length, take, drop, refl, sym, ap, ◌∙◌, arith, append_assoc, length-drop, take-append-drop}, specs.{Prelude.flat_map, List.AllByRecursion}}
-use Rattle.stn_wire.{specs.{Frame.{FrameContent, spelling, IsFrame}, Front.BeginsFrame}, proofs.Fronts.{ShowsNone, shown, some_front_lem}}
+use Rattle.std.{proofs.Common.{rules, ◌≡◌, ℕ, zero, suc, ◌+◌, ◌<◌, ◌≤◌, ◌^◌, List, [], ◌∷◌, ◌++◌, length, take, drop, refl, sym, ◌∙◌, arith, append_assoc, length-drop, take-append-drop}, specs.{Prelude.flat_map, List.AllByRecursion}}
+use Rattle.stn_wire.{specs.Frame.{FrameContent, spelling, IsFrame}, proofs.Fronts.{ShowsNone, shown, some_front_lem}}
 
 pub record IsCut (bytes : List ℕ) (frames : List FrameContent) (rest : List ℕ) : Type 0 where
   pub each : AllByRecursion IsFrame frames
@@ -22,13 +22,7 @@ bytes_before (suc n) (byte ∷ bytes) small = (small.0, bytes_before n bytes sma
 
 pub some_cut : (n : ℕ) (bytes : List ℕ) → length bytes ≤ n → AreBytes bytes → ¬ ((frames : List FrameContent) (rest : List ℕ) → ¬ IsCut bytes frames rest)
 some_cut zero bytes few small none =
-    none [] bytes (record {
-      each = tt;
-      cut = refl;
-      shows = some_front_lem bytes small (λ begins.
-          let is = shown bytes begins.0 begins.1 begins.2 in
-          omega (arith, is.long, is.within, is.lasting.0));
-    })
+    none [] bytes (search rules)
 some_cut (suc n) bytes few small none =
     none [] bytes (record {
       each = tt;

@@ -20,7 +20,7 @@ module _ (held piece : List ℕ) (before : IsFront held unfinished) (opening : �
   opening_err A fault left h = absurd h
 
   opened_length : length opened ≡ length held + opening
-  opened_length = omega (arith, ap length opened_is, length-append held (take opening piece), length-take opening piece, opening_is)
+  opened_length = omega (arith, ap length opened_is, length-append held (take opening piece), length-take opening piece)
 
   module _ (wanted : ℕ) (wants : IsWanted opened wanted) (used : ℕ) (used_is : used ≡ min (wanted - length opened) (length (take (length piece - opening) (drop opening piece)))) (filled : List ℕ) (filled_is : filled ≡ opened ++ take used (take (length piece - opening) (drop opening piece))) where
     used_least : used ≡ min (wanted - length opened) (length piece - opening)

@@ -1,5 +1,5 @@
 -- Bytes have one front, and more bytes don't change a whole frame or a fault.
-use Rattle.std.{proofs.{Common.{◌≡◌, ℕ, zero, suc, ◌+◌, ◌-◌, ◌<◌, ◌≤◌, List, [], ◌∷◌, ◌++◌, length, take, drop, get_or, ◌^◌, ◌⊎◌, inl, inr, refl, sym, ap, subst, ◌∙◌, ⊎_elim, arith, length-append, length-take, length-drop, take-append-drop}, lemmas.{List.{take_at, drop_at, take-append-le, drop-append-le, get_or_append_left, get_or-take, get_or_past, take-take, drop-take}, Nat.{from_be_bytes-to_be_bytes_4, be_bytes_4}, Bool.{cases_lt, cases_eq}}}, specs.{FinMap.entries, List.AllByRecursion}}
+use Rattle.std.{proofs.{Common.{rules, ◌≡◌, ℕ, zero, suc, ◌+◌, ◌-◌, ◌<◌, ◌≤◌, List, [], ◌∷◌, ◌++◌, length, take, drop, get_or, ◌^◌, ◌⊎◌, inl, inr, refl, sym, ap, subst, ◌∙◌, ⊎_elim, arith, length-append, length-take, length-drop, take-append-drop}, lemmas.{List.{take_at, drop_at, take-append-le, get_or_append_left, get_or-take, get_or_past, take-take, drop-take}, Nat.{from_be_bytes-to_be_bytes_4, be_bytes_4}, Bool.{cases_lt, cases_eq}}}, specs.{FinMap.entries, List.AllByRecursion}}
 use Rattle.stn_records.specs.Id.{SiteCounter}
 use Rattle.stn_wire.{specs.{Spelling.four, declared.fault.WireFault.{WireFault, TheVariants.{Length, Kind, Body, OldFrame, Memory}}, Reading.IsWanted, Frame.{FrameContent, records, records_kind, kind_of, body_of, spelling, IsFrame, HasSpelling, most_body}, Front.{Front, whole, faulty, unfinished, announced, IsLength, IsKind, IsFront, BeginsFrame}}, proofs.Bodies.body_apart}
 
@@ -34,14 +34,7 @@ shown bytes frame n h =
     let first : take 4 bytes ≡ four (length body) = sym (take-take 4 n bytes (omega arith)) ∙ ap (take 4) h.2 in
     let said : announced bytes ≡ length body = announced_front bytes (four (length body)) first ∙ from_be_bytes-to_be_bytes_4 (length body) (omega (arith, h.0.fits)) in
     let behind : take (announced bytes) (drop 4 bytes) ≡ body = ap (λ k. take k (drop 4 bytes)) said ∙ sym (drop-take 4 (length body) bytes) ∙ ap (λ k. drop 4 (take k bytes)) (sym long) ∙ ap (drop 4) h.2 in
-    let first_byte : get_or bytes 4 0 ≡ kind_of frame = sym (get_or-take n bytes 4 0 (omega arith)) ∙ ap (λ l. get_or l 4 0) h.2 in
-    record {
-      long = omega arith;
-      within = h.1;
-      lasting = (omega arith, omega (arith, h.0.fits));
-      known = subst IsKind (sym first_byte) (kinds_known frame);
-      body = behind;
-    }
+    search rules
 
 -- unfinished bytes are no more than a frame has
 pub unfinished_short : (bytes : List ℕ) → IsFront bytes unfinished → IsLength (announced bytes) → ¬ (4 + announced bytes ≤ length bytes)
@@ -58,8 +51,7 @@ one_front_lem bytes (whole f n) (whole g m) p q =
     let ours = shown bytes f n p in
     let theirs = shown bytes g m q in
     let frames = body_apart f g p.0.said q.0.said (sym ours.body ∙ theirs.body) in
-    let lengths : n ≡ m = ours.long ∙ sym theirs.long in
-    λ i. whole (frames i) (lengths i)
+    cc
 one_front_lem bytes (whole f n) (faulty Length) p q = absurd (q.1 (shown bytes f n p).lasting)
 one_front_lem bytes (whole f n) (faulty Kind) p q = absurd (q.2 (shown bytes f n p).known)
 one_front_lem bytes (whole f n) (faulty Body) p q = absurd (q.3 f p.0 (shown bytes f n p).body)
@@ -108,9 +100,6 @@ one_spelling_lem f g x y p q e =
 -- a whole body that is a frame's stands in front
 pub whole_read : (bytes : List ℕ) (frame : FrameContent) (n : ℕ) → ((i : ℕ) → get_or bytes i 0 < 256) → IsWanted bytes n → n ≤ length bytes → HasSpelling frame → take (n - 4) (drop 4 bytes) ≡ body_of frame → IsFront bytes (whole frame n)
 whole_read bytes frame n small wanted enough said is =
-    let least = wanted.least in
-    let long : 5 ≤ length bytes = omega arith in
-    let n-is = wanted.whole long in
     let bounds = wanted.lasting (omega arith) in
     let body-is : length (body_of frame) ≡ announced bytes = omega (arith, ap length is, length-take (n - 4) (drop 4 bytes), length-drop 4 bytes) in
     let first_length : length (take 4 bytes) ≡ 4 = omega (arith, length-take 4 bytes) in
@@ -139,13 +128,7 @@ no_body bytes small none all lasting known = (
   lasting,
   known,
   λ frame is same.
-      let wanted : IsWanted bytes (4 + announced bytes) = record {
-        least = omega (arith, lasting.0);
-        lasting = λ _. lasting;
-        short = λ few. absurd (omega (arith, few, all, lasting.0));
-        known = λ _. known;
-        whole = λ _. refl;
-      } in
+      let wanted : IsWanted bytes (4 + announced bytes) = search rules in
       let behind : 4 + announced bytes - 4 ≡ announced bytes = omega arith in
       none (frame, 4 + announced bytes, whole_read bytes frame (4 + announced bytes) small wanted all is.said (ap (λ n. take n (drop 4 bytes)) behind ∙ same)),
 )
@@ -154,28 +137,22 @@ abbrev pub ShowsNone : List ℕ → Type 0
 ShowsNone bytes = IsFront bytes unfinished ⊎ ((fault : WireFault) × IsFront bytes (faulty fault))
 
 of_kind : (bytes : List ℕ) → ((i : ℕ) → get_or bytes i 0 < 256) → ¬ BeginsFrame bytes → 5 ≤ length bytes → IsLength (announced bytes) → IsKind (get_or bytes 4 0) → ShowsNone bytes
-of_kind bytes small none five lasting known =
-    ⊎_elim (λ less. inl (inr (lasting, inr (known, less)))) (λ all. inr (Body, no_body bytes small none all lasting known)) (cases_lt (length bytes) (4 + announced bytes))
+of_kind bytes small none five lasting known = search (rules, no_body)
 
 of_length : (bytes : List ℕ) → ((i : ℕ) → get_or bytes i 0 < 256) → ¬ BeginsFrame bytes → 4 ≤ length bytes → IsLength (announced bytes) → ShowsNone bytes
 of_length bytes small none four lasting =
-    ⊎_elim (λ less. inl (inr (lasting, inl (omega (arith, four, less)))))
-    (λ five.
+    ⊎_elim (λ less. inl (inr (lasting, inl (omega (arith, four, less))))) (λ five.
     ⊎_elim (λ low. inr (Kind, (five, lasting, ⊎_elim (λ k. omega (arith, low, k.0)) (λ k. omega (arith, low, k)))))
     (λ low. ⊎_elim (λ high. ⊎_elim (λ known. of_kind bytes small none five lasting (inr known)) (λ other. inr (Kind, (five, lasting, ⊎_elim (λ k. omega (arith, high, k.1)) other))) (cases_eq (get_or bytes 4 0) 16))
-    (λ high. of_kind bytes small none five lasting (inl (low, high))) (cases_lt 8 (get_or bytes 4 0)))
-    (cases_lt (get_or bytes 4 0) 1))
+    (λ high. of_kind bytes small none five lasting (inl (low, high))) (cases_lt 8 (get_or bytes 4 0))) (cases_lt (get_or bytes 4 0) 1))
     (cases_lt (length bytes) 5)
 
 pub some_front_lem : (bytes : List ℕ) → AllByRecursion (λ byte. byte < 2 ^ 8) bytes → ¬ BeginsFrame bytes → ShowsNone bytes
 some_front_lem bytes small none =
-    ⊎_elim (λ few. inl (inl few))
-    (λ four.
-    ⊎_elim (λ low. inr (Length, (four, λ l. omega (arith, low, l.0))))
-    (λ low.
+    ⊎_elim (λ few. inl (inl few)) (λ four.
+    ⊎_elim (λ low. inr (Length, (four, λ l. omega (arith, low, l.0)))) (λ low.
     ⊎_elim (λ high. inr (Length, (four, λ l. omega (arith, high, l.1)))) (λ high. of_length bytes (small_bytes bytes small) none four (low, high)) (cases_lt most_body (announced bytes)))
-    (cases_lt (announced bytes) 1))
-    (cases_lt (length bytes) 4)
+    (cases_lt (announced bytes) 1)) (cases_lt (length bytes) 4)
 
 -- ---- more bytes
 
@@ -190,17 +167,7 @@ whole_more xs ys frame n h = (h.0, omega (arith, length-append xs ys, h.1), take
 
 pub fault_more : (xs ys : List ℕ) (fault : WireFault) → IsFront xs (faulty fault) → IsFront (xs ++ ys) (faulty fault)
 fault_more xs ys Length h = (omega (arith, length-append xs ys, h.0), λ l. h.1 (subst IsLength (announced_more xs ys h.0) l))
-fault_more xs ys Kind h =
-    let same = announced_more xs ys (omega (arith, h.0)) in
-    (omega (arith, length-append xs ys, h.0), subst IsLength (sym same) h.1, λ k. h.2 (subst IsKind (kind_more xs ys h.0) k))
-fault_more xs ys Body h =
-    let same = announced_more xs ys (omega (arith, h.0, h.1.0)) in
-    let body : take (announced (xs ++ ys)) (drop 4 (xs ++ ys)) ≡ take (announced xs) (drop 4 xs) =
-    ap (λ k. take k (drop 4 (xs ++ ys))) same ∙ ap (take (announced xs)) (drop-append-le 4 xs ys (omega (arith, h.0, h.1.0))) ∙ take-append-le (announced xs) (drop 4 xs) ys (omega (arith, length-drop 4 xs, h.0)) in (
-      omega (arith, length-append xs ys, same, h.0),
-      subst IsLength (sym same) h.1,
-      subst IsKind (sym (kind_more xs ys (omega (arith, h.0, h.1.0)))) h.2,
-      λ frame said is. h.3 frame said (sym body ∙ is),
-    )
+fault_more xs ys Kind h = search (rules, announced_more, length-append, kind_more)
+fault_more xs ys Body h = search (rules, announced_more, take-append-le, length-drop, length-append, kind_more)
 fault_more xs ys OldFrame h = absurd h
 fault_more xs ys Memory h = absurd h

@@ -1,5 +1,5 @@
 -- What a feeder gives for some bytes, however they are cut.
-use Rattle.std.{proofs.{Common.{◌≡◌, ℕ, List, [], ◌∷◌, ◌++◌, length, take, Option, Some, None, Result, Ok, Err, ◌⊎◌, inl, inr, refl, sym, ap, subst, ◌∙◌, ⊎_elim, arith, append_assoc, append-nil}, lemmas.List.take_all, Math.Seq.take-append-add}, specs.{Prelude.flat_map, List.AllByRecursion}}
+use Rattle.std.{proofs.{Common.{rules, ◌≡◌, ℕ, List, [], ◌∷◌, ◌++◌, length, take, Option, Some, None, Result, Ok, Err, ◌⊎◌, inl, inr, refl, sym, ap, subst, ◌∙◌, ⊎_elim, arith, append_assoc, append-nil}, lemmas.List.take_all, Math.Seq.take-append-add}, specs.{Prelude.flat_map, List.AllByRecursion}}
 use Rattle.stn_wire.{specs.{Frame.{FrameContent, content, spelling, IsFrame}, Front.{whole, faulty, unfinished, IsFront}, Feeder.{FeederState, holding, broken_by, CompletesFrame, IsFed}, declared.{fault.WireFault.{WireFault, TheVariants.{Length, Kind, Body, OldFrame, Memory}}, feeder.Fed.Fed, frame.Frame.Frame}, Feeding.{Call, Feeds, bytes_by, frame_by, frames_by, stream_of, frames_of}}, proofs.Fronts.{one_front_lem, one_spelling_lem, whole_spelled, fault_more}}
 
 -- a feeder that was given these bytes after its last whole frame
@@ -32,17 +32,14 @@ module _ (A : Type 0) (held piece : List ℕ) (next : FeederState) (stream : Lis
       (record { rest = held ++ (piece ++ stream); each = tt; cut = refl; ends = inr (fault, none.1, subst (λ l. IsFront l (faulty fault)) (append_assoc held piece stream) (fault_more (held ++ piece) stream fault front)) })
 
   takes : (used : ℕ) (frame : Option (Frame A)) → CompletesFrame held piece used frame next → Gives (held ++ (take used piece ++ stream)) (frame_by frame ++ frames) last
-  takes used None taken =
-      let all : take used piece ≡ piece = take_all used piece (omega (arith, taken.1)) in
-      subst (λ l. Gives l frames last) (append_assoc held piece stream ∙ ap (λ l. held ++ (l ++ stream)) (sym all)) (on (held ++ piece) taken.2 taken.0)
+  takes used None taken = search (rules, take_all, append_assoc)
   takes used (Some frame) taken =
       let later = on [] taken.1 (inl (omega arith)) in
       let front : held ++ take used piece ≡ spelling (content frame) = sym (take-append-add held piece used) ∙ taken.0.2 in
       record {
         rest = later.rest;
         each = (taken.0.0, later.each);
-        cut = sym (append_assoc held (take used piece) stream)
-            ∙ (λ i. front i ++ later.cut i)
+        cut = sym (append_assoc held (take used piece) stream) ∙ (λ i. front i ++ later.cut i)
             ∙ sym (append_assoc (spelling (content frame)) (flat_map spelling frames) later.rest);
         ends = later.ends;
       }
@@ -59,8 +56,7 @@ gives : (A : Type 0) (calls : List (Call A)) (held : List ℕ) (first last : Fee
 gives A [] held first last is before fed = record { rest = held; each = tt; cut = append-nil held; ends = inl (fed ∙ is, before) }
 gives A (call ∷ calls) held first last is before fed =
     answers A held call.piece fed.0 (stream_of calls) (frames_of calls) last
-    (λ left next unfinished. gives A calls left fed.0 last next unfinished fed.2)
-    (λ fault next. stays fault calls fed.0 last next fed.2)
+    (λ left next unfinished. gives A calls left fed.0 last next unfinished fed.2) (λ fault next. stays fault calls fed.0 last next fed.2)
     before call.answer (subst (λ (s : FeederState). IsFed s.held call.piece call.answer fed.0) is (fed.1.fed (ap (λ (s : FeederState). s.broken) is)))
 
 -- ---- bytes give one thing
@@ -69,20 +65,11 @@ gives A (call ∷ calls) held first last is before fed =
 no_frame : (rest later : List ℕ) (frame : FrameContent) (last : FeederState) → IsFrame frame → rest ≡ spelling frame ++ later → Ends rest last → ⊥
 no_frame rest later frame last is front =
     let stands = subst (λ l. IsFront l (whole frame (length (spelling frame)))) (sym front) (whole_spelled frame later is) in
-    ⊎_elim
-    (λ whole_held. let clash = one_front_lem rest unfinished (whole frame (length (spelling frame))) whole_held.1 stands in absurd (cc))
+    ⊎_elim (λ whole_held. let clash = one_front_lem rest unfinished (whole frame (length (spelling frame))) whole_held.1 stands in absurd (cc))
     (λ broken. let clash = one_front_lem rest (faulty broken.0) (whole frame (length (spelling frame))) broken.2 stands in absurd (cc))
 
 same_end : (rest : List ℕ) (one other : FeederState) → Ends rest one → Ends rest other → one ≡ other
-same_end rest one other =
-    ⊎_elim
-    (λ p. ⊎_elim (λ q. p.0 ∙ sym q.0) (λ q. let clash = one_front_lem rest unfinished (faulty q.0) p.1 q.2 in absurd (cc)))
-    (λ p.
-    ⊎_elim (λ q. let clash = one_front_lem rest unfinished (faulty p.0) q.1 p.2 in absurd (cc))
-    (λ q.
-    let fronts = one_front_lem rest (faulty p.0) (faulty q.0) p.2 q.2 in
-    let faults : p.0 ≡ q.0 = cc in
-    p.1 ∙ (ap broken_by faults ∙ sym q.1)))
+same_end rest one other = search rules
 
 walk : (bytes : List ℕ) (F G : List FrameContent) (rest left : List ℕ) (one other : FeederState) → AllByRecursion IsFrame F → AllByRecursion IsFrame G → bytes ≡ flat_map spelling F ++ rest → bytes ≡ flat_map spelling G ++ left
     → Ends rest one → Ends left other → (F ≡ G) × (one ≡ other)

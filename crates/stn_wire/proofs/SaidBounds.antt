@@ -1,5 +1,5 @@
 -- The bounds of a state that is spelled.
-use Rattle.std.{proofs.{Common.{ℕ, List}, lemmas.List.Elements.All-from_recursion}, specs.{Prelude.All, FinMap.entries}}
+use Rattle.std.{proofs.{Common.ℕ, lemmas.List.Elements.All-from_recursion}, specs.{Prelude.All, FinMap.entries}}
 use Rattle.stn_net.specs.Difference.{NamesEvents, IsBoundWithin}
 use Rattle.stn_records.{specs.{Maps.AllFit, Content.Content, ContentLaws.{ids_total, ids_exact}}, proofs.Gets.get_from_entries}
 use Rattle.stn_wire.specs.{declared.layout.Layout.Layout, Spelling.IsEntry, Frame.IsState}

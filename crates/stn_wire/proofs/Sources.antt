@@ -1,4 +1,5 @@
 -- Reading the two texts of a source.
+use Rattle.std.proofs.lemmas.Grind.{common_steps}
 use Rattle.std.proofs.Common.{◌≡◌, ◌≢◌, ℕ, ◌<◌, ◌^◌, List, [], ◌∷◌, length, drop, get_or, Option, None, Some, sym, ap, ◌∙◌, arith, append-nil}
 use Rattle.stn_lift.specs.PlanSource.{PlanSource, bare, files}
 use Rattle.stn_wire.{specs.{Spelling.measured, Frame.{source_bytes, IsSaidSource}, Reading.{IsReadFrom, measured_then}}, proofs.Chunks.measured_cut}
@@ -28,5 +29,4 @@ module _ (texts domain rest : List ℕ) (first : IsTextReading texts (Some (doma
 
   pub plan_and_more : (plan left : List ℕ) → IsTextReading rest (Some (plan, left)) → left ≢ [] → NoSource texts
   plan_and_more plan left second more (bare steps) said is = bare_apart texts steps is
-  plan_and_more plan left second more (files d p) said is =
-      more (measured_cut plan p left [] second.0 said.1 (sym second.1 ∙ behind_domain d p said is ∙ sym (append-nil (measured p)))).1
+  plan_and_more plan left second more (files d p) said is = grind (arith, common_steps, measured_cut)

@@ -9,13 +9,13 @@ Entry = SiteCounter × SiteCounter
 
 -- a sound state has few entries
 pub few_additions : (s : Content) → IsSound s → length (entries s.additions) ≤ 4096
-few_additions s sound = omega (arith, additions_within s, sound.limited)
+few_additions s sound = omega (arith, additions_within s)
 
 pub few_tombstones : (s : Content) → IsSound s → length (entries s.tombstones) ≤ 4096
-few_tombstones s sound = omega (arith, tombstones_within s, sound.limited)
+few_tombstones s sound = omega (arith, tombstones_within s)
 
 pub few_replacements : (s : Content) → IsSound s → length (entries s.replacements) ≤ 4096
-few_replacements s sound = omega (arith, replacements_within s sound.amends, sound.limited)
+few_replacements s sound = omega (arith, replacements_within s sound.amends)
 
 -- how many bytes entries have
 pub amendments_long : (entry : Entry) (rest : List Entry) → length (amendments_bytes (entry ∷ rest)) ≡ 2 + length (entry ∷ rest) * 8
@@ -32,13 +32,7 @@ amendments_sized (entry ∷ rest) some = amendments_long entry rest
 -- how many bytes a state has
 pub length-state_bytes : (layout : Layout) (s : Content) → length (state_bytes layout s) ≡ 4 + length (entries s.additions) * entry_width layout + length (entries s.tombstones) * 4 + length (amendments_bytes (entries s.replacements))
 length-state_bytes layout s =
-    omega (
-      arith,
-      length-append (flat_map (entry_bytes layout) (entries s.additions)) (counted tomb_bytes (entries s.tombstones) ++ amendments_bytes (entries s.replacements)),
-      length-append (flat_map tomb_bytes (entries s.tombstones)) (amendments_bytes (entries s.replacements)),
-      length-flat_map (IsEntry layout) (entry_bytes layout) (entry_width layout) (entry_sized layout) (entries s.additions),
-      length-flat_map IsTomb tomb_bytes 4 (λ _. refl) (entries s.tombstones),
-    )
+    omega (arith, length-append (flat_map (entry_bytes layout) (entries s.additions)) (counted tomb_bytes (entries s.tombstones) ++ amendments_bytes (entries s.replacements)), length-append (flat_map tomb_bytes (entries s.tombstones)) (amendments_bytes (entries s.replacements)), length-flat_map (IsEntry layout) (entry_bytes layout) (entry_width layout) (entry_sized layout) (entries s.additions), length-flat_map IsTomb tomb_bytes 4 (λ _. refl) (entries s.tombstones))
 
 -- so its frame is never too long
 pub state_fits : (s : Content) → IsSound s → length (body_of (records s)) ≤ most_body

@@ -1,49 +1,32 @@
 -- Frames that are cut off the bytes of a reader, piece by piece.
-use Rattle.std.{proofs.{Common.{◌≡◌, ℕ, ◌+◌, ◌-◌, ◌<◌, ◌≤◌, Bool, true, false, List, [], ◌∷◌, ◌++◌, length, drop, Option, Some, None, Ok, Err, refl, sym, ap, subst, ◌∙◌, arith, append_assoc, append-nil, length-append, take-append-drop, drop-drop}, Math.Seq.drop-append-add, KnownBytes.Consumes-trans, lemmas.List.{drop_all, flat_map_more}}, specs.{Io.KnownBytes.Consumes, List.flat_map}}
+use Rattle.std.proofs.lemmas.Grind.{common_steps}
+use Rattle.std.{proofs.{Common.{rules, ◌≡◌, ℕ, ◌+◌, ◌-◌, ◌<◌, ◌≤◌, Bool, true, false, List, [], ◌∷◌, ◌++◌, length, drop, Option, Some, None, Ok, Err, refl, sym, ap, subst, ◌∙◌, arith, append_assoc, length-append, take-append-drop, drop-drop}, Math.Seq.drop-append-add, KnownBytes.Consumes-trans}, specs.{Io.KnownBytes.Consumes, List.flat_map}}
 use Rattle.stn_device.specs.declared.whole.ReadFault.{ReadFault, TheVariants.{Read, Bound, Memory}}
 use Rattle.stn_wire.specs.{Feeder.{FeederState, CompletesFrame}, Frame.{FrameContent, content, spelling}, Front.{IsFront, whole, unfinished}, declared.{frame.Frame.Frame, stream.fault.FrameFault.{FrameFault, TheVariants.{Length, Kind, Body}}}, Stream.{pending, GivesNext, wire_fault, Held.Stream, Pieces.{IsPieceFed, IsFilled}}}
 
 -- a frame was taken, and what stands after it is pending
 frame_taken : (held rest : List ℕ) (used : ℕ) (frame : FrameContent) → IsFront (held ++ rest) (whole frame (length held + used)) → held ++ rest ≡ spelling frame ++ drop used rest
-frame_taken held rest used frame h =
-    sym (take-append-drop (length held + used) (held ++ rest))
-    ∙ (ap (λ l. l ++ drop (length held + used) (held ++ rest)) h.2 ∙ ap (λ l. spelling frame ++ l) (drop-append-add held rest used))
+frame_taken held rest used frame h = cc (take-append-drop (length held + used) (held ++ rest), drop-append-add held rest used)
 
 pub fed_is : {A : Type 0} (old new : Stream) (piece : List ℕ) (at used : ℕ) (frame : Option (Frame A)) (rest : List ℕ) (feeder : FeederState) → old.behind ≡ drop at piece → rest ≡ drop at piece
     → CompletesFrame old.held rest used frame feeder → new.held ≡ feeder.held → new.behind ≡ drop (at + used) piece → IsPieceFed old new (Ok frame)
 fed_is old new piece at used (Some frame) rest feeder behind is h held left = (
   h.0.0,
-  ap (λ l. old.held ++ l) (behind ∙ sym is)
-      ∙ (frame_taken old.held rest used (content frame) h.0
+  ap (λ l. old.held ++ l) (behind ∙ sym is) ∙ (frame_taken old.held rest used (content frame) h.0
       ∙ ap (λ l. spelling (content frame) ++ l) ((ap (drop used) is ∙ drop-drop used at piece) ∙ sym left ∙ sym (ap (λ l. l ++ new.behind) (held ∙ ap (λ (f : FeederState). f.held) h.1)))),
 )
-fed_is old new piece at used None rest feeder behind is h held left =
-    let none : new.behind ≡ [] = left ∙ (sym (ap (drop used) is ∙ drop-drop used at piece) ∙ drop_all used rest (omega (arith, h.1))) in (
-      subst (λ l. IsFront (old.held ++ l) unfinished) (is ∙ sym behind) h.0,
-      ap (λ l. l ++ new.behind) (held ∙ ap (λ (f : FeederState). f.held) h.2) ∙ (ap (λ l. (old.held ++ rest) ++ l) none ∙ (append-nil (old.held ++ rest) ∙ ap (λ l. old.held ++ l) (is ∙ sym behind))),
-      none,
-    )
+fed_is old new piece at used None rest feeder behind is h held left = grind (arith, common_steps)
 
 -- more bytes are pending after those that were read since the first
 module _ (first mid new : Stream) (a b c : Option (List ℕ)) (bytes : List ℕ) (read : Consumes a b bytes) (held : pending mid ≡ pending first ++ bytes) (taken : mid.count ≡ first.count + length bytes) where
   pub filled_more : (more : Bool) → more ≡ true → IsFilled mid new b c (Ok more)
       → (all : List ℕ) × Consumes a c all × (pending new ≡ pending first ++ all) × (new.count ≡ first.count + length all)
-  filled_more true is h = (
-    bytes ++ h.0,
-    Consumes-trans a b c bytes h.0 read h.1,
-    h.3 ∙ (ap (λ l. l ++ h.0) held ∙ append_assoc (pending first) bytes h.0),
-    omega (arith, h.4, taken, length-append bytes h.0),
-  )
+  filled_more true is h = search (rules, append_assoc, length-append)
   filled_more false is h = absurd (cc)
 
   -- nothing more comes
   pub fill_fails : {A : Type 0} (fault : ReadFault) → IsFront (pending mid) unfinished → mid.count ≤ 16777216 → IsFilled mid new b c (Err fault) → GivesNext {A = A} first new a c (Err fault)
-  fill_fails Read front few h = record {
-    bytes = bytes ++ [];
-    consumed = Consumes-trans a b c bytes [] read h;
-    next = subst (λ l. IsFront l unfinished) (held ∙ ap (λ l. pending first ++ l) (sym (append-nil bytes))) front;
-    counted = omega (arith, few, taken, length-append bytes []);
-  }
+  fill_fails Read front few h = search rules
   fill_fails Bound front few h = record {
     bytes = bytes ++ h.0 ∷ [];
     consumed = Consumes-trans a b c bytes (h.0 ∷ []) read h.1;
@@ -63,8 +46,7 @@ spelling_some frame = omega arith
 
 -- one frame more is cut off
 pub cut_more : (frames : List FrameContent) (frame : FrameContent) (bytes rest later : List ℕ) → bytes ≡ flat_map spelling frames ++ rest → rest ≡ spelling frame ++ later → bytes ≡ flat_map spelling (frames ++ frame ∷ []) ++ later
-cut_more frames frame bytes rest later cut front =
-    cut ∙ ap (λ l. flat_map spelling frames ++ l) front ∙ sym (append_assoc (flat_map spelling frames) (spelling frame) later) ∙ ap (λ l. l ++ later) (flat_map_more spelling [] frames frame)
+cut_more frames frame bytes rest later cut front = grind (arith, common_steps, append_assoc)
 
 -- two faults of a stream are two of the wire
 pub one_fault : (a b : FrameFault) → wire_fault a ≡ wire_fault b → a ≡ b
@@ -79,7 +61,7 @@ module _ (rest more later : List ℕ) (frame : FrameContent) (front : rest ++ mo
   lengths = omega (arith, length-append rest more, length-append (spelling frame) later, ap length front)
 
   pub count_fits : (count : ℕ) → count + length rest ≤ taken → count + 1 + length later ≤ then
-  count_fits count fits = omega (arith, fits, lengths, then_is, spelling_some frame)
+  count_fits count fits = omega (arith, fits, lengths, then_is)
 
   pub measure_falls : taken + length more ≤ 16777216 → 16777216 + length later - then < 16777216 + length rest - taken
-  measure_falls few = omega (arith, few, lengths, then_is, spelling_some frame)
+  measure_falls few = omega (arith, few, lengths, then_is)

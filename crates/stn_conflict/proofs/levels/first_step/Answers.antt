@@ -1,4 +1,4 @@
-use Rattle.std.{proofs.{Common.{subst, sym, ◌∙◌}, lemmas.Bool.false≢true}}
+use Rattle.std.{proofs.{Common.{rules, subst, sym, ◌∙◌}, lemmas.Bool.false≢true}}
 use Rattle.stn_conflict.{specs.{declared.outgoing.Look.Look, Relaxation.IsRow, Named.IsLevelStep, Search.{across, IsFirstStepTo}}, proofs.{Steps.{first_in_row, none_in_row, passed_more}}}
 use Rattle.stn_conflict.proofs.levels.first_step.Goals as goal
 
@@ -16,8 +16,7 @@ returns-then-is_step g c =
     subst (IsFirstStepTo searched.bounds start c.args.event) (sym into) (first_in_row searched start c.args.event index looks c.requires.whole is look c.loop-look-test.true (sym c.look-item.is) c.loop-look.invariant step)
 
 pub is_step-requires-clause-there : goal.is_step-requires-clause-there
-is_step-requires-clause-there g c =
-    rw c.across-into.ensures (c.row-look-items.ensures.each c.look-item.result (c.loop-look.look-index, c.loop-look-test.true, sym c.look-item.is)).there
+is_step-requires-clause-there g c = search rules
 
 pub loop-look-preserved : goal.loop-look-preserved
 loop-look-preserved g c =

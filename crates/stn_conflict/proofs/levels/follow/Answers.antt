@@ -1,4 +1,4 @@
-use Rattle.std.proofs.{Common.{◌≡◌, ℕ, Some, ◌<◌, ◌∷◌, ◌++◌, [], None, length, take, refl, sym, subst, ap, ◌+◌, ◌∙◌, arith}, lemmas.{Bool.false≢true, List.{get_or_read, take_more, take_all}}}
+use Rattle.std.proofs.{Common.{rules, ◌≡◌, ℕ, Some, ◌<◌, ◌∷◌, ◌++◌, [], None, length, take, refl, sym, subst, ap, ◌+◌, ◌∙◌, arith}, lemmas.{Bool.false≢true, List.{get_or_read, take_more, take_all}}}
 use Rattle.stn_conflict.{specs.{declared.levels.Walk.Walk, Arcs.arc_of, Relaxation.IsLook, Search.{event_at, level_at, LeadsOn}}, proofs.{Tightness.link_among, levels.follow.{Given.Over, Goals.{After-from-event, After-look-item, then-leads_on+in_ok-push, else-leads_on}}, Walks.{IsFollowing, reached_at, level_low, following_begins, following_reaches, following_passes, following_ends}}}
 use Rattle.stn_conflict.proofs.levels.follow.Goals as goal
 
@@ -38,26 +38,17 @@ loop-look-init g c =
     (sym entry ∙ c.unwrap-level.ensures) refl
 
 pub overflow_add-level : goal.overflow_add-level
-overflow_add-level g c =
-    let low = level_low c.args.graph.now.bounds c.args.start (length c.args.far.now) c.args.place c.unwrap-level.result c.from-event.result _ c.loop-look.walk c.loop-look.invariant in
-    omega (arith, low, c.requires.few)
+overflow_add-level g c = omega (arith, level_low)
 
 -- the look whose turn it is
 looked : (g : Over) (c : After-look-item g) → IsLook c.args.graph.now.bounds c.from-event.result c.look-item.result
 looked g c = c.row-look-items.ensures.each c.look-item.result (c.loop-look.look-index, c.loop-look-test.true, sym c.look-item.is)
 
 pub leads_on-requires : goal.leads_on-requires
-leads_on-requires g c = record {
-  far = c.requires.far;
-  whole = ap length c.deref.ensures.value ∙ c.loop-look.invariant.so_far.whole;
-  look = (c.from-event.result, looked g (goal.at.leads_on-requires g c).After-look-item);
-}
+leads_on-requires g c = search rules
 
 pub index_mut-requires : goal.index_mut-requires
-index_mut-requires g c =
-    let is = looked g (goal.at.index_mut-requires g c).After-look-item in
-    let ends = link_among c.args.graph.now.bounds (length c.args.far.now) c.look-item.result.link c.requires.far.named is.there in
-    omega (arith, c.from.ensures, c.number-then-leads_on.ensures.value, is.to, ends.1, c.loop-look.invariant.so_far.whole, c.loop-look.walk.levels.ok.0)
+index_mut-requires g c = search rules
 
 pub loop-look-preserved : goal.loop-look-preserved
 loop-look-preserved g c =

@@ -1,4 +1,4 @@
-use Rattle.std.proofs.Common.{◌≡◌, ◌∙◌, ℕ, suc, List, Option, Some, length, eqb-true, refl, ap, arith}
+use Rattle.std.proofs.Common.{rules, ◌≡◌, ◌∙◌, ℕ, suc, List, Option, Some, length, eqb-true, refl, ap, arith}
 use Rattle.stn_net.specs.Difference.{Difference}
 use Rattle.stn_conflict.{specs.{declared.links.Link.Link, Arcs.arc_of, Search.level_at}, proofs.{Tightness.link_among, LevelTable.some_same, Steps.{step_from_entries, entries_from_step}, levels.is_step.{Given.Over, Goals.After-from-2}}}
 use Rattle.stn_conflict.proofs.levels.is_step.Goals as goal
@@ -11,16 +11,7 @@ record Ends (bounds : List Difference) (levels : List (Option ℕ)) (link : Link
   end_has : (level : ℕ) × (level_at levels end ≡ Some level)
 
 ends : (g : Over) (c : After-from-2 g) → Ends c.args.graph.now.bounds c.args.levels.now c.args.link c.from.result c.from-2.result
-ends g c =
-    let (begin_there, end_there) = link_among c.args.graph.now.bounds (length c.args.far.now) c.args.link c.requires.far.named c.requires.there in
-    let begin_is = c.from.ensures ∙ c.number.ensures.value ∙ c.arc-arc.ensures.from in
-    let end_is = c.from-2.ensures ∙ c.number-2.ensures.value ∙ c.arc-arc.ensures.to in
-    record {
-      begin_is = begin_is;
-      begin_has = rw begin_is (c.requires.levels.levels.every _ begin_there);
-      end_is = end_is;
-      end_has = rw end_is (c.requires.levels.levels.every _ end_there);
-    }
+ends g c = search rules
 
 pub unwrap-begin-requires : goal.unwrap-begin-requires
 unwrap-begin-requires g c =

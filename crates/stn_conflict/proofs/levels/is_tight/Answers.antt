@@ -18,5 +18,4 @@ returns g c =
     let test = sum_test c.get-begin.result c.get.result c.get-end.result c.get-begin.ensures.within c.get.ensures.within c.get-end.ensures.within in
     let begin_is : c.get-begin.result ≡ times_of far c.from.result = c.get-begin.ensures.value ∙ get_or_read far _ _ begin c.index-far-from.is (pos 0) in
     let end_is : c.get-end.result ≡ times_of far c.from-2.result = c.get-end.ensures.value ∙ get_or_read far _ _ end c.index-far-from-2.is (pos 0) in
-    let weight_is = c.get.ensures.value in
     (λ t. decided.0 (omega (arith, ints, test.0 t)), λ t. test.1 (omega (arith, ints, decided.1 t)))

@@ -36,7 +36,6 @@ returns-clause-tables c =
 pub returns-clause-met : goal.returns-clause-met
 returns-clause-met c =
     let (at, is) = read (goal.at.returns-clause-met c).After-get-3 in
-    let test = c.if-get-way.false in
     let way : c.unwrap.result ≡ c.args.here +ℤ c.args.look.now.weight = (let value = rw c.unwrap.ensures at c.new.ensures.value in omega (arith, ints)) in
     inr (record {
       less = omega (arith, ints);
@@ -48,7 +47,6 @@ returns-clause-met c =
 pub returns-then-get-way-clause-met : goal.returns-then-get-way-clause-met
 returns-then-get-way-clause-met c =
     let (at, is) = read (goal.at.returns-then-get-way-clause-met c).After-get-3 in
-    let test = c.if-get-way.true in
     inl (record { most = omega (arith, ints); far_is = refl; fresh_is = refl })
 
 pub unwrap-requires : goal.unwrap-requires

@@ -1,18 +1,10 @@
-use Rattle.std.{proofs.{Common.{◌≡◌, inl, inr, ℕ, false, ◌+◌, ◌<◌, length, refl, sym, subst, ◌∙◌, arith}, lemmas.{Int.ints, Bool.cases_lt, List.{get_or_default, get_or_read}, Result.IfOk-from_err}}, specs.Prelude.{pos, ◌≤ℤ◌, slice_index_or}}
+use Rattle.std.{proofs.{Common.{rules, ◌≡◌, inl, inr, ℕ, false, ◌+◌, ◌<◌, length, refl, sym, subst, ◌∙◌, arith}, lemmas.{Int.ints, Bool.cases_lt, List.{get_or_default, get_or_read}, Result.IfOk-from_err}}, specs.Prelude.{pos, ◌≤ℤ◌, slice_index_or}}
 use Rattle.stn_net.specs.Schedule.{times_of}
 use Rattle.stn_conflict.{specs.{declared.outgoing.Look.Look, Relaxation.{IsLook, IsRelaxedOf, is_fresh}}, proofs.{Tightness.link_among, Lowering.{freshens_on, lowers_on, still_relaxed}, Trying.{begun_on, tried, tried_refused}, relaxation.relax_row.{Given.Over, Goals.After-relax}}}
 use Rattle.stn_conflict.proofs.relaxation.relax_row.Goals as goal
 
 pub relax-requires : goal.relax-requires
-relax-requires g c =
-    let t = c.loop-look.invariant.begun.tables in
-    let is = c.row-look-items.ensures.each c.look-item.result (c.loop-look.look-index, c.loop-look-test.true, sym c.look-item.is) in
-    let named = link_among c.args.graph.now.bounds (c.args.graph.now.events + 1) c.look-item.result.link c.requires.begun.named is.there in
-    record {
-      tables = rw (← t.far) at t;
-      end = rw (t.far, ← is.to) named.1;
-      event = rw t.far c.requires.event;
-    }
+relax-requires g c = search rules
 
 -- the next link begins at the event, whose estimate was read before
 abbrev Begins : (g : Over) → After-relax g → Type 0
@@ -20,15 +12,7 @@ Begins g c = IsLook c.args.graph.now.bounds c.args.event c.look-item.result × (
     × (is_fresh c.loop-look.fresh c.args.event ≡ false → times_of c.loop-look.far c.args.event ≡ c.index-far-event.result)
 
 begins : (g : Over) (c : After-relax g) → Begins g c
-begins g c =
-    let h = c.loop-look.invariant in
-    let there : c.args.event < length c.args.far.now = omega (arith, c.requires.event, c.requires.begun.tables.far) in
-    let here : c.index-far-event.result ≡ times_of c.args.far.now c.args.event = get_or_read c.args.far.now _ _ there c.index-far-event.is (pos 0) in
-    let fall = h.lowers.fall c.args.event in (
-      c.row-look-items.ensures.each c.look-item.result (c.loop-look.look-index, c.loop-look-test.true, sym c.look-item.is),
-      omega (arith, ints),
-      λ stale. (h.freshens.kept c.args.event stale).1 ∙ sym here,
-    )
+begins g c = search (rules, get_or_read)
 
 pub loop-look-preserved : goal.loop-look-preserved
 loop-look-preserved g c =

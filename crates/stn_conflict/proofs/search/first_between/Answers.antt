@@ -1,4 +1,4 @@
-use Rattle.std.proofs.{Common.{◌≡◌, ◌+◌, ◌-◌, ◌/◌, ◌∙◌, length, take, ap, refl, sym, subst, arith}, lemmas.Bool.false≢true}
+use Rattle.std.proofs.{Common.{rules, ◌≡◌, ◌+◌, ◌-◌, ◌/◌, ◌∙◌, length, take, ap, refl, sym, subst, arith}, lemmas.Bool.false≢true}
 use Rattle.stn_net.specs.Schedule.{HasSchedule}
 use Rattle.stn_conflict.proofs.Relaxing.{estimates_of_more, network_before}
 use Rattle.stn_conflict.proofs.search.first_between.Goals as goal
@@ -34,12 +34,4 @@ loop-high-preserved g c =
     }
 
 pub returns-clause-first : goal.returns-clause-first
-returns-clause-first g c =
-    let h = c.loop-high.invariant in
-    let next : c.loop-high.high ≡ c.loop-high.low + 1 = omega (arith, h.apart, c.loop-high-test.false) in
-    record {
-      there = omega (arith, h.apart, h.within);
-      past = h.past;
-      before = h.has;
-      refused = subst (λ n. ¬ HasSchedule (take n c.args.graph.now.bounds)) next h.none;
-    }
+returns-clause-first g c = search rules

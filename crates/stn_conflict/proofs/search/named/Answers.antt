@@ -1,4 +1,4 @@
-use Rattle.std.{proofs.{Common.{◌≡◌, ◌∷◌, [], arith, ap, length, ◌∙◌}, lemmas.{Int.ints, List.{length-take, reverse-append, length-reverse, get_or_read}}}, specs.Prelude.{pos, reverse}}
+use Rattle.std.{proofs.{Common.{rules, ◌≡◌, ◌∷◌, [], arith, ap, length, ◌∙◌}, lemmas.{Int.ints, List.{length-take, reverse-append, length-reverse, get_or_read}}}, specs.Prelude.{pos, reverse}}
 use Rattle.stn_net.specs.Schedule.{times_of}
 use Rattle.stn_conflict.{specs.{declared.links.Link.Link, Arcs.arc_of, Culprit.IsCulprit}, proofs.{CycleSums.cycle_of_way, Tightness.link_among, Relaxing.{among_events, network_before}}}
 use Rattle.stn_conflict.proofs.search.named.Goals as goal
@@ -16,19 +16,7 @@ refused_side-side-requires g c =
     }
 
 pub way_back-requires : goal.way_back-requires
-way_back-requires g c =
-    let bounds = c.args.graph.now.bounds in
-    let side = c.refused_side-side in
-    let link : Link = record { place = c.args.place; side = side.result } in
-    let long = side.ensures.tables.far in
-    let ends = link_among bounds (length side.new.search.far.items) link (among_events bounds c.args.graph.now.events _ long c.requires.named) c.requires.first.there in
-    rw (c.before-before.ensures, c.deref.ensures.value, c.arc-arc.ensures.to, c.arc-arc.ensures.from) (record {
-      far = side.ensures.distances;
-      few = omega (arith, side.ensures.tables.few, long);
-      long = long;
-      whole = omega (arith, c.requires.whole, length-take c.args.place bounds);
-      end = ends.0;
-    })
+way_back-requires g c = search rules
 
 pub returns : goal.returns
 returns g c =
@@ -50,9 +38,7 @@ returns g c =
     let reversed = c.reverse.ensures.items ∙ ap reverse c.in_ok-push.ensures.items ∙ reverse-append links (link ∷ []) in
     let culprit : IsCulprit bounds link = record { there = first.there; before = first.before; refused = first.refused; side = side.ensures.side } in
     rw reversed (cycle_of_way bounds c.args.graph.now.events link (reverse links) _ (times_of far (arc_of bounds link).from) _ culprit arc.ordered
-    (exact.tightest (arc_of bounds link).to exact.start_named)
-    (exact.tightest (arc_of bounds link).from below)
-    (omega (arith, ints))
+    (exact.tightest (arc_of bounds link).to exact.start_named) (exact.tightest (arc_of bounds link).from below) (omega (arith, ints))
     (rw (c.before-before.ensures, arc.to, arc.from) at c.in_ok-links.ensures.way)
     (omega (arith, length-reverse links, c.in_ok-links.ensures.short, ap length c.deref.ensures.value, side.ensures.tables.far))
     (omega (arith, ints)))

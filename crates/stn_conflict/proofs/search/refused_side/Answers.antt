@@ -1,4 +1,4 @@
-use Rattle.std.{proofs.{Common.{◌≡◌, ◌<◌, ◌∙◌, List, ap, length, take, arith}, lemmas.{Int.ints, List.get_or_read}}, specs.Prelude.{ℤ, pos, ◌+ℤ◌, ◌≤ℤ◌, ◌<ℤ◌}}
+use Rattle.std.{proofs.{Common.{rules, ◌≡◌, ◌<◌, ◌∙◌, List, ap, length, take, arith}, lemmas.{Int.ints, List.get_or_read}}, specs.Prelude.{ℤ, pos, ◌+ℤ◌, ◌≤ℤ◌, ◌<ℤ◌}}
 use Rattle.stn_net.specs.{Difference.Difference, Schedule.{HasSchedule, times_of}}
 use Rattle.stn_conflict.{specs.{Arcs.bound_at, Relaxation.{AreDistances, Searched}}, proofs.search.refused_side.{Given.Over, Goals.After-get}}
 use Rattle.stn_conflict.proofs.search.refused_side.Goals as goal
@@ -7,8 +7,7 @@ pub find-requires : goal.find-requires
 find-requires g c = rw c.before-before.ensures (record { tables = c.requires.tables; kept = c.requires.kept; network = c.requires.network; start = rw c.arc-upper.ensures.to c.requires.named.to })
 
 pub find-requires-2 : goal.find-requires-2
-find-requires-2 g c =
-    rw c.before-before.ensures (record { tables = rw c.before-before.ensures at c.find.ensures.tables; kept = c.requires.kept; network = c.requires.network; start = rw c.arc-upper.ensures.from c.requires.named.from })
+find-requires-2 g c = search rules
 
 -- the distance that is read is that to the event at which the upper side's link begins
 record Found (bounds : List Difference) (bound : Difference) (far : List ℤ) (read : ℤ) : Type 0 where
@@ -33,7 +32,6 @@ pub returns-then-get-lt0 : goal.returns-then-get-lt0
 returns-then-get-lt0 g c =
     let f = found g (goal.at.returns-then-get-lt0 g c).After-get in
     let bound = bound_at c.args.graph.now.bounds c.args.place in
-    let test = c.if-get-lt0.true in
     let (fl, fh) = c.get.ensures.within in
     let (wl, wh) = c.get-2.ensures.within in
     let less : (times_of c.find.new.self.far.items bound.from +ℤ bound.hi) <ℤ pos 0 = omega (arith, ints, f.read_is, c.get-2.ensures.value, c.arc-upper.ensures.weight) in

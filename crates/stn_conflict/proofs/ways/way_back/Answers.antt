@@ -1,12 +1,10 @@
-use Rattle.std.{proofs.{Common.{◌≡◌, ℕ, suc, Some, length, sym, subst, arith, ap, ◌∙◌}, lemmas.{List.length_push, Option.{MatchOption-at_some, MatchOption-at_none}}}, specs.Prelude.{reverse, unwrap_or}}
+use Rattle.std.{proofs.{Common.{rules, ◌≡◌, ℕ, suc, Some, length, sym, subst, arith, ap, ◌∙◌}, lemmas.{List.length_push, Option.{MatchOption-at_some, MatchOption-at_none}}}, specs.Prelude.{reverse, unwrap_or}}
 use Rattle.stn_conflict.{specs.{Arcs.{arc_of, IsChain}, Search.{level_at, HasNoStep, IsFirstStepTo}}, proofs.{Tightness.link_among, OneCycle.level_of_start, LevelTable.some_same, Steps.{lower_by_one, at_start, chain_before_way}, ways.way_back.Given.Over}}
 use Rattle.stn_conflict.proofs.ways.way_back.Goals as goal
 
 -- the link that is taken is the first step to the event
 taken : (g : Over) (c : goal.In_ok-push g) → IsFirstStepTo c.args.graph.now.bounds c.args.start c.loop-link.here c.in-Some.link
-taken g c =
-    MatchOption-at_some (HasNoStep c.args.graph.now.bounds c.args.start c.loop-link.here) (IsFirstStepTo c.args.graph.now.bounds c.args.start c.loop-link.here)
-    c.in-Some.link c.in-Some.is c.first_step.ensures
+taken g c = search rules
 
 -- and begins one level lower
 lower : (g : Over) (c : goal.In_ok-push g) → (level : ℕ) × (level_at c.in_ok-levels.levels.items (arc_of c.args.graph.now.bounds c.in-Some.link).from ≡ Some level)

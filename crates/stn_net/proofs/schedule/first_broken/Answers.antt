@@ -1,4 +1,4 @@
-use Rattle.std.proofs.{Common.{◌≤◌, length, refl}, lemmas.List.{take_all, Elements.All-more}}
+use Rattle.std.proofs.{Common.{rules, refl}, lemmas.List.{take_all, Elements.All-more}}
 use Rattle.stn_net.specs.Schedule.{times_of, Meets}
 use Rattle.stn_net.proofs.schedule.first_broken.Goals as goal
 
@@ -8,11 +8,4 @@ loop-place-preserved c = All-more (Meets (times_of c.args.times.now)) c.args.bou
     (let met : Meets (times_of c.args.times.now) c.index-bounds-place.result = c.if-not-is_met.ensures.0 refl in rw (← c.index-bounds-place.is) met)
 
 pub returns-clause-none : goal.returns-clause-none
-returns-clause-none c = (
-  λ _. record {
-    origin = c.requires.origin;
-    met = let all : length c.args.bounds.now ≤ c.loop-place.place = c.loop-place-test.false in
-        rw take_all at c.loop-place.invariant;
-  },
-  λ _. refl,
-)
+returns-clause-none c = search (rules, take_all)

@@ -1,13 +1,9 @@
-use Rattle.std.proofs.{Common.{Err, IfSome, ap, subst}, lemmas.Result.err_from_is_err_and}
-use Rattle.stn_wire.{specs.{Feeder.holding, Frame.content, Front.{IsFront, whole, unfinished, answered_front}, Reading.{IsWanted, IsJudged}}, proofs.Feeding.{opening_err, filled_err, filled_whole, all_used, filled_is_all, filled_unfinished}}
+use Rattle.std.proofs.{Common.{rules, Err, IfSome, ap, subst}, lemmas.Result.err_from_is_err_and}
+use Rattle.stn_wire.{specs.{Feeder.holding, Frame.content, Front.{IsFront, whole, unfinished, answered_front}, Reading.IsWanted}, proofs.Feeding.{opening_err, filled_err, filled_whole, all_used, filled_is_all, filled_unfinished}}
 use Rattle.stn_wire.proofs.feeder.take_frame.Goals as goal
 
 pub returns-in_err-length : goal.returns-in_err-length
-returns-in_err-length g c =
-    let p = err_from_is_err_and c.from_residual-in_err-length.result c.from_residual-in_err-length.ensures.1 in
-    let fault = c.in_err-length.field-0.0 in
-    let judged = subst (λ l. IsJudged l (Err fault)) c.deref.ensures.value c.in_err-length.ensures in
-    rw (p.1, p.2) (opening_err c.args.held.now.items c.args.piece.now c.requires c.in_ok-opening.opening c.in_ok-opening.ensures.taken c.fill.new.held.items c.in_ok-opening.ensures.filled g.row.A.Denot fault c.fill.new.held.items judged)
+returns-in_err-length g c = search (rules, opening_err)
 
 pub returns-in_err-frame : goal.returns-in_err-frame
 returns-in_err-frame g c =

@@ -1,6 +1,6 @@
-use Rattle.std.{proofs.Common.{◌+◌, ◌*◌, length, sym, ap, ◌∙◌, arith}, specs.FinMap.entries}
+use Rattle.std.{proofs.Common.{rules, length, ap, ◌∙◌, arith}, specs.FinMap.entries}
 use Rattle.stn_records.specs.Content.{Content}
-use Rattle.stn_wire.{specs.{Spelling.amendments_bytes, declared.layout.Layout.TheVariants.New}, proofs.States.{few_additions, few_tombstones, few_replacements, amendments_short, length-state_bytes}}
+use Rattle.stn_wire.{specs.declared.layout.Layout.TheVariants.New, proofs.States.{few_additions, few_tombstones, few_replacements, amendments_short, length-state_bytes}}
 use Rattle.stn_wire.proofs.state.state_length.Goals as goal
 
 pub entries_length-requires : goal.entries_length-requires
@@ -9,12 +9,7 @@ entries_length-requires g c =
     omega (arith, ap length read, few_replacements c.args.state.now c.state.ensures.sound)
 
 pub returns-clause-value : goal.returns-clause-value
-returns-clause-value g c =
-    let additions = ap length (c.entries-additions.ensures.value ∙ ap entries (c.additions.ensures ∙ ap (λ (s : Content). s.additions) c.state.ensures.value)) in
-    let tombstones = ap length (c.entries-tombstones.ensures.value ∙ ap entries (c.tombstones.ensures ∙ ap (λ (s : Content). s.tombstones) c.state-2.ensures.value)) in
-    let read = c.entries.ensures.value ∙ ap entries (c.replacements.ensures ∙ ap (λ (s : Content). s.replacements) c.state-3.ensures.value) in
-    let behind = c.entries_length.ensures ∙ ap (λ l. length (amendments_bytes l)) read in
-    (λ i. 4 + additions i * c.size.ensures i + tombstones i * c.size-2.ensures i + behind i) ∙ sym (length-state_bytes New c.args.state.now)
+returns-clause-value g c = search (rules, length-state_bytes)
 
 pub returns-clause-small : goal.returns-clause-small
 returns-clause-small g c =

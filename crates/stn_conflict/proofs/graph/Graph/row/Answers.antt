@@ -1,15 +1,9 @@
-use Rattle.std.{proofs.Common.{◌≡◌, ◌++◌, ◌<◌, length, take, ap, sym, subst, ◌∙◌, arith}, specs.List.Sorted.IsNonDecreasingBy}
+use Rattle.std.{proofs.Common.{rules, ◌≡◌, ◌++◌, ◌<◌, length, take, ap, sym, subst, ◌∙◌, arith}, specs.List.Sorted.IsNonDecreasingBy}
 use Rattle.stn_conflict.{specs.Relaxation.{row_of, IsCutAt, IsRow, Searched}, proofs.Rows.{row_cut, row_is}}
 use Rattle.stn_conflict.proofs.graph.Graph.row.Goals as goal
 
 pub looks_before-requires : goal.looks_before-requires
-looks_before-requires g c =
-    let s = c.self.inside in
-    let rows = s.rows.now.outgoing.items in
-    let stand = c.self.invariant.stand.first.stand in
-    let there : c.args.event < length rows = omega (arith, c.requires, ap (λ (s : Searched). s.events) c.self.view_is, stand.long) in
-    let whole : row_of rows c.args.event ≡ c.deref-2.result.now = row_is rows c.args.event c.index-row.result.now there c.index-row.ensures ∙ sym c.deref-2.ensures.value in
-    subst (IsNonDecreasingBy (λ look. look.link.place)) whole (stand.ordered c.args.event)
+looks_before-requires g c = search (rules, row_is)
 
 pub returns : goal.returns
 returns g c =

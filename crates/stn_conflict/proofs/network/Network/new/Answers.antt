@@ -4,8 +4,6 @@ use Rattle.stn_conflict.proofs.network.Network.new.Goals as goal
 
 pub invariant_of-result : goal.invariant_of-result
 invariant_of-result g c =
-    let bounds = c.extend_from_slice.new.self.items in
-    let count = c.args.events + 1 in
     let latest = c.begin.new.self in
     let whole : c.extend_from_slice.new.self.items ≡ c.args.base.now ++ c.args.extra.now =
     c.in_ok-extend_from_slice.ensures.items ∙ ap (λ l. l ++ c.args.extra.now) c.in_ok-bounds.ensures.items in

@@ -1,3 +1,4 @@
+use Rattle.std.proofs.lemmas.Grind.{common_steps}
 use Rattle.std.{proofs.{Common.{◌≡◌, ℕ, ℤ, ◌+◌, ◌*◌, ◌<◌, ◌≤◌, Bool, true, false, le-ltb, List, length, refl, sym, ap, ◌∙◌, arith}, lemmas.{Int.ints, Bool.false≢true}}, specs.Prelude.{◌||◌, ◌≤ℤ◌, ◌<ℤ◌, nat_lt, int_lt}}
 use Rattle.stn_time.specs.Time.{horizon}
 use Rattle.stn_net.specs.Difference.{Difference}
@@ -6,7 +7,8 @@ use Rattle.stn_conflict.proofs.outgoing.Rows.add_next.Goals as goal
 
 -- the link begins at one of the events
 among : (g : Over) (c : After-side_of-arc g) → c.side_of-arc.result.from < length c.args.self.now.outgoing.items
-among g c = omega (arith, c.side_of-arc.ensures.from, faced_among (length c.args.self.now.outgoing.items) c.args.self.now.direction c.args.bound.now c.args.link.side c.requires.named)
+among g c =
+    omega (arith, faced_among (length c.args.self.now.outgoing.items) c.args.self.now.direction c.args.bound.now c.args.link.side c.requires.named)
 
 -- what the link says of all bounds
 record Says (bounds : List Difference) (link : Link) (from to : ℕ) (weight : ℤ) : Type 0 where
@@ -17,17 +19,7 @@ record Says (bounds : List Difference) (link : Link) (from to : ℕ) (weight : �
 
 says : (g : Over) (c : After-side_of-arc g) (bounds : List Difference) → c.args.link.place < length bounds → bound_at bounds c.args.link.place ≡ c.args.bound.now
     → Says (facing c.args.self.now.direction bounds) c.args.link c.side_of-arc.result.from c.side_of-arc.result.to c.side_of-arc.result.weight
-says g c bounds there is =
-    let direction = c.args.self.now.direction in
-    let link = c.args.link in
-    let e = c.side_of-arc.ensures in
-    let at : faced direction c.args.bound.now ≡ bound_at (facing direction bounds) link.place = ap (faced direction) (sym is) ∙ sym (bound_facing direction bounds link.place there) in
-    record {
-      there = omega (arith, there, length_facing direction bounds);
-      from_is = e.from ∙ ap (λ b. (arc b link.side).from) at;
-      to_is = e.to ∙ ap (λ b. (arc b link.side).to) at;
-      weight_is = e.weight ∙ ap (λ b. (arc b link.side).weight) at;
-    }
+says g c bounds there is = grind (arith, common_steps, bound_facing)
 
 -- a link that is left out
 unlisted : (place whole : ℕ) (weight : ℤ) → whole ≤ place → horizon ≤ℤ weight → (nat_lt place whole || int_lt weight horizon) ≡ false

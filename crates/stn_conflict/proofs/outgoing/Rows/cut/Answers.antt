@@ -1,17 +1,10 @@
-use Rattle.std.proofs.{Common.{◌≡◌, inl, inr, ◌*◌, ◌<◌, length, set, take, sym, subst, ap, ◌∙◌, arith}, lemmas.{Bool.cases_eq, List.length-set}}
+use Rattle.std.proofs.{Common.{rules, ◌≡◌, inl, inr, ◌*◌, ◌<◌, length, set, take, sym, subst, ap, ◌∙◌, arith}, lemmas.{Bool.cases_eq, List.length-set}}
 use Rattle.std.specs.List.Sorted.{IsNonDecreasingBy}
 use Rattle.stn_conflict.{specs.Relaxation.{row_of, IsCutAt}, proofs.Rows.{AreCut, replaced_here, replaced_other, row_is, rows_cut}}
 use Rattle.stn_conflict.proofs.outgoing.Rows.cut.Goals as goal
 
 pub looks_before-kept-requires : goal.looks_before-kept-requires
-looks_before-kept-requires g c =
-    let rows = c.loop-event.self.outgoing.items in
-    let event = c.loop-event.event in
-    let h = c.loop-event.invariant in
-    let there : event < length rows = omega (arith, c.loop-event-test.true, c.len-event-end.ensures, h.long) in
-    let read : c.deref.result.now ≡ row_of c.args.self.now.outgoing.items event =
-    c.deref.ensures.value ∙ sym (row_is rows event c.index.result.now there c.index.ensures) ∙ h.rest event (omega arith) in
-    subst (IsNonDecreasingBy (λ look. look.link.place)) (sym read) (c.requires.1.stand.ordered event)
+looks_before-kept-requires g c = search (rules, row_is)
 
 pub loop-event-preserved : goal.loop-event-preserved
 loop-event-preserved g c =

@@ -1,4 +1,4 @@
-use Rattle.std.{proofs.{Common.{◌≡◌, inl, inr, ℕ, List, Bool, ◌+◌, ◌<◌, length, set, sym, ap, subst, ◌∙◌, arith}, lemmas.{Int.ints, Bool.cases_eq, List.{get_or_read, length-set, Elements.All-set}}}, specs.Prelude.{All, ℤ, pos, ◌<ℤ◌}}
+use Rattle.std.{proofs.{Common.{rules, ◌≡◌, inl, inr, ℕ, List, Bool, ◌+◌, ◌<◌, length, set, sym, ap, subst, ◌∙◌, arith}, lemmas.{Int.ints, Bool.cases_eq, List.{get_or_read, length-set, Elements.All-set}}}, specs.Prelude.{All, ℤ, pos, ◌<ℤ◌}}
 use Rattle.stn_net.specs.Schedule.{times_of}
 use Rattle.stn_conflict.{specs.Relaxation.{AreRelaxed}, proofs.{Trying.begun_on, Lowering.{fallen_other, falls, floor_kept, relaxed_elsewhere}, Searches.unrefused, relaxation.Search.lower.{Given.Over, Goals.After-index_mut}}}
 use Rattle.stn_conflict.proofs.relaxation.Search.lower.Goals as goal
@@ -11,17 +11,7 @@ record Lowered (far : List ℤ) (fresh : List Bool) (event place : ℕ) (most : 
   less : most <ℤ times_of far place
 
 lowered : (g : Over) (c : After-index_mut g) → Lowered c.args.self.now.far.items c.args.self.now.fresh.items c.args.event c.from-place.result c.args.most
-lowered g c =
-    let tables = c.requires.begun.tables in
-    let far = c.args.self.now.far.items in
-    let at : c.from-place.result ≡ c.args.event = c.from-place.ensures ∙ c.number.ensures.value in
-    let there : c.from-place.result < length far = omega (arith, at, c.requires.event, tables.far) in
-    let read : c.get.result ≡ times_of far c.from-place.result = c.get.ensures.value ∙ get_or_read far _ _ there c.index.ensures (pos 0) in
-    let value = c.get-2.ensures.value in
-    let first = c.get.ensures.within in
-    let second = c.get-2.ensures.within in
-    let test = c.if-get.false in
-    record { at = at; there = there; fresh_there = omega (arith, there, tables.far, tables.fresh); less = omega (arith, ints) }
+lowered g c = search (rules, get_or_read)
 
 pub relax_until_met-requires-clause-begun : goal.relax_until_met-requires-clause-begun
 relax_until_met-requires-clause-begun g c =
@@ -41,7 +31,6 @@ relax_until_met-requires-clause-begun g c =
     }) (elim (cases_eq self.start c.from-place.result) [
       | inl same ↦
           let own = begun.own in
-          let zero = floor.own in
           let at = ap (times_of self.far.items) same in
           let low_at = ap low (same ∙ l.at) in
           let less = l.less in

@@ -1,20 +1,10 @@
-use Rattle.std.{proofs.{Common.{◌≡◌, ◌+◌, ◌<◌, length, refl, ap, sym, subst, ◌∙◌, arith}, lemmas.Int.ints}, specs.Prelude.{pos, All}}
+use Rattle.std.{proofs.{Common.{rules, ◌≡◌, ◌+◌, ◌<◌, length, refl, ap, sym, subst, ◌∙◌, arith}, lemmas.Int.ints}, specs.Prelude.{pos, All}}
 use Rattle.stn_net.specs.{Schedule.times_of}
 use Rattle.stn_conflict.{specs.Relaxation.{Lowers, NamesAmong}, proofs.{Lowering.{fallen_fresh, lowers_none, lowers_on}, Relaxing.all_met, Sweeps.{above, above_most, fewer_above, some_highest}, relaxation.Search.relax_until_met.{Given.Over, Goals.{After-sweep, then-self-count-via-then-self-count, then-self-count-via-else-self-count+then-goes_round}}}}
 use Rattle.stn_conflict.proofs.relaxation.Search.relax_until_met.Goals as goal
 
 pub loop-event-init : goal.loop-event-init
-loop-event-init g c =
-    let begun = c.requires.begun in
-    record {
-      begun = begun;
-      start = refl;
-      lowers = lowers_none _ _ _;
-      relaxed = c.requires.relaxed;
-      few = omega arith;
-      counted = λ x there fresh top highest. (let zero = highest.floor.own in let own = begun.own in
-          omega (arith, above_most (c.args.graph.now.events + 1) c.args.self.now.start top c.args.self.now.far.items begun.start_named (omega (arith, ints))));
-    }
+loop-event-init g c = search (rules, above_most, ints)
 
 -- the sweep lowers the estimates as one from the same start
 next : (g : Over) (c : After-sweep g) → Lowers c.args.graph.now.bounds c.args.self.now.start c.loop-event.self.far.items c.sweep.new.self.far.items

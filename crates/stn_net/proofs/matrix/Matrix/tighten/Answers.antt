@@ -10,7 +10,6 @@ returns-then-not-has_room-clause-possible g c = λ bounds exact.
     let known : IsExact bounds table = rw (← c.self.view_is) at exact in
     let none : ¬ HasRoom (far_of table) c.args.bound = λ room.
     let true_is = c.has_room.ensures.1 room in
-    let false_is = c.if-not-has_room.true in
     cc in
     ((λ t. cc), (λ s. absurd (no_room bounds table c.args.bound named none known s)))
 

@@ -5,13 +5,11 @@ use Rattle.stn_net.proofs.matrix.runs.gather.Goals as goal
 pub bounds-onward-column : goal.bounds-onward-column
 bounds-onward-column g c =
     let within = All-permutation (λ y. y ≤ c.args.square.now.events) c.args.columns.now c.loop-place.columns c.loop-place.invariant.permutation c.requires.within in
-    let column : c.from-column.result ≤ c.args.square.now.events = rw c.from-column.ensures (within c.loop-place.place 0 (omega arith)) in
     rw c.row-onward.ensures.long (omega arith)
 
 pub bounds-own-column : goal.bounds-own-column
 bounds-own-column g c =
     let within = All-permutation (λ y. y ≤ c.args.square.now.events) c.args.columns.now c.loop-place.columns c.loop-place.invariant.permutation c.requires.within in
-    let column : c.from-column.result ≤ c.args.square.now.events = rw c.from-column.ensures (within c.loop-place.place 0 (omega arith)) in
     rw c.row-own.ensures.long (omega arith)
 
 pub overflow_add-far : goal.overflow_add-far

@@ -1,5 +1,5 @@
-use Rattle.std.proofs.Common.{◌≡◌, length, arith}
-use Rattle.stn_net.{specs.Matrix.Table.entry, proofs.{Passing.{nearer_moved, runs_more, runs_all}, matrix.runs.group.Goals.{then-begin-columns, else-begin-columns}}}
+use Rattle.std.proofs.Common.{rules, ◌≡◌, length, arith}
+use Rattle.stn_net.{specs.Matrix.Table.entry, proofs.{Passing.{nearer_moved, runs_more}, matrix.runs.group.Goals.{then-begin-columns, else-begin-columns}}}
 use Rattle.stn_net.proofs.matrix.runs.group.Goals as goal
 
 pub loop-hub-preserved : goal.loop-hub-preserved
@@ -20,5 +20,4 @@ loop-hub-preserved g c =
     ]
 
 pub returns-clause-runs : goal.returns-clause-runs
-returns-clause-runs g c =
-    runs_all (entry c.args.square.now) c.args.arc.now.to c.loop-hub.columns c.loop-hub.ends c.loop-hub.begin c.loop-hub.invariant.runs
+returns-clause-runs g c = search rules

@@ -1,5 +1,4 @@
-use Rattle.std.proofs.{Common.{◌≡◌, ◌<◌, ℕ, Bool, true, false, not, List, length, get_or, IsTrue, ◌↔◌, refl, sym, ap, ◌∙◌, arith}, lemmas.{Bool.{false≢true, Decides.nat_tests}, List.get_or_default}}
-use Rattle.stn_net.specs.Windows.Dispatch.{IsLeft}
+use Rattle.std.proofs.{Common.{◌≡◌, ◌<◌, ℕ, Bool, true, false, not, get_or, IsTrue, ◌↔◌, refl, sym, ap, ◌∙◌, arith}, lemmas.{Bool.{false≢true, Decides.nat_tests}, List.get_or_default}}
 use Rattle.stn_net.proofs.windows.dispatch.is_left.Goals as goal
 
 -- what the flag at a place says, where it is that of the event

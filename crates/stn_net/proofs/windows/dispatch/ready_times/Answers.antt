@@ -25,6 +25,4 @@ returns-else-le g c = λ bounds exact time from is_ready.
     exact c.requires.one_each (c.is_left.ensures.0 c.if-not-is_left.false) (c.leads.ensures.0 c.if-not-leads.false) c.least_latest-last.ensures early c.max-first.ensures in
     let none : c.least_latest-last.result <ℤ c.max-first.result = (let le = sym c.le.ensures ∙ c.if-le.false in grind (arith, ints)) in
     let ends = (ready time).0 (from, is_ready) in
-    let first = ends.0 in
-    let last = ends.1 in
     omega (arith, ints)

@@ -1,9 +1,9 @@
-use Rattle.std.{proofs.Common.{◌≡◌, ◌<◌, ◌==◌, ◌↔◌, ℕ, not, length, vec_len, ap, ◌∙◌, arith, rules, tests}, specs.Prelude.IsTrue}
+use Rattle.std.{proofs.Common.{◌≡◌, ◌<◌, ◌==◌, ◌↔◌, ℕ, not, length, vec_len, ap, ◌∙◌, arith, rules}, specs.Prelude.IsTrue}
 use Rattle.stn_wire.specs.Feeder.{FeederState}
 use Rattle.stn_wire.proofs.feeder.Feeder.middle.Goals as goal
 
 not_zero : (n : ℕ) → IsTrue (not (n == 0)) ↔ (0 < n)
-not_zero n = search (rules, tests)
+not_zero n = search (rules)
 
 pub returns : goal.returns
 returns g c =

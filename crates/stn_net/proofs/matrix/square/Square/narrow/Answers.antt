@@ -33,7 +33,6 @@ narrowed g c = λ x y xs ys.
     let b = c.args.bound in
     let same : (x y : ℕ) → x ≤ c.args.self.now.events → y ≤ c.args.self.now.events → new x y ≡ shorter old b.from b.to b.hi x y =
     λ x y xs ys. let h = c.shorten.ensures.shorter x y xs ys in rw (c.from.ensures.value, c.to.ensures.value, c.hi.ensures.value) at h in
-    let events = c.shorten.ensures.events in
     let h = c.shorten-2.ensures.shorter x y (omega arith) (omega arith) in
     let last : entry c.shorten-2.new.self x y ≡ shorter new b.to b.from (neg_ℤ b.lo) x y =
     rw (c.from-2.ensures.value, c.to-2.ensures.value, c.neg.ensures, c.lo.ensures.value) at h in

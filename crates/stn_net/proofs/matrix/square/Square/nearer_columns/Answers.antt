@@ -30,8 +30,6 @@ loop-column-preserved g c =
           let onward = rw to_is at (c.row-onward.ensures.entries column cs) in
           let own = rw from_is at (c.row-own.ensures.entries column cs) in
           let weight = c.get-weight.ensures.value in
-          let within = c.get-weight.ensures.within in
-          let test = w.if-through-own.false in
           let to_column = closed_within c.args.self.now.events far c.requires.closed arc.to column c.requires.to cs in
           let longer : far arc.from column ≤ℤ (arc.weight +ℤ far arc.to column) = omega (arith, ints) in
           rw (w.count-is, w.columns-is)

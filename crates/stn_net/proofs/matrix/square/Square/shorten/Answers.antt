@@ -23,8 +23,6 @@ way g c =
     let from_is = c.from-from.ensures ∙ c.number.ensures.value in
     let own : entry_in c.row-own.result.now c.from-from.result ≡ entry c.loop-row.self c.loop-row.row c.args.arc.from =
     c.row-own.ensures.entries c.from-from.result (rw (from_is, c.loop-row.invariant.events) c.requires.from) ∙ ap (entry c.loop-row.self c.loop-row.row) from_is in
-    let weight = c.get-weight.ensures.value in
-    let weight_within = c.get-weight.ensures.within in
     let same = c.loop-row.invariant.shortened.left c.loop-row.row c.args.arc.from (omega arith) row c.requires.from in
     let within = closed_within c.args.self.now.events (entry c.args.self.now) c.requires.closed c.loop-row.row c.args.arc.from row c.requires.from in
     omega (arith, ints)
@@ -40,7 +38,6 @@ nearer g c =
     let end : entry_in c.row-own.result.now c.from-to.result ≡ new c.loop-row.row arc.to =
     c.row-own.ensures.entries c.from-to.result (rw (to_is, c.loop-row.invariant.events) c.requires.to) ∙ ap (new c.loop-row.row) to_is in
     let through = to_z w64 (of_z w64 (to_z w64 (of_z w64 (slice_index_or c.row-own.result.now c.from-from.result (pos 0))) +ℤ to_z w64 (of_z w64 c.get-weight.result))) in
-    let test = c.if-through-own.true in
     let shorter : through <ℤ new c.loop-row.row arc.to = omega (arith, ints) in
     rw to_is (nearer_row c.args.self.now.events (entry c.args.self.now) new arc.from arc.to arc.weight c.loop-row.row through c.loop-row.invariant.shortened
     c.requires.closed c.requires.from c.requires.to c.requires.round row (way g c) shorter)
@@ -85,7 +82,6 @@ loop-row-preserved g c =
     let end : entry_in c.row-own.result.now c.from-to.result ≡ new row arc.to =
     c.row-own.ensures.entries c.from-to.result (rw (to_is, c.loop-row.invariant.events) c.requires.to) ∙ ap (new row) to_is in
     let weight = c.get-weight.ensures.value in
-    let within = c.get-weight.ensures.within in
     let start_is = c.loop-row.invariant.shortened.left row arc.from (omega arith) rs c.requires.from in
     let start_within = closed_within c.args.self.now.events old c.requires.closed row arc.from rs c.requires.from in
     let through : to_z w64 (of_z w64 (to_z w64 (of_z w64 (slice_index_or c.row-own.result.now c.from-from.result (pos 0))) +ℤ to_z w64 (of_z w64 c.get-weight.result))) ≡ (new row arc.from +ℤ arc.weight) = omega (arith, ints) in
@@ -108,7 +104,6 @@ loop-row-preserved g c =
 
 pub returns-clause-shorter : goal.returns-clause-shorter
 returns-clause-shorter g c = λ x y xs ys.
-    let size = c.size-size.ensures.value in
     c.loop-row.invariant.shortened.here x y (omega (arith, c.loop-row-test.false)) xs ys
 
 -- an arc that is no shorter than what is known brings no event nearer
@@ -120,7 +115,6 @@ returns-then-entry-weight-clause-shorter g c = λ x y xs ys.
     let to_is = c.from-to.ensures ∙ c.number-2.ensures.value in
     let known : c.entry.result ≡ far arc.from arc.to = rw (from_is, to_is) at c.entry.ensures in
     let weight = c.get-weight.ensures.value in
-    let within = c.get-weight.ensures.within in
     let longer : far arc.from arc.to ≤ℤ arc.weight = (let h = c.if-entry-weight.true in omega (arith, ints)) in
     let triangle = c.requires.closed.triangle x arc.from arc.to xs c.requires.from c.requires.to in
     sym (shorter-kept_row c.args.self.now.events far arc.from arc.to arc.weight c.requires.closed c.requires.to x y xs ys (omega (arith, ints, longer, triangle)))

@@ -13,7 +13,6 @@ loop-place-preserved-then-way-entries g c =
     let there = c.loop-place-test.true in
     let column = slice_index_or c.args.runs.columns.now c.loop-place.place 0 in
     let so_far = c.loop-place.invariant in
-    let below : column < width = c.requires.runs.named c.loop-place.place 0 there in
     let cs : column ≤ events = omega arith in
     let onward : entry_in entries (c.args.by * width + column) ≡ far c.args.by column = so_far.others c.args.by column c.requires.by cs (λ e. c.requires.apart (sym e)) in
     let reach = c.requires.ways column cs in
@@ -34,8 +33,7 @@ loop-place-preserved-then-way-entries g c =
     let least : way ≡ int_min (entry_in entries (row * width + column)) (c.args.through +ℤ far c.args.by column) = omega (arith, ints, clamps) in
     let more = shortened_column width (far row) (λ y. entry_in entries (row * width + y)) (λ y. entry_in next (row * width + y)) (far c.args.by) c.args.through
     columns c.loop-place.place (rw (to_z-of_z w64 c.args.through c.ranges.through) at so_far.so_far) c.requires.runs.named there
-    (written.here ∙ least)
-    (λ y ys ne. written.others row y c.requires.row (omega arith) (inr ne)) in
+    (written.here ∙ least) (λ y ys ne. written.others row y c.requires.row (omega arith) (inr ne)) in
     record {
       within = omega arith;
       so_far = rw (c.size.ensures.value, c.size-2.ensures.value, c.from-column.ensures, to_z-of_z w64 c.args.through c.ranges.through) more;
