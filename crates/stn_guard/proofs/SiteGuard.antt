@@ -2,8 +2,8 @@
 use Rattle.std.{proofs.{Common.{◌≡◌, ◌⊎◌, inl, inr, ℕ, ◌+◌, ◌<◌, ◌≤◌, List, ◌++◌, map, Option, Some, None, Result, Ok, Err, unwrap_or, refl, ap, subst, ◌∙◌, arith}, lemmas.List.FromFn.get_or-map-range_with_len}, specs.{Prelude.{Vec, All, IsNone, IfOk, IfSome, MatchOption, ◌↔◌}, List.range_with_len}}
 use Rattle.stn_net.specs.{Difference.{Difference, NamesEvents}, Schedule.HasSchedule}
 use Rattle.stn_lift.specs.PlanSource.{events_of, base_bounds}
-use Rattle.stn_site.specs.{declared.faults.ReplicaFault.{ReplicaFault, TheVariants.Memory}, Bounds.{live_bounds, all_bounds}, Held.Held}
-use Rattle.stn_guard.{specs.{declared.owners.OwnedSteps.OwnedSteps, Owners.owner_of, Guard.Guards, Making.{AreSharedWindows, IsGuardOf}, Adding.owner_by, Putting.MakesGuard}, proofs.{Gluing.guarded_possible, SameOwners.{guard_named, same_guard, same_guards}}}
+use Rattle.stn_site.specs.{declared.{faults.ReplicaFault.{ReplicaFault, TheVariants.Memory}, own.OwnedSteps.OwnedSteps}, Bounds.{live_bounds, all_bounds}, Held.Held}
+use Rattle.stn_guard.{specs.{Owners.owner_of, Guard.Guards, Making.{AreSharedWindows, IsGuardOf}, Adding.owner_by, Putting.MakesGuard}, proofs.{Gluing.guarded_possible, SameOwners.{guard_named, same_guard, same_guards}}}
 
 -- what was made of these bounds, with the owners as a list
 pub record IsMadeOf (owners : List ℕ) (events : ℕ) (bounds guard : List Difference) : Type 0 where

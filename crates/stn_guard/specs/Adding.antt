@@ -1,19 +1,15 @@
 -- Adding the guard of what a site holds to what it holds.
-use Rattle.std.specs.{Prelude.{◌≡◌, ℕ, zero, suc, ◌+◌, nat_lt, Bool, true, false, if◌then◌else◌, List, [], ◌∷◌, length, map, Option, Some, None}, Bool.then_some, Option.option_or, List.list_all}
+use Rattle.std.specs.{Prelude.{◌≡◌, ℕ, zero, suc, ◌+◌, nat_lt, Bool, true, false, if◌then◌else◌, List, [], ◌∷◌, length, map, Option, Some, None}, Bool.then_some, Option.option_or}
 use Rattle.stn_net.specs.{Difference.Difference, declared.bound.BoundFault.TheVariants.NoEvent, Schedule.HasSchedule}
 use Rattle.stn_lift.specs.PlanSource.{steps_of, events_of}
 use Rattle.stn_records.specs.{Id.{SiteCounter, most_counter}, Content.{most_known, known_count, next_counter}}
-use Rattle.stn_site.specs.{declared.faults.ReplicaFault.{ReplicaFault, TheVariants.{Bound, CounterSpent, Full}}, Bounds.all_bounds, Held.{Held, plain}, Calls.{added, AllLeave}, Own.{has, is_within}}
-use Rattle.stn_guard.specs.{declared.owners.OwnedSteps.OwnedSteps, Making.IsGuardOf}
+use Rattle.stn_site.specs.{declared.{faults.ReplicaFault.{ReplicaFault, TheVariants.{Bound, CounterSpent, Full}}, own.OwnedSteps.OwnedSteps}, Bounds.all_bounds, Held.{Held, plain}, Calls.{added, AllLeave}, Own.{has, are_within}}
+use Rattle.stn_guard.specs.Making.{IsGuardOf}
 
 -- the owner of an event: the site of the first of the lists that has the event's step, or else this site
 abbrev pub owner_by : ℕ → List OwnedSteps → ℕ → ℕ
 owner_by site [] event = site
 owner_by site (owned ∷ rest) event = if has owned.steps event then owned.site else owner_by site rest event
-
--- a plan of so many steps has all of them
-abbrev pub are_within : ℕ → List OwnedSteps → Bool
-are_within steps owned = list_all (λ one. is_within steps one.steps) owned
 
 -- the guard of all bounds of a site
 abbrev pub IsGuardAt : List OwnedSteps → Held → List Difference → Type 0

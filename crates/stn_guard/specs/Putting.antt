@@ -3,8 +3,8 @@ use Rattle.std.specs.Prelude.{◌≡◌, ℕ, List, [], ◌∷◌, map, All}
 use Rattle.stn_net.specs.{Difference.{Difference, NamesEvents}, Schedule.HasSchedule}
 use Rattle.stn_lift.specs.PlanSource.{events_of}
 use Rattle.stn_records.specs.{Id.SiteCounter, Content.{Content, next_counter, with_record, plain}}
-use Rattle.stn_site.specs.{Bounds.all_bounds, Held.Held}
-use Rattle.stn_guard.specs.{declared.owners.OwnedSteps.OwnedSteps, Guard.Guards, Adding.{owner_by, IsGuardAt}}
+use Rattle.stn_site.specs.{Bounds.all_bounds, Held.Held, declared.own.OwnedSteps.OwnedSteps}
+use Rattle.stn_guard.specs.{Guard.Guards, Adding.{owner_by, IsGuardAt}}
 
 -- the bounds are the guard of all bounds of a site, and guard them
 pub record MakesGuard (owned : List OwnedSteps) (held : Held) (guard : List Difference) : Type 0 where

@@ -1,16 +1,16 @@
 ghost use Rattle.std.specs.Prelude.{◌≡◌, ◌⊎◌, true, None, Some, [], All, length, unwrap_or, IfOk, IfErr, IfSome, OnOk, OnErr, IsErrOf, MatchOption};
 ghost use Rattle.stn_net.specs.{Difference.NamesEvents, Schedule.HasSchedule};
 ghost use Rattle.stn_lift.specs.PlanSource.{events_of, steps_of};
-ghost use Rattle.stn_site.specs.Bounds.{all_bounds};
-ghost use Rattle.stn_guard.specs.{Guard.Guards, Adding.{owner_by, are_within, IsGuardRefusal, AddsEach, AddsGuard, records_refusal}, Putting.{MakesGuard, PutsEach}};
+ghost use Rattle.stn_site.specs.{Bounds.all_bounds, Own.are_within};
+ghost use Rattle.stn_guard.specs.{Guard.Guards, Adding.{owner_by, IsGuardRefusal, AddsEach, AddsGuard, records_refusal}, Putting.{MakesGuard, PutsEach}};
 ghost use Rattle.stn_records.specs.Content.{next_counter, with_record, plain};
 
 use crate::guarding::guard;
-use crate::owners::{OwnedSteps, are_within, owners_of};
+use crate::owners::owners_of;
 use std::alloc::Allocator;
 use stn_net::{Bound, BoundFault};
 use stn_records::{Id, MOST_KNOWN, Mark, Records, Site};
-use stn_site::{ReplicaFault, SitePlan};
+use stn_site::{OwnedSteps, ReplicaFault, SitePlan, are_within};
 use stn_time::Memory;
 
 /// Adds the guard of all bounds that a site holds, as plain records under its next ids, which are returned in the order of the

@@ -9,7 +9,6 @@ pub use laws::{
     guard_needs_schedule, guards_glue, made_guards, one_guard, own_windows_are_whole,
     same_counts_same_guard, shared_is_no_sites_own,
 };
-pub use owners::OwnedSteps;
 
 mod adding;
 mod guarding;

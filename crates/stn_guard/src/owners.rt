@@ -5,27 +5,8 @@ ghost use Rattle.stn_guard.specs.Adding as adding;
 use std::alloc::Allocator;
 use stn_net::Event;
 use stn_records::Site;
-use stn_site::StepRange;
+use stn_site::OwnedSteps;
 use stn_time::Memory;
-
-/// Steps that a site owns.
-#[derive(Clone, Copy, Debug, PartialEq, Eq)]
-pub struct OwnedSteps {
-    pub site: Site,
-    pub steps: StepRange,
-}
-
-// Whether a plan of so many steps has all of them.
-pub fn are_within(owned: &[OwnedSteps], steps: u16) -> bool
-    ensures { result ≡ adding.are_within steps owned.now }
-{
-    for one in owned {
-        if !one.steps.is_within(steps) {
-            return false;
-        }
-    }
-    true
-}
 
 // The owners of the origin and of so many events, in their order; the origin's counts for nothing.
 pub fn owners_of<A: Allocator>(

@@ -1,9 +1,9 @@
 -- For proofs alone: no public clause cites these words.
-use Rattle.std.specs.Prelude.{◌≡◌, ◌≤◌, Bool, true, false, List}
+use Rattle.std.specs.Prelude.{◌≡◌, ◌≤◌, Bool, true, false, List, option_map, unwrap_or}
 use Rattle.stn_net.specs.{Difference.Difference, Schedule.HasSchedule, Matrix.{Table.Table, Tightest.IsExact}}
 use Rattle.stn_lift.specs.PlanSource.{PlanSource, base_bounds, events_of}
 use Rattle.stn_records.specs.Content.{Content, is_live}
-use Rattle.stn_site.specs.{Bounds.{all_bounds, RecordsName}, declared.change.Change.{Change, TheVariants.{Add, Amend, Withdraw, Done}}}
+use Rattle.stn_site.specs.{Bounds.{all_bounds, RecordsName}, Change.stopped, declared.change.Change.Change}
 
 -- the bounds have a schedule, and the table is exact for them; or they have none
 abbrev pub IsSettled : List Difference → Table → Bool → Type 0
@@ -22,7 +22,4 @@ pub record IsSoundReplica (source : PlanSource) (state : Content) (opening curre
 
 -- the change takes the place of a live record, or withdraws one
 abbrev pub stops_live : Change → Content → Bool
-stops_live (Add bound) state = false
-stops_live (Amend old bound) state = is_live state old
-stops_live (Withdraw id) state = is_live state id
-stops_live (Done event time) state = false
+stops_live asked state = unwrap_or (option_map (is_live state) (stopped asked)) false

@@ -291,9 +291,8 @@ impl<A: Allocator + Copy> Replica<A> {
 fn stops_live<A: Allocator + Copy>(records: &Records<A>, asked: &Change) -> bool
     ensures { result ≡ stops_live asked.now records.now }
 {
-    match *asked {
-        Change::Add(_) | Change::Done(..) => false,
-        Change::Amend(old, _) => records.is_live(old),
-        Change::Withdraw(id) => records.is_live(id),
+    match asked.stopped() {
+        Some(id) => records.is_live(id),
+        None => false,
     }
 }

@@ -1,5 +1,5 @@
 -- What a change does to what a site holds, and why it is refused.
-use Rattle.std.specs.{Prelude.{◌≡◌, true, Option}, FinMap.contains_key}
+use Rattle.std.specs.{Prelude.{◌≡◌, true, Option, Some, None}, FinMap.contains_key}
 use Rattle.stn_records.specs.{Id.SiteCounter, Content.Content}
 use Rattle.stn_site.specs.{Calls.{Accepted, added, amended, withdrew}, Held.{Held, plain, executed}, Refusals.{add_refusal, amend_refusal, done_refusal, withdraw_refusal}, declared.{faults.ReplicaFault.ReplicaFault, change.Change.{Change, TheVariants.{Add, Amend, Withdraw, Done}}}}
 
@@ -16,6 +16,13 @@ change_id (Add bound) next = next
 change_id (Amend old bound) next = next
 change_id (Withdraw old) next = old
 change_id (Done event time) next = next
+
+-- the id of the record whose place it takes, or that it withdraws
+abbrev pub stopped : Change → Option SiteCounter
+stopped (Add bound) = None
+stopped (Amend old bound) = Some old
+stopped (Withdraw id) = Some id
+stopped (Done event time) = None
 
 -- what refuses it, if something does
 abbrev pub change_refusal : Held → Change → Option ReplicaFault

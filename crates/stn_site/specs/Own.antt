@@ -1,12 +1,16 @@
 -- The events that a site chooses itself.
-use Rattle.std.specs.{Prelude.{ℕ, ◌+◌, ◌*◌, ◌==◌, nat_le, Bool, not, ◌&&◌, ◌||◌, List, map}, List.{list_any, range_with_len}}
+use Rattle.std.specs.{Prelude.{ℕ, ◌+◌, ◌*◌, ◌==◌, nat_le, Bool, not, ◌&&◌, ◌||◌, List, map}, List.{list_all, list_any, range_with_len}}
 use Rattle.stn_lift.specs.{BaseBounds.step_of, PlanSource.{PlanSource, events_of}}
 use Rattle.stn_records.specs.Content.{Content}
-use Rattle.stn_site.specs.{Report.is_done, declared.own.{StepRange.StepRange, Own.Own}}
+use Rattle.stn_site.specs.{Report.is_done, declared.own.{StepRange.StepRange, OwnedSteps.OwnedSteps, Own.Own}}
 
 -- a plan of so many steps has all steps of the range
 abbrev pub is_within : ℕ → StepRange → Bool
 is_within steps range = nat_le 1 range.first && nat_le range.last steps
+
+-- and all steps that sites are said to own
+abbrev pub are_within : ℕ → List OwnedSteps → Bool
+are_within steps owned = list_all (λ one. is_within steps one.steps) owned
 
 -- the event is the start or the end of one of the steps
 abbrev pub has : StepRange → ℕ → Bool

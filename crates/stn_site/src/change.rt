@@ -1,7 +1,7 @@
 //! Changes of what a site holds.
 
 ghost use Rattle.std.specs.Prelude.{◌≡◌, None, unwrap_or, IsOk, IfOk, IfErr, OnOk, OnErr};
-ghost use Rattle.stn_site.specs.{Held.{difference, next_id}, Calls.Leaves, Change.{change_call, change_id, change_refusal, IsAgain}};
+ghost use Rattle.stn_site.specs.{Held.{difference, next_id}, Calls.Leaves, Change.{change_call, change_id, change_refusal, stopped, IsAgain}};
 
 use crate::faults::ReplicaFault;
 use crate::site_plan::SitePlan;
@@ -50,6 +50,19 @@ pub enum Change {
     Withdraw(Id),
     /// Records that an event took place at a time.
     Done(Event, Ms),
+}
+
+impl Change {
+    /// The id of the record whose place it takes, or that it withdraws.
+    pub fn stopped(&self) -> Option<Id>
+        ensures { result ≡ stopped self.now }
+    {
+        match *self {
+            Change::Amend(old, _) => Some(old),
+            Change::Withdraw(id) => Some(id),
+            Change::Add(_) | Change::Done(..) => None,
+        }
+    }
 }
 
 impl<A: Allocator + Copy> SitePlan<A> {

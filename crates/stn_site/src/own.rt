@@ -9,12 +9,20 @@ use crate::site_plan::SitePlan;
 use std::alloc::Allocator;
 use stn_lift::step_of;
 use stn_net::{Event, MOST_EVENTS};
+use stn_records::Site;
 
 /// Steps of a plan by their numbers, which are counted from 1: those from `first` to `last`, both included.
 #[derive(Clone, Copy, Debug, PartialEq, Eq)]
 pub struct StepRange {
     pub first: u32,
     pub last: u32,
+}
+
+/// Steps that a site owns.
+#[derive(Clone, Copy, Debug, PartialEq, Eq)]
+pub struct OwnedSteps {
+    pub site: Site,
+    pub steps: StepRange,
 }
 
 /// The events that a site chooses itself: those of the steps of some ranges, or the starts of these steps alone, where
@@ -49,6 +57,18 @@ impl Own<'_> {
     {
         any_has(self.steps, event) && !(self.starts && is_end(event))
     }
+}
+
+/// Whether a plan of so many steps has all steps that sites are said to own.
+pub fn are_within(owned: &[OwnedSteps], steps: u16) -> bool
+    ensures { result ≡ own_events.are_within steps owned.now }
+{
+    for one in owned {
+        if !one.steps.is_within(steps) {
+            return false;
+        }
+    }
+    true
 }
 
 /// For each event, the origin first, whether it doesn't count as left: it is done, or the site doesn't choose it. It asks for

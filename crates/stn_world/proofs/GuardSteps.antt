@@ -3,8 +3,8 @@ use Rattle.std.proofs.{Common.{rules, ◌≡◌, inl, ℕ, ◌-◌, ◌≤◌, L
 use Rattle.stn_net.specs.{Difference.{Difference, NamesEvents, IsBoundWithin}, Horizon.horizon_bounds}
 use Rattle.stn_lift.{specs.PlanSource.{PlanSource, base_bounds, events_of, IsSoundSource}, proofs.PlanHorizon.horizon_within}
 use Rattle.stn_records.specs.{Id.SiteCounter, Content.{with_record, plain}}
-use Rattle.stn_site.specs.{Bounds.{live_bounds, all_bounds}, Held.{Held, next_id}, Calls.{AllLeave, added as added_call}}
-use Rattle.stn_guard.{specs.{declared.owners.OwnedSteps.OwnedSteps, Guard.Guards, Adding.{owner_by, AddsGuard}}, proofs.{Made.made_guard, Put.added_guards}}
+use Rattle.stn_site.specs.{Bounds.{live_bounds, all_bounds}, Held.{Held, next_id}, Calls.{AllLeave, added as added_call}, declared.own.OwnedSteps.OwnedSteps}
+use Rattle.stn_guard.{specs.{Guard.Guards, Adding.{owner_by, AddsGuard}}, proofs.{Made.made_guard, Put.added_guards}}
 use Rattle.stn_world.{specs.{World.{World, HasSite, content_at, held_at, next_id_at, with_call}, Steps.{Step, stepped, run}, Whole.IsCoherent, Guarded.{adds_bound, AllAccepted, HoldsAlone, HoldsGuarded}}, proofs.Whole.{content_here, site_bounds}}
 
 -- records that a site adds, one after the other

@@ -1,8 +1,8 @@
 ghost use Rattle.std.specs.{Prelude.{◌≡◌, ℕ, ◌≤◌, ◌↔◌, List, ◌∷◌, map, All, None, true, false}, List.Contains};
 ghost use Rattle.stn_lift.specs.PlanSource.{PlanSource, events_of, IsSoundSource};
 ghost use Rattle.stn_records.specs.{Id.SiteCounter, declared.record.Record.Record, Content.{most_known, Content, Item, addition, HasItem, is_known, is_live, dispute_contents, IsPart, CountsSame}};
-ghost use Rattle.stn_site.specs.{Calls.Replaces, Held.Held, Report.IsReport};
-ghost use Rattle.stn_guard.specs.{Adding.{owner_by, AddsGuard}, declared.owners.OwnedSteps.OwnedSteps};
+ghost use Rattle.stn_site.specs.{Calls.Replaces, Held.Held, Report.IsReport, declared.own.OwnedSteps.OwnedSteps};
+ghost use Rattle.stn_guard.specs.Adding.{owner_by, AddsGuard};
 ghost use Rattle.stn_world.specs.{World.{World, HasSite, HasPacket, opening_world, held_at, content_at, packet_at}, Steps.{Step, merged, delivered, IsAccepted, run, Brings, TookAt, TookSameAt, TookSameItemsAt}, Guarded.{adds_bound, AllAccepted, HoldsAlone, HoldsGuarded, KeepsToOwn, HaveOwnSchedules, HaveSchedules}, Runs.{Making, WasMade, records_made, states_of, HasEntries, IsRecordOf, InEachRun}};
 
 use stn_site::{one_report, same_counts_same_bytes};

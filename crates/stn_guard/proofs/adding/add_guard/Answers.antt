@@ -1,8 +1,8 @@
 use Rattle.std.proofs.{Common.{◌≡◌, inl, inr, ⊎_elim, true, List, Err, length, sym, ap, subst, ◌∙◌, rules}, lemmas.Option.MatchOption-at_some}
 use Rattle.stn_net.specs.{Difference.Difference, Schedule.HasSchedule}
 use Rattle.stn_lift.specs.PlanSource.{steps_of}
-use Rattle.stn_site.specs.Bounds.{all_bounds}
-use Rattle.stn_guard.{specs.{Guard.Guards, Adding.{owner_by, are_within, records_refusal, guarded}, Putting.MakesGuard}, proofs.{Put.added_guards, SiteGuard.cause_or_memory}}
+use Rattle.stn_site.specs.{Bounds.all_bounds, Own.are_within}
+use Rattle.stn_guard.{specs.{Guard.Guards, Adding.{owner_by, records_refusal, guarded}, Putting.MakesGuard}, proofs.{Put.added_guards, SiteGuard.cause_or_memory}}
 use Rattle.stn_guard.proofs.adding.add_guard.Goals as goal
 
 pub returns-in_err-add_each-in-Some-clause-fault : goal.returns-in_err-add_each-in-Some-clause-fault

@@ -1,6 +1,6 @@
 use Rattle.std.proofs.Common.{◌≡◌, true, take}
-use Rattle.stn_guard.specs.Adding.{are_within}
-use Rattle.stn_guard.proofs.owners.are_within.Given as goal
+use Rattle.stn_site.specs.Own.{are_within}
+use Rattle.stn_site.proofs.own.are_within.Given as goal
 
 abbrev pub invariant-loop-one : goal.invariant-loop-one
 invariant-loop-one l = are_within l.steps (take l.one-index l.owned) ≡ true
