@@ -1,12 +1,2 @@
-pub mod AxisEnd
-pub mod AxisGaps
-pub mod Drawing
-pub mod Escaping
-pub mod Grown
-pub mod Noting
 pub mod OnePicture
-pub mod Order
 pub mod SamePicture
-pub mod Shown
-pub mod Sums
-pub mod Times

@@ -6,7 +6,9 @@ use Rattle.stn_records.specs.Content.{Content, live_of}
 use Rattle.stn_conflict.specs.{declared.links.Link.Link, Arcs.IsNegativeCycle, Named.IsNamedCycle}
 use Rattle.stn_site.specs.{Bounds.{all_bounds, live_bounds}, Names.live_ids, Windows.{window_at, AreWindows}}
 use Rattle.stn_repairs.proofs.OneRepairs.{one_list}
-use Rattle.stn_picture.specs.{Chart.{Look, floors, overdue_event, AreDrawn, chart_of}, Frame.plan_text, Walk.{walk_of, walk_text}, Picture.{IsPlanPicture, IsWalkPicture, IsPicture}}
+use Rattle.stn_chart.specs.{Chart.{Look, floors, overdue_event, AreDrawn, chart_of}, Frame.plan_text, Drawn.IsPlanPicture}
+use Rattle.stn_walk.specs.{Walk.{walk_of, walk_text}, Conflict.IsWalkPicture}
+use Rattle.stn_picture.specs.Picture.{IsPicture}
 
 one_windows : (bounds : List Difference) (events : ℕ) (one other : List (ℤ × ℤ)) → AreWindows bounds events one → AreWindows bounds events other → one ≡ other
 one_windows bounds events one other p q =
@@ -57,12 +59,12 @@ one_picture cycles refutes look names source state text other p q = ⊎_elim
     (λ (theirs : IsPlanPicture look names source state other).
     let same = one_drawn source state look.present mine.windows theirs.windows mine.overdue theirs.overdue mine.drawn theirs.drawn in
     mine.whole ∙ (λ i. plan_text (chart_of look names source state (same.0 i) (same.1 i))) ∙ sym theirs.whole)
-    (λ (theirs : IsWalkPicture look names source state other).
+    (λ (theirs : IsWalkPicture look.title names source state other).
     absurd (refutes (all_bounds source state) theirs.links theirs.negative (drawn_possible source state look.present mine.windows mine.overdue mine.drawn))) q)
-    (λ (mine : IsWalkPicture look names source state text). ⊎_elim
+    (λ (mine : IsWalkPicture look.title names source state text). ⊎_elim
     (λ (theirs : IsPlanPicture look names source state other).
     absurd (refutes (all_bounds source state) mine.links mine.negative (drawn_possible source state look.present theirs.windows theirs.overdue theirs.drawn)))
-    (λ (theirs : IsWalkPicture look names source state other).
+    (λ (theirs : IsWalkPicture look.title names source state other).
     let links = cycles (all_bounds source state) mine.links theirs.links mine.named theirs.named in
     let repairs = one_list (base_bounds source) (live_of state) (live_of state) mine.repairs theirs.repairs mine.are theirs.are in
     mine.whole ∙ (λ i. walk_text (walk_of look.title names (base_bounds source) (live_ids state) (live_bounds state) (links i) (repairs i))) ∙ sym theirs.whole) q)

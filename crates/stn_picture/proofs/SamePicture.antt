@@ -6,7 +6,10 @@ use Rattle.stn_records.specs.{Id.SiteCounter, declared.record.Record.Record, Con
 use Rattle.stn_conflict.specs.{Arcs.IsNegativeCycle, Named.IsNamedCycle}
 use Rattle.stn_site.specs.{Bounds.{all_bounds, bounds_of}, Report.{is_done, says_done}, Windows.{window_at, AreWindows}}
 use Rattle.stn_repairs.specs.Repairs.{AreRepairs}
-use Rattle.stn_picture.specs.{Axis.{gap_of, gaps_in}, Chart.{Look, floor, floors, overdue_from, overdue_event, AreDrawn, chart_of, row_in, holder_in, axis_reach}, Frame.plan_text, Walk.{walk_of, walk_text}, Picture.{IsPlanPicture, IsWalkPicture, IsPicture}}
+use Rattle.stn_drawing.specs.Axis.{gap_of, gaps_in}
+use Rattle.stn_chart.specs.{Chart.{Look, floor, floors, overdue_from, overdue_event, AreDrawn, chart_of, row_in, holder_in, axis_reach}, Frame.plan_text, Drawn.IsPlanPicture}
+use Rattle.stn_walk.specs.{Walk.{walk_of, walk_text}, Conflict.IsWalkPicture}
+use Rattle.stn_picture.specs.Picture.{IsPicture}
 
 abbrev Records : Type 0
 Records = List (SiteCounter × Record)
@@ -69,7 +72,7 @@ module _ (source : PlanSource) (s t : Content) (live : live_of s ≡ live_of t) 
         drawn = same_drawn look.present drawn.windows drawn.overdue drawn.drawn;
         whole = drawn.whole ∙ ap plan_text (same_chart look names drawn.windows drawn.overdue);
       }))
-      (λ (drawn : IsWalkPicture look names source s text). inr (record {
+      (λ (drawn : IsWalkPicture look.title names source s text). inr (record {
         links = drawn.links;
         named = subst (λ (bounds : List Difference). IsNamedCycle bounds drawn.links) same_bounds drawn.named;
         negative = subst (λ (bounds : List Difference). IsNegativeCycle bounds drawn.links) same_bounds drawn.negative;

@@ -1,13 +1,1 @@
-pub mod Axis
-pub mod Chart
-pub mod Escape
-pub mod Frame
-pub mod Parts
 pub mod Picture
-pub mod Places
-pub mod Rows
-pub mod Seen
-pub mod Style
-pub mod Ticks
-pub mod Walk
-pub mod WalkSeen

@@ -1,14 +1,13 @@
 //! The picture of a plan as SVG.
 ghost use Rattle.std.specs.Prelude.{◌≡◌, ◌++◌, ℕ, List, map, IfOk, OnOk, OnErr};
-ghost use Rattle.stn_picture.specs.{Chart.seen_look, Picture.IsPicture};
+ghost use Rattle.stn_chart.specs.Chart.{seen_look};
+ghost use Rattle.stn_picture.specs.Picture.{IsPicture};
 
-use crate::chart::chart_text;
-use crate::conflict::conflict_text;
-use crate::floors::drawn_at;
-use crate::look::Look;
 use std::alloc::Allocator;
+use stn_chart::{Look, chart_text};
 use stn_site::SitePlan;
 use stn_time::Memory;
+use stn_walk::conflict_text;
 
 /// Appends the picture of a plan as SVG: a row for each step, with its soonest and its latest times on one axis; where all
 /// bounds have no schedule, a walk along the links of the conflict, with what mends it. It depends on how it is drawn, on the
@@ -33,8 +32,8 @@ fn text_of<'x, A: Allocator + Copy>(
 ) -> Result<Vec<u8, A>, Memory>
     ensures { IfOk result (λ text. IsPicture (seen_look look.now) (map (λ name. name.items) names.now) plan.now.source plan.now.state text.items) }
 {
-    match drawn_at(plan, look)? {
-        Some(drawn) => chart_text(plan, look, names, &drawn),
-        None => conflict_text(plan, look, names),
+    match chart_text(plan, look, names)? {
+        Some(text) => Ok(text),
+        None => conflict_text(plan, look.title, names),
     }
 }

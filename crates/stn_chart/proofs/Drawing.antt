@@ -1,0 +1,66 @@
+-- Texts that grow by a line.
+use Rattle.std.{proofs.{Common.{◌≡◌, ℕ, ℤ, suc, ◌+◌, ◌&&◌, not, Bool, true, false, cond, if◌then◌else◌, List, [], ◌∷◌, ◌++◌, length, filter, map, drop, drop-cons, get_or, ◌<◌, ◌≤◌, refl, sym, ap, ◌∙◌, add-one, arith, append_assoc}, lemmas.List.{length-append, map-append, Elements.filter-append}}, specs.{List.range_with_len, Prelude.int_lt}}
+use Rattle.std.specs.Int.{from_bool}
+use Rattle.stn_records.specs.Content.{Content}
+use Rattle.stn_site.specs.{Report.is_done, Windows.window_at}
+use Rattle.stn_text.proofs.Growing.{range_push}
+use Rattle.stn_chart.specs.{declared.parts.Part.Part, Frame.{entry_at, left_after, entries_text}, Chart.{Chart, floor, floors_at, overdue_from}, Seen.present_floor}
+
+first_case : (b : Bool) (x : ℕ) (rest : List ℕ) → length (cond b (x ∷ rest) rest) ≡ cond b 1 0 + length rest
+first_case true x rest = omega arith
+first_case false x rest = omega arith
+
+-- whether the first is counted
+pub one_first : (p : ℕ → Bool) (x : ℕ) (xs : List ℕ) → length (filter p (x ∷ xs)) ≡ cond (p x) 1 0 + length (filter p xs)
+one_first p x xs = first_case (p x) x (filter p xs)
+
+-- how many of one number more are so
+count_more : (p : ℕ → Bool) (n : ℕ) → length (filter p (range_with_len 1 (n + 1))) ≡ length (filter p (range_with_len 1 n)) + cond (p (n + 1)) 1 0
+count_more p n =
+    let before = filter p (range_with_len 1 n) in
+    let more : length (filter p (range_with_len 1 (n + 1))) ≡ length before + length (filter p ((n + 1) ∷ [])) =
+    ap (λ events. length (filter p events)) (ap (range_with_len 1) (add-one n) ∙ range_push 1 n (n + 1) (omega arith))
+    ∙ ap length (filter-append p (range_with_len 1 n) ((n + 1) ∷ [])) ∙ length-append before (filter p ((n + 1) ∷ [])) in
+    omega (arith, more, one_first p (n + 1) [])
+
+flagged : (so : Bool) → (from_bool so ≡ cond so 1 0) × (from_bool so ≤ 1)
+flagged true = (refl, omega arith)
+flagged false = (refl, omega arith)
+
+-- the count goes on with the next number
+pub count_step : (p : ℕ → Bool) (before count one next : ℕ) → count ≡ length (filter p (range_with_len 1 before)) → count ≤ before → one ≡ from_bool (p (before + 1))
+    → next ≡ count + one → (next ≡ length (filter p (range_with_len 1 (before + 1)))) × (next ≤ before + 1)
+count_step p before count one next was most is grown =
+    let flag = flagged (p (before + 1)) in
+    (omega (arith, was, is, grown, flag.0, count_more p before), omega (arith, most, is, grown, flag.1))
+
+left_case : (done : Bool) (now : ℤ) (event : ℕ) → map (floor now) (cond (not done) (event ∷ []) []) ≡ present_floor done now event
+left_case true now event = refl
+left_case false now event = refl
+
+-- the floors of one event more
+pub floors_more : (state : Content) (now : ℤ) (n : ℕ) → floors_at state (n + 1) now ≡ floors_at state n now ++ present_floor (is_done state (n + 1)) now (n + 1)
+floors_more state now n =
+    let left : ℕ → Bool = λ event. not (is_done state event) in
+    ap (λ events. map (floor now) (filter left events)) (ap (range_with_len 1) (add-one n) ∙ range_push 1 n (n + 1) (omega arith))
+    ∙ ap (map (floor now)) (filter-append left (range_with_len 1 n) ((n + 1) ∷ []))
+    ∙ map-append (floor now) (filter left (range_with_len 1 n)) (filter left ((n + 1) ∷ []))
+    ∙ ap (λ more. floors_at state n now ++ more) (left_case (is_done state (n + 1)) now (n + 1))
+
+-- the search for an overdue event goes on
+pub overdue_next : (state : Content) (windows : List (ℤ × ℤ)) (now : ℤ) (event left more : ℕ) → left ≡ suc more
+    → overdue_from state windows now event left
+    ≡ (if not (is_done state event) && int_lt (window_at windows event).1 now then event else overdue_from state windows now (event + 1) more)
+overdue_next state windows now event left more e = ap (overdue_from state windows now event) e
+
+-- the legend goes on with the next part
+pub legend_step : (chart : Chart) (base place left next i : ℕ) (xs : List Part) (one : Part) (front old new : List ℕ) → place ≡ base → i < length xs → one ≡ get_or xs i one
+    → front ≡ old ++ entries_text chart base left (drop i xs) → new ≡ old ++ entry_at chart place left one → next ≡ left_after chart left one
+    → front ≡ new ++ entries_text chart base next (drop (i + 1) xs)
+legend_step chart base place left next i xs one front old new same within is was grown moved =
+    was
+    ∙ ap (λ rest. old ++ entries_text chart base left rest) (drop-cons xs i one within)
+    ∙ (λ k. old ++ (entry_at chart base left (sym is k) ++ entries_text chart base (left_after chart left (sym is k)) (drop (sym (add-one i) k) xs)))
+    ∙ ap (λ n. old ++ (entry_at chart base left one ++ entries_text chart base n (drop (i + 1) xs))) (sym moved)
+    ∙ sym (append_assoc old (entry_at chart base left one) (entries_text chart base next (drop (i + 1) xs)))
+    ∙ ap (λ text. text ++ entries_text chart base next (drop (i + 1) xs)) (sym (grown ∙ ap (λ b. old ++ entry_at chart b left one) same))

@@ -1,0 +1,150 @@
+-- What is drawn of a plan.
+use Rattle.std.specs.{Prelude.{◌≡◌, ◌⊎◌, ℕ, ℤ, zero, suc, ◌+◌, ◌-◌, ◌*◌, ◌+ℤ◌, ◌-ℤ◌, ◌==◌, nat_lt, int_lt, max, Bool, not, ◌&&◌, ◌||◌, if◌then◌else◌, List, [], ◌∷◌, ◌++◌, map, filter, length, Option, Some, None, unsigned_abs}, List.range_with_len, Int.is_negative, Ordering.int_eq}
+use Rattle.stn_time.specs.Time.{horizon}
+use Rattle.stn_net.specs.{Difference.Difference, Schedule.HasSchedule}
+use Rattle.stn_lift.specs.PlanSource.{PlanSource, steps_of, events_of}
+use Rattle.stn_records.specs.Content.{Content}
+use Rattle.stn_site.specs.{Bounds.all_bounds, Report.{is_done, done_events}, Windows.{window_at, AreWindows}, declared.own.OwnedSteps.OwnedSteps}
+use Rattle.stn_drawing.specs.Axis.{gap_of, gaps_in}
+use Rattle.stn_chart.specs.declared.look.Look.{Look as LookOfCode}
+
+-- how a plan is drawn: the title, the present, if it is shown, whether there are arrows, and which steps a site owns
+pub record Look : Type 0 where
+  pub title : List ℕ
+  pub present : Option ℤ
+  pub arrows : Bool
+  pub owned : List OwnedSteps
+
+-- the look that the code has
+abbrev pub seen_look : LookOfCode → Look
+seen_look look = record { title = look.title.now; present = look.present; arrows = look.arrows; owned = look.owned.now }
+
+-- the event comes at the time or later
+abbrev pub floor : ℤ → ℕ → Difference
+floor now event = record { from = 0; to = event; lo = now; hi = horizon }
+
+-- each event that is left comes now or later
+abbrev pub floors_at : Content → ℕ → ℤ → List Difference
+floors_at state events now = map (floor now) (filter (λ event. not (is_done state event)) (range_with_len 1 events))
+
+-- the same, if the present is shown
+abbrev pub floors : Content → ℕ → Option ℤ → List Difference
+floors state events None = []
+floors state events (Some now) = floors_at state events now
+
+-- what is left comes too late: the first of so many events after the others that is left and whose latest time is past; 0, if there is none
+abbrev pub overdue_from : Content → List (ℤ × ℤ) → ℤ → ℕ → ℕ → ℕ
+overdue_from state windows now event zero = 0
+overdue_from state windows now event (suc more) =
+    if not (is_done state event) && int_lt (window_at windows event).1 now then event else overdue_from state windows now (event + 1) more
+
+abbrev pub overdue_event : Content → List (ℤ × ℤ) → ℕ → Option ℤ → ℕ
+overdue_event state windows events None = 0
+overdue_event state windows events (Some now) = overdue_from state windows now 1 events
+
+-- the windows that are drawn, and the overdue event, or 0: those of all bounds if each event that is left comes now or later, if they
+-- have a schedule; else those of all bounds
+abbrev pub AreDrawn : PlanSource → Content → Option ℤ → List (ℤ × ℤ) → ℕ → Type 0
+AreDrawn source state now windows overdue =
+    (AreWindows (all_bounds source state ++ floors state (events_of source) now) (events_of source) windows × (overdue ≡ 0))
+    ⊎ ((¬ HasSchedule (all_bounds source state ++ floors state (events_of source) now)) × AreWindows (all_bounds source state) (events_of source) windows
+    × (overdue ≡ overdue_event state windows (events_of source) now))
+
+-- the start and the end of a step
+abbrev pub start_of : ℕ → ℕ
+start_of step = 2 * step - 1
+
+abbrev pub end_of : ℕ → ℕ
+end_of step = 2 * step
+
+-- the soonest and the latest time of an event, in milliseconds
+abbrev pub soonest_in : List (ℤ × ℤ) → ℕ → ℕ
+soonest_in windows event = unsigned_abs (window_at windows event).0
+
+abbrev pub latest_in : List (ℤ × ℤ) → ℕ → ℕ
+latest_in windows event = unsigned_abs (window_at windows event).1
+
+-- the milliseconds of half a year
+abbrev pub half_year : ℕ
+half_year = 15768000000
+
+-- the event has no latest time: it may come later than at the soonest, and later than half a year, as the horizon is a year
+abbrev pub is_open_in : List (ℤ × ℤ) → ℕ → Bool
+is_open_in windows event = nat_lt (max half_year (soonest_in windows event)) (latest_in windows event)
+
+-- one step stands above another: its soonest start comes first, or at the same time, and its number is less
+abbrev pub is_above : List (ℤ × ℤ) → ℕ → ℕ → Bool
+is_above windows step other =
+    nat_lt (soonest_in windows (start_of other)) (soonest_in windows (start_of step))
+    || ((soonest_in windows (start_of other) == soonest_in windows (start_of step)) && nat_lt other step)
+
+-- the row of a step, of so many: how many stand above it
+abbrev pub row_in : List (ℤ × ℤ) → ℕ → ℕ → ℕ
+row_in windows steps step = length (filter (is_above windows step) (range_with_len 1 steps))
+
+-- the event comes at the soonest as long before the end of the bound as its upper side allows, or as soon after its beginning as its
+-- lower side asks
+abbrev pub holds_upper : List (ℤ × ℤ) → ℕ → Difference → Bool
+holds_upper windows event bound = int_eq ((window_at windows bound.to).0 -ℤ bound.hi) (window_at windows event).0
+
+abbrev pub holds_lower : List (ℤ × ℤ) → ℕ → Difference → Bool
+holds_lower windows event bound = int_eq ((window_at windows bound.from).0 +ℤ bound.lo) (window_at windows event).0
+
+-- the event of another step by whose time the bound holds the soonest start of a step; 0 for the origin, or if it doesn't hold it
+abbrev pub held_by : List (ℤ × ℤ) → ℕ → Difference → ℕ
+held_by windows step bound =
+    if (bound.from == start_of step) && (not (bound.to == end_of step) && holds_upper windows (start_of step) bound) then bound.to
+    else (if (bound.to == start_of step) && (not (bound.from == end_of step) && holds_lower windows (start_of step) bound) then bound.from else 0)
+
+-- that of the first of the bounds that has one
+abbrev pub holder_in : List (ℤ × ℤ) → ℕ → List Difference → ℕ
+holder_in windows step [] = 0
+holder_in windows step (bound ∷ bounds) = if held_by windows step bound == 0 then holder_in windows step bounds else held_by windows step bound
+
+-- the present in milliseconds
+abbrev pub moment_of : Option ℤ → ℕ
+moment_of None = 0
+moment_of (Some now) = if is_negative now then 0 else unsigned_abs now
+
+-- how far the axis has to reach for an event: to its latest time, or to its soonest if it has none
+abbrev pub reach : List (ℤ × ℤ) → ℕ → ℕ
+reach windows event = if is_open_in windows event then soonest_in windows event else latest_in windows event
+
+-- the later of a time and how far the axis has to reach for any of so many events after the others
+abbrev pub furthest : List (ℤ × ℤ) → ℕ → ℕ
+furthest windows zero = 0
+furthest windows (suc events) = max (furthest windows events) (reach windows (suc events))
+
+-- how far the axis reaches: past each of the times, and past the present
+abbrev pub axis_reach : List (ℤ × ℤ) → ℕ → Option ℤ → ℕ
+axis_reach windows events now = max (furthest windows events) (moment_of now) + 1
+
+-- what is drawn: how, the names of the steps, if they have any, how many these are, the windows of the origin and of all events, which of
+-- them are done, the row of each step and the event that holds each step's start, with 0 for the origin's, the overdue event, or 0, the
+-- gap of the axis and how many gaps it has
+pub record Chart : Type 0 where
+  pub look : Look
+  pub names : List (List ℕ)
+  pub steps : ℕ
+  pub windows : List (ℤ × ℤ)
+  pub done : List Bool
+  pub rows : List ℕ
+  pub holders : List ℕ
+  pub overdue : ℕ
+  pub gap : ℕ
+  pub ticks : ℕ
+
+-- the chart of a plan and a state with these windows
+abbrev pub chart_of : Look → List (List ℕ) → PlanSource → Content → List (ℤ × ℤ) → ℕ → Chart
+chart_of look names source state windows overdue = record {
+  look = look;
+  names = names;
+  steps = steps_of source;
+  windows = windows;
+  done = done_events source state;
+  rows = map (row_in windows (steps_of source)) (range_with_len 0 (steps_of source + 1));
+  holders = map (λ step. holder_in windows step (all_bounds source state)) (range_with_len 0 (steps_of source + 1));
+  overdue = overdue;
+  gap = gap_of 0 (axis_reach windows (events_of source) look.present);
+  ticks = gaps_in (gap_of 0 (axis_reach windows (events_of source) look.present)) (axis_reach windows (events_of source) look.present);
+}

@@ -1,0 +1,123 @@
+//! The legend of what occurs.
+ghost use Rattle.std.specs.Prelude.{◌≡◌, ◌+◌, ◌++◌, ◌≤◌, ◌<◌, ◌^◌, OnOk};
+ghost use Rattle.stn_chart.specs.Frame as frame;
+ghost use Rattle.stn_chart.specs.{Frame.{sample_text, meaning_text}, Seen.seen_chart};
+
+use crate::look::Chart;
+use crate::parts::Part;
+use crate::places::{LEGEND_APART, LEGEND_LEFT, row_top};
+use crate::rows::{append_bar, append_fading, append_mark};
+use std::alloc::Allocator;
+use std::io::Write;
+use stn_drawing::in_memory;
+use stn_time::Memory;
+
+const PARTS: [Part; 8] = [
+    Part::Soonest,
+    Part::Lasting,
+    Part::Latest,
+    Part::Fixed,
+    Part::Done,
+    Part::Running,
+    Part::Due,
+    Part::Open,
+];
+
+impl<'a, 'b, A: Allocator> Chart<'a, 'b, A> {
+    /// Appends an entry of the legend for each part that occurs.
+    pub fn append_legend(&self, out: &mut Vec<u8, A>) -> Result<(), Memory>
+        ensures { OnOk result (out.new.items ≡ out.old.items ++ frame.legend_text (seen_chart self.now)) }
+    {
+        let base = row_top(u64::from(self.steps)) + 44;
+        let mut left = LEGEND_LEFT;
+        for part in PARTS {
+            self.append_entry_at(out, base, left, part)?;
+            left = self.left_after(left, part);
+        }
+        Ok(())
+    }
+
+    // Appends the entry of a part, where it occurs.
+    fn append_entry_at(
+        &self,
+        out: &mut Vec<u8, A>,
+        base: u64,
+        left: u64,
+        part: Part,
+    ) -> Result<(), Memory>
+        requires left { left < 2 ^ 40 }
+        requires base { 12 ≤ base }
+        ensures { OnOk result (out.new.items ≡ out.old.items ++ frame.entry_at (seen_chart self.now) base left part) }
+    {
+        if self.count_of(part) == 0 {
+            return Ok(());
+        }
+        append_sample(out, part, left, base)?;
+        append_meaning(out, part, left + 24, base)
+    }
+
+    // Where the next entry begins.
+    fn left_after(&self, left: u64, part: Part) -> u64
+        requires { left < 2 ^ 40 }
+        ensures value { result ≡ frame.left_after (seen_chart self.now) left part }
+        ensures near { result ≤ left + 120 }
+    {
+        if self.count_of(part) > 0 {
+            left + LEGEND_APART
+        } else {
+            left
+        }
+    }
+}
+
+fn append_sample<A: Allocator>(
+    out: &mut Vec<u8, A>,
+    part: Part,
+    left: u64,
+    base: u64,
+) -> Result<(), Memory>
+    requires left { left < 2 ^ 40 }
+    requires base { 12 ≤ base }
+    ensures { OnOk result (out.new.items ≡ out.old.items ++ sample_text part left base) }
+{
+    match part {
+        Part::Soonest => append_bar(out, "a", left, base - 4, 18),
+        Part::Lasting => append_bar(out, "p", left, base - 4, 18),
+        Part::Latest => append_mark(out, "k", left + 9, base - 12),
+        Part::Fixed => append_bar(out, "f", left, base - 4, 18),
+        Part::Done => append_bar(out, "d", left, base - 4, 18),
+        Part::Running => append_bar(out, "r", left, base - 4, 18),
+        Part::Due => append_bar(out, "l", left, base - 4, 18),
+        Part::Open => append_fading(out, left, base - 7, 18),
+    }
+}
+
+fn append_meaning<A: Allocator>(
+    out: &mut Vec<u8, A>,
+    part: Part,
+    left: u64,
+    base: u64,
+) -> Result<(), Memory>
+    ensures { OnOk result (out.new.items ≡ out.old.items ++ frame.words_text part left base) }
+{
+    let meaning = meaning_of(part);
+    in_memory(write!(
+        out,
+        "<text class='s' x='{left}' y='{base}'>{meaning}</text>\n"
+    ))
+}
+
+fn meaning_of(part: Part) -> &'static str
+    ensures { result.now ≡ meaning_text part }
+{
+    match part {
+        Part::Soonest => "soonest",
+        Part::Lasting => "may last until",
+        Part::Latest => "latest start",
+        Part::Fixed => "cannot move",
+        Part::Done => "done",
+        Part::Running => "running",
+        Part::Due => "due soon",
+        Part::Open => "no latest time",
+    }
+}

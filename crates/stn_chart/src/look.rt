@@ -1,0 +1,44 @@
+ghost use Rattle.std.specs.Prelude.{◌≡◌, ◌*◌, ◌<◌, ◌≤◌, ◌^◌};
+
+use std::alloc::Allocator;
+use stn_site::OwnedSteps;
+use stn_time::Ms;
+
+/// How a plan is drawn.
+#[derive(Clone, Copy)]
+pub struct Look<'a> {
+    /// The title.
+    pub title: &'a [u8],
+    /// The present, if it is shown: what is left comes then or later.
+    pub present: Option<Ms>,
+    /// Whether arrows lead to the start of each step from the event that holds it.
+    pub arrows: bool,
+    /// Steps that sites own; of two lists that have a step, the first counts.
+    pub owned: &'a [OwnedSteps],
+}
+
+/// What is drawn of a plan.
+#[derive(Drop)]
+pub struct Chart<'a, 'b, A: Allocator> {
+    pub look: &'a Look<'a>,
+    /// The names of the steps, if they have any.
+    pub names: &'a [Vec<u8, A>],
+    pub steps: u16,
+    /// The windows of the origin and of all events.
+    pub windows: &'a [(Ms, Ms)],
+    /// Which of these are done.
+    pub done: &'b [bool],
+    /// The row of each step, from that of number 0 on, which there is not.
+    pub rows: &'b [u16],
+    /// The event that holds the start of each step; 0 for the origin, and where none does.
+    pub holders: &'b [u16],
+    /// The event that is overdue; 0 where none is.
+    pub overdue: u16,
+    /// The gap between two ticks, in milliseconds, and how many gaps the axis has.
+    pub gap: u64,
+    pub ticks: u64,
+    ghost some_gap: { 1 ≤ gap },
+    ghost some_ticks: { 1 ≤ ticks },
+    ghost small_gap: { gap < 2 ^ 36 },
+    ghost few_ticks: { ticks < 2 ^ 14 },
+}

@@ -1,0 +1,4 @@
+pub mod AxisGaps
+pub mod Escaping
+pub mod Grown
+pub mod Shown

@@ -1,0 +1,5 @@
+pub mod Axis
+pub mod Escape
+pub mod Seen
+pub mod Sheet
+pub mod Ticks

@@ -1,0 +1,18 @@
+//! What pictures as SVG are drawn with: texts that are escaped, times, an axis with its ticks, what each picture begins
+//! with. After an error of a call that appends, a part of what it appends may stand in the output.
+#![tactic(auto)]
+
+pub use axis::{Axis, gap_of, gaps_in};
+pub use escape::{append_cut, append_shown};
+pub use laws::texts_are_escaped;
+pub use memory::in_memory;
+pub use seconds::Seconds;
+pub use sheet::{append_heading, append_opening, append_paper};
+
+mod axis;
+mod escape;
+mod laws;
+mod memory;
+mod seconds;
+mod sheet;
+mod ticks;

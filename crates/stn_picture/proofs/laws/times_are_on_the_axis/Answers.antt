@@ -1,8 +1,0 @@
-use Rattle.stn_picture.proofs.AxisEnd.{soonest_on_axis, latest_on_axis}
-use Rattle.stn_picture.proofs.laws.times_are_on_the_axis.Goals as goal
-
-pub returns : goal.returns
-returns c = record {
-  soonest = soonest_on_axis;
-  latest = latest_on_axis;
-}

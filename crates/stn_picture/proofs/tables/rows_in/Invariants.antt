@@ -1,6 +1,0 @@
-use Rattle.std.{proofs.Common.{◌≡◌, map}, specs.List.range_with_len}
-use Rattle.stn_picture.specs.Chart.{row_in}
-use Rattle.stn_picture.proofs.tables.rows_in.Given as goal
-
-abbrev pub invariant-loop-step : goal.invariant-loop-step
-invariant-loop-step g l = l.rows.items ≡ map (row_in l.windows l.steps) (range_with_len 0 l.step)

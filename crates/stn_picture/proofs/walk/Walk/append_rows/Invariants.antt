@@ -1,6 +1,0 @@
-use Rattle.std.{proofs.Common.{◌≡◌, ◌++◌}, specs.List.{flat_map, range_with_len}}
-use Rattle.stn_picture.specs.{Walk.walk_row, WalkSeen.seen_walk}
-use Rattle.stn_picture.proofs.walk.Walk.append_rows.Given as goal
-
-abbrev pub invariant-loop-row : goal.invariant-loop-row
-invariant-loop-row g l = l.out.items ≡ l.initial.out.items ++ flat_map (walk_row (seen_walk l.self)) (range_with_len 0 l.row)

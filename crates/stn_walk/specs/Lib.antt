@@ -1,0 +1,4 @@
+pub mod Conflict
+pub mod Seen
+pub mod Style
+pub mod Walk

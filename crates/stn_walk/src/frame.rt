@@ -1,0 +1,207 @@
+//! What stands around the rows of a conflict.
+ghost use Rattle.std.specs.{Prelude.{◌≡◌, ◌+◌, ◌++◌, ◌<◌, ◌≤◌, ◌^◌, length, unsigned_abs, OnOk, neg_ℤ}, List.{flat_map, range_with_len}};
+ghost use Rattle.stn_time.specs.Text.{printed};
+ghost use Rattle.stn_net.specs.Event.{event_text};
+ghost use Rattle.stn_walk.specs.Walk as is;
+ghost use Rattle.stn_drawing.specs.Seen.{seen_axis};
+ghost use Rattle.stn_walk.specs.{Walk.back_text, Seen.seen_walk};
+
+use crate::parts::{AXIS_LEFT, AXIS_WIDTH, top_of};
+use crate::style::WALK;
+use crate::walk::Walk;
+use std::alloc::Allocator;
+use std::io::Write;
+use stn_drawing::{Axis, append_heading, append_opening, append_paper, in_memory};
+use stn_text::print_event;
+use stn_time::{Memory, print_millis};
+
+// After an error, a part of a text may stand in the output.
+
+impl<'a, 'b, A: Allocator> Walk<'a, 'b, A> {
+    /// Appends the picture of a conflict.
+    pub fn append(&self, out: &mut Vec<u8, A>) -> Result<(), Memory>
+        requires { 1 ≤ length self.now.links.now }
+        ensures { OnOk result (out.new.items ≡ out.old.items ++ is.walk_text (seen_walk self.now)) }
+    {
+        self.append_head(out)?;
+        self.axis().append(out)?;
+        self.append_drops(out)?;
+        self.append_rows(out)?;
+        self.append_last_row(out)?;
+        self.append_foot(out)?;
+        out.extend_from_slice(b"</svg>\n")
+    }
+
+    // Its axis.
+    fn axis(&self) -> Axis
+        ensures { seen_axis result ≡ is.walk_axis (seen_walk self.now) }
+    {
+        Axis {
+            left: AXIS_LEFT,
+            width: AXIS_WIDTH,
+            long: self.length_of_axis(),
+            gap: self.gap,
+            before: self.before,
+            ticks: self.before + self.after + 1,
+            bottom: top_of(self.links.len() + 1),
+        }
+    }
+
+    // Appends the last row: the first event again, before itself.
+    fn append_last_row(&self, out: &mut Vec<u8, A>) -> Result<(), Memory>
+        requires { 1 ≤ length self.now.links.now }
+        ensures { OnOk result (out.new.items ≡ out.old.items ++ is.last_row (seen_walk self.now)) }
+    {
+        let sum = self.sum_at(self.links.len());
+        let (left, right) = (self.place_of(sum), self.place_of(0));
+        append_back(
+            out,
+            self.begins_at(0),
+            sum,
+            left,
+            right,
+            top_of(self.links.len()),
+        )
+    }
+
+    // Appends what the rows show.
+    fn append_foot(&self, out: &mut Vec<u8, A>) -> Result<(), Memory>
+        requires { 1 ≤ length self.now.links.now }
+        ensures { OnOk result (out.new.items ≡ out.old.items ++ is.walk_foot (seen_walk self.now)) }
+    {
+        let base = top_of(self.links.len() + 1) + 24;
+        in_memory(write!(
+            out,
+            "<text class='s' x='8' y='{base}'>From row to row: the latest time of the next event, where "
+        ))?;
+        print_event(self.begins_at(0), out)?;
+        out.extend_from_slice(b" is at 0.</text>\n")
+    }
+
+    // Appends the lines from each row down to the next one.
+    fn append_drops(&self, out: &mut Vec<u8, A>) -> Result<(), Memory>
+        ensures { OnOk result (out.new.items ≡ out.old.items ++ is.walk_drops (seen_walk self.now)) }
+    {
+        out.extend_from_slice(b"<path class='o' d='")?;
+        self.append_each_drop(out)?;
+        out.extend_from_slice(b"'/>\n")
+    }
+
+    fn append_each_drop(&self, out: &mut Vec<u8, A>) -> Result<(), Memory>
+        ensures { OnOk result (out.new.items ≡ out.old.items ++ flat_map (is.row_drop (seen_walk self.now)) (range_with_len 0 (length self.now.links.now))) }
+    {
+        for row in 0..self.links.len() {
+            self.append_drop(out, row)?;
+        }
+        Ok(())
+    }
+
+    // Appends the rows of the links.
+    fn append_rows(&self, out: &mut Vec<u8, A>) -> Result<(), Memory>
+        ensures { OnOk result (out.new.items ≡ out.old.items ++ flat_map (is.walk_row (seen_walk self.now)) (range_with_len 0 (length self.now.links.now))) }
+    {
+        for row in 0..self.links.len() {
+            self.append_row(out, row)?;
+        }
+        Ok(())
+    }
+
+    // Appends the head.
+    fn append_head(&self, out: &mut Vec<u8, A>) -> Result<(), Memory>
+        ensures { OnOk result (out.new.items ≡ out.old.items ++ is.walk_head (seen_walk self.now)) }
+    {
+        let end = top_of(self.links.len() + 1);
+        let height = end + 36;
+        append_opening(out, self.title, height)?;
+        out.extend_from_slice(WALK)?;
+        append_paper(out, height, top_of(1), end)?;
+        append_heading(out, self.title)?;
+        self.append_summary(out)
+    }
+
+    // Appends how many bounds contradict each other, and by how much.
+    fn append_summary(&self, out: &mut Vec<u8, A>) -> Result<(), Memory>
+        ensures { OnOk result (out.new.items ≡ out.old.items ++ is.walk_summary (seen_walk self.now)) }
+    {
+        let count = self.links.len();
+        in_memory(write!(
+            out,
+            "<text class='s e' x='992' y='20'>{count} bounds contradict each other by "
+        ))?;
+        append_negated(out, self.sum_at(count))?;
+        out.extend_from_slice(b" s</text>\n")
+    }
+}
+
+// Appends a sum with the other sign.
+fn append_negated<A: Allocator>(out: &mut Vec<u8, A>, sum: i64) -> Result<(), Memory>
+    requires { unsigned_abs sum < 2 ^ 45 }
+    ensures { OnOk result (out.new.items ≡ out.old.items ++ printed (neg_ℤ sum)) }
+{
+    print_millis(-sum, out)?;
+    Ok(())
+}
+
+fn append_back<A: Allocator>(
+    out: &mut Vec<u8, A>,
+    event: u16,
+    sum: i64,
+    left: u64,
+    right: u64,
+    top: u64,
+) -> Result<(), Memory>
+    requires sum { unsigned_abs sum < 2 ^ 45 }
+    requires left { 8 ≤ left }
+    requires top { top < 2 ^ 50 }
+    ensures { OnOk result (out.new.items ≡ out.old.items ++ back_text (event_text event) sum left right top) }
+{
+    append_before_itself(out, event, sum, top + 15)?;
+    append_span(out, left, right, top)?;
+    append_again(out, event, left - 8, top + 21)
+}
+
+fn append_before_itself<A: Allocator>(
+    out: &mut Vec<u8, A>,
+    event: u16,
+    sum: i64,
+    base: u64,
+) -> Result<(), Memory>
+    requires { unsigned_abs sum < 2 ^ 45 }
+    ensures { OnOk result (out.new.items ≡ out.old.items ++ is.before_itself (event_text event) sum base) }
+{
+    in_memory(write!(out, "<text class='h w' x='8' y='{base}'>"))?;
+    print_event(event, out)?;
+    out.extend_from_slice(b" would be ")?;
+    append_negated(out, sum)?;
+    out.extend_from_slice(b" before itself</text>")
+}
+
+fn append_span<A: Allocator>(
+    out: &mut Vec<u8, A>,
+    left: u64,
+    right: u64,
+    top: u64,
+) -> Result<(), Memory>
+    requires { top < 2 ^ 50 }
+    ensures { OnOk result (out.new.items ≡ out.old.items ++ is.span_text left right top) }
+{
+    let ends = top + 10;
+    let middle = top + 17;
+    in_memory(write!(
+        out,
+        "<path class='c' d='M{left} {ends}v14M{right} {ends}v14M{left} {middle}H{right}'/>"
+    ))
+}
+
+fn append_again<A: Allocator>(
+    out: &mut Vec<u8, A>,
+    event: u16,
+    left: u64,
+    base: u64,
+) -> Result<(), Memory>
+    ensures { OnOk result (out.new.items ≡ out.old.items ++ is.again_text (event_text event) left base) }
+{
+    in_memory(write!(out, "<text class='e' x='{left}' y='{base}'>"))?;
+    print_event(event, out)?;
+    out.extend_from_slice(b"</text>\n")
+}

@@ -1,0 +1,292 @@
+//! The rows of the links.
+ghost use Rattle.std.specs.{Prelude.{◌≡◌, ◌+◌, ◌++◌, ◌<◌, ◌≤◌, ◌^◌, length, OnOk}, List.flat_map};
+ghost use Rattle.stn_site.specs.Lines as site_lines;
+ghost use Rattle.stn_walk.specs.Walk as is;
+ghost use Rattle.stn_walk.specs.{Walk.{mends_text, leaves_text}, Seen.seen_walk};
+
+use crate::parts::{is_duration, top_of};
+use crate::walk::Walk;
+use std::alloc::Allocator;
+use std::io::Write;
+use stn_conflict::Side;
+use stn_drawing::{append_cut, in_memory};
+use stn_lift::step_of;
+use stn_net::{Bound, Event};
+use stn_records::Id;
+use stn_repairs::Repair;
+use stn_site::BoundName;
+use stn_text::print_event;
+use stn_time::Memory;
+
+// In the title of a row, a name has at most so many characters.
+const MOST_WHOLE: usize = 200;
+
+// Beside an arrow, a name has at most so many.
+const MOST_SHORT: usize = 24;
+
+// From so many pixels on, an arrow is longer than its tip.
+const TIP: u64 = 9;
+
+// After an error, a part of a text may stand in the output.
+
+impl<'a, 'b, A: Allocator> Walk<'a, 'b, A> {
+    /// Appends the row of a link.
+    pub fn append_row(&self, out: &mut Vec<u8, A>, row: usize) -> Result<(), Memory>
+        requires { row < length self.now.links.now }
+        ensures { OnOk result (out.new.items ≡ out.old.items ++ is.walk_row (seen_walk self.now) row) }
+    {
+        out.extend_from_slice(b"<g>")?;
+        self.append_title(out, row)?;
+        self.append_words(out, row)?;
+        self.append_mending(out, row)?;
+        self.append_label(out, row)?;
+        self.append_arrow(out, row)?;
+        out.extend_from_slice(b"</g>\n")
+    }
+
+    // Where a row begins.
+    fn left_of(&self, row: usize) -> u64
+        ensures value { result ≡ is.left_of (seen_walk self.now) row }
+        ensures small { result < 2 ^ 63 }
+        ensures right { 500 ≤ result }
+    {
+        self.place_of(self.sum_at(row))
+    }
+
+    // Appends what the record of a row leaves, where it alone mends the conflict.
+    fn append_mending(&self, out: &mut Vec<u8, A>, row: usize) -> Result<(), Memory>
+        requires { row < length self.now.links.now }
+        ensures { OnOk result (out.new.items ≡ out.old.items ++ is.row_mending (seen_walk self.now) row) }
+    {
+        match self.name_of(row) {
+            BoundName::Plan(_) => Ok(()),
+            BoundName::Record(id) => append_each_mending(
+                out,
+                row,
+                self.row_link(row).side,
+                self.repairs,
+                id,
+            ),
+        }
+    }
+
+    // Appends the event at which the link of a row begins, on the side that the link leaves.
+    fn append_label(&self, out: &mut Vec<u8, A>, row: usize) -> Result<(), Memory>
+        requires { row < length self.now.links.now }
+        ensures { OnOk result (out.new.items ≡ out.old.items ++ is.row_label (seen_walk self.now) row) }
+    {
+        let (left, right) = (self.left_of(row), self.left_of(row + 1));
+        append_label_opening(out, left, right, top_of(row) + 21)?;
+        print_event(self.begins_at(row), out)?;
+        out.extend_from_slice(b"</text>")
+    }
+
+    // Appends an arrow, or a dot where it is shorter than its tip.
+    fn append_arrow(&self, out: &mut Vec<u8, A>, row: usize) -> Result<(), Memory>
+        requires { row < length self.now.links.now }
+        ensures { OnOk result (out.new.items ≡ out.old.items ++ is.row_arrow (seen_walk self.now) row) }
+    {
+        let (left, right) = (self.left_of(row), self.left_of(row + 1));
+        let middle = top_of(row) + 17;
+        if left.abs_diff(right) < TIP {
+            in_memory(write!(out, "<circle class='x' cx='{left}' cy='{middle}' r='3'/>"))
+        } else {
+            in_memory(write!(out, "<path d='M{left} {middle}H{right}'/>"))
+        }
+    }
+
+    /// Appends the line from a row down to the next one.
+    pub fn append_drop(&self, out: &mut Vec<u8, A>, row: usize) -> Result<(), Memory>
+        requires { row < length self.now.links.now }
+        ensures { OnOk result (out.new.items ≡ out.old.items ++ is.row_drop (seen_walk self.now) row) }
+    {
+        let (right, top) = (self.left_of(row + 1), top_of(row) + 21);
+        in_memory(write!(out, "M{right} {top}v26"))
+    }
+
+    // Appends what a browser shows under the mouse.
+    fn append_title(&self, out: &mut Vec<u8, A>, row: usize) -> Result<(), Memory>
+        requires { row < length self.now.links.now }
+        ensures { OnOk result (out.new.items ≡ out.old.items ++ is.walk_title (seen_walk self.now) row) }
+    {
+        if self.names.is_empty() {
+            return Ok(());
+        }
+        let bound = self.bound_of(row);
+        out.extend_from_slice(b"<title>")?;
+        self.append_event_words(out, bound.from())?;
+        self.append_event_words(out, bound.to())?;
+        out.extend_from_slice(b"</title>")
+    }
+
+    // Appends the name of a link.
+    fn append_link_name(&self, out: &mut Vec<u8, A>, row: usize) -> Result<(), Memory>
+        requires { row < length self.now.links.now }
+        ensures { OnOk result (out.new.items ≡ out.old.items ++ is.link_name (seen_walk self.now) row) }
+    {
+        self.name_of(row).print(out)?;
+        out.extend_from_slice(b" ")?;
+        out.extend_from_slice(side_text(self.row_link(row).side))
+    }
+
+    // Appends in words what a link asks.
+    fn append_asked(&self, out: &mut Vec<u8, A>, side: Side, bound: Bound) -> Result<(), Memory>
+        ensures { OnOk result (out.new.items ≡ out.old.items ++ is.asked_text (seen_walk self.now) side bound) }
+    {
+        if is_duration(bound) {
+            self.append_step_words(out, MOST_SHORT, step_of(bound.to()))?;
+            append_limit(out, side, bound)
+        } else {
+            bound.to().print(out)?;
+            append_limit(out, side, bound)?;
+            out.extend_from_slice(b" after ")?;
+            bound.from().print(out)
+        }
+    }
+
+    // Appends a step by its number, and by its name if it has one.
+    fn append_step_words(&self, out: &mut Vec<u8, A>, most: usize, step: u16) -> Result<(), Memory>
+        ensures { OnOk result (out.new.items ≡ out.old.items ++ is.step_words (seen_walk self.now) most step) }
+    {
+        match self.names.get(usize::from(step).saturating_sub(1)) {
+            Some(name) => {
+                in_memory(write!(out, "{step} "))?;
+                append_cut(out, most, name)
+            }
+            None => in_memory(write!(out, "step {step}")),
+        }
+    }
+
+    // Appends which step an event starts or ends.
+    fn append_event_words(&self, out: &mut Vec<u8, A>, event: Event) -> Result<(), Memory>
+        ensures { OnOk result (out.new.items ≡ out.old.items ++ is.event_words (seen_walk self.now) event) }
+    {
+        if event.number() == 0 {
+            return Ok(());
+        }
+        event.print(out)?;
+        out.extend_from_slice(b": ")?;
+        self.append_step_words(out, MOST_WHOLE, step_of(event))?;
+        out.extend_from_slice(b"\n")
+    }
+
+    // Appends the name of a link, and what it asks.
+    fn append_words(&self, out: &mut Vec<u8, A>, row: usize) -> Result<(), Memory>
+        requires { row < length self.now.links.now }
+        ensures { OnOk result (out.new.items ≡ out.old.items ++ is.walk_words (seen_walk self.now) row) }
+    {
+        append_name_opening(out, top_of(row) + 15)?;
+        self.append_link_name(out, row)?;
+        append_words_opening(out, top_of(row) + 15)?;
+        self.append_asked(out, self.row_link(row).side, self.bound_of(row))?;
+        out.extend_from_slice(b"</text>\n")
+    }
+}
+
+fn append_name_opening<A: Allocator>(out: &mut Vec<u8, A>, base: u64) -> Result<(), Memory>
+    ensures { OnOk result (out.new.items ≡ out.old.items ++ is.name_opening base) }
+{
+    in_memory(write!(out, "<text class='h' x='8' y='{base}'>"))
+}
+
+fn append_words_opening<A: Allocator>(out: &mut Vec<u8, A>, base: u64) -> Result<(), Memory>
+    ensures { OnOk result (out.new.items ≡ out.old.items ++ is.words_opening base) }
+{
+    in_memory(write!(out, "</text><text class='n' x='124' y='{base}'>"))
+}
+
+fn side_text(side: Side) -> &'static [u8]
+    ensures { result.now ≡ site_lines.side_text side }
+{
+    match side {
+        Side::Upper => b"upper",
+        Side::Lower => b"lower",
+    }
+}
+
+// Appends the limit that a side asks for.
+fn append_limit<A: Allocator>(out: &mut Vec<u8, A>, side: Side, bound: Bound) -> Result<(), Memory>
+    ensures { OnOk result (out.new.items ≡ out.old.items ++ is.limit_words side bound) }
+{
+    match side {
+        Side::Upper => {
+            out.extend_from_slice(b" at most ")?;
+            bound.hi().print(out)
+        }
+        Side::Lower => {
+            out.extend_from_slice(b" at least ")?;
+            bound.lo().print(out)
+        }
+    }
+}
+
+// Appends the range of each repair by the record.
+fn append_each_mending<A: Allocator>(
+    out: &mut Vec<u8, A>,
+    row: usize,
+    side: Side,
+    repairs: &[Repair],
+    id: Id,
+) -> Result<(), Memory>
+    requires { row < 2 ^ 40 }
+    ensures { OnOk result (out.new.items ≡ out.old.items ++ flat_map (mends_text row side id) repairs.now) }
+{
+    for repair in repairs {
+        append_mends(out, row, side, id, *repair)?;
+    }
+    Ok(())
+}
+
+fn append_mends<A: Allocator>(
+    out: &mut Vec<u8, A>,
+    row: usize,
+    side: Side,
+    id: Id,
+    repair: Repair,
+) -> Result<(), Memory>
+    requires { row < 2 ^ 40 }
+    ensures { OnOk result (out.new.items ≡ out.old.items ++ mends_text row side id repair) }
+{
+    if repair.id != id {
+        return Ok(());
+    }
+    let base = top_of(row) + 29;
+    in_memory(write!(out, "<text class='j' x='124' y='{base}'>alone mends it: "))?;
+    append_left(out, side, repair)?;
+    out.extend_from_slice(b"</text>\n")
+}
+
+// Appends what the others leave.
+fn append_left<A: Allocator>(out: &mut Vec<u8, A>, side: Side, repair: Repair) -> Result<(), Memory>
+    ensures { OnOk result (out.new.items ≡ out.old.items ++ leaves_text side repair) }
+{
+    match side {
+        Side::Upper => {
+            repair.least.print(out)?;
+            out.extend_from_slice(b" or more")
+        }
+        Side::Lower => {
+            repair.greatest.print(out)?;
+            out.extend_from_slice(b" or less")
+        }
+    }
+}
+
+fn append_label_opening<A: Allocator>(
+    out: &mut Vec<u8, A>,
+    left: u64,
+    right: u64,
+    base: u64,
+) -> Result<(), Memory>
+    requires left { left < 2 ^ 63 }
+    requires least { 8 ≤ left }
+    ensures { OnOk result (out.new.items ≡ out.old.items ++ is.label_opening left right base) }
+{
+    if right < left {
+        let place = left + 8;
+        in_memory(write!(out, "<text x='{place}' y='{base}'>"))
+    } else {
+        let place = left - 8;
+        in_memory(write!(out, "<text class='e' x='{place}' y='{base}'>"))
+    }
+}
