@@ -4,11 +4,10 @@ use Rattle.stn_refusal.specs.{declared.failure.Failure.Failure, Refusals.out_of_
 use Rattle.stn_net.specs.{Failures.bound_failure, declared.{bound.BoundFault.TheVariants.NoEvent, windows.answers.RehearseFault.RehearseFault}, Windows.Failures.rehearse_failure}
 use Rattle.stn_net.specs.declared.windows.answers.RehearseFault.TheVariants as rehearse_fault
 use Rattle.stn_lift.specs.PlanSource.{PlanSource, steps_of}
-use Rattle.stn_guard.specs.Adding.{are_within}
 use Rattle.stn_records.specs.Content.{Content}
-use Rattle.stn_site.specs.Held.{Held}
+use Rattle.stn_site.specs.{Held.Held, Own.are_within}
 use Rattle.stn_command.specs.{Dispatch.IsOverdueAt, Query.{Query, report, check, foresee, ask, repairs, draw, IsSaidIn, IsSaid, IsRehearseRefusal, IsRefusedIn, IsQueryRefusal, LacksMemory, Says}}
-use Rattle.stn_command.specs.declared.queries.Outlook.TheVariants as outlook
+use Rattle.stn_questions.specs.declared.words.Outlook.TheVariants as outlook
 
 module _ (one other : Held) (plan : one.source ≡ other.source) (state : one.state ≡ other.state) where
   along : (Holds : PlanSource → Content → Type 0) → Holds one.source one.state → Holds other.source other.state

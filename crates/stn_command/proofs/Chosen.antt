@@ -1,9 +1,9 @@
 -- Where all steps are chosen, the events that don't count as left, by the steps of a plan and without them.
-use Rattle.std.{proofs.{Common.{◌≡◌, ℕ, ◌+◌, ◌*◌, ◌≤◌, false, ◌||◌, ◌&&◌, not, leb, List, [], ◌∷◌, Bor, Option, Some, None, unwrap_or, option_map, ap, ◌∙◌, arith, rules}, lemmas.List.FromFn.{fill_by_all, get_or-map-range_with_len, length-map-range_with_len}}, specs.List.list_any}
-use Rattle.stn_site.{proofs.AllOwn.has_all, specs.{declared.own.{StepRange.StepRange, Own.Own}, Own.{has, is_end, is_own, done_or_others}, Report.{is_done, done_events}}}
+use Rattle.std.{proofs.{Common.{◌≡◌, ℕ, ◌+◌, ◌*◌, ◌≤◌, false, ◌||◌, ◌&&◌, not, leb, List, [], ◌∷◌, Bor, Option, Some, None, unwrap_or, option_map, ap, ◌∙◌, arith}, lemmas.List.FromFn.{fill_by_all, get_or-map-range_with_len, length-map-range_with_len}}, specs.List.list_any}
+use Rattle.stn_site.{proofs.AllOwn.has_all, specs.{declared.own.{StepRange.StepRange, Own.Own}, Own.{has, is_end, is_own, done_or_others}, Report.is_done}}
 use Rattle.stn_lift.specs.{BaseBounds.step_of, PlanSource.{PlanSource, steps_of, events_of}}
 use Rattle.stn_records.specs.Content.{Content}
-use Rattle.stn_command.specs.{declared.queries.Choice.Choice as ChoiceOfCode, Dispatch.{every_event, is_chosen, done_or_not_chosen}, Query.seen_choice}
+use Rattle.stn_command.specs.{declared.queries.Choice.Choice as ChoiceOfCode, Dispatch.{is_chosen, done_or_not_chosen}, Query.seen_choice}
 
 chosen_all : (own : Own) (range : StepRange) (steps event : ℕ) → own.steps.now ≡ range ∷ [] → range.first ≡ 0 → range.last ≡ steps → event ≤ 2 * steps
     → is_own own event ≡ is_chosen (record { steps = None; starts = own.starts }) event
@@ -32,7 +32,3 @@ chosen_own choice steps all range source state is list first last = by choice.st
         ≡ done_or_not_chosen (record { steps = option_map (λ ranges. ranges.now) found; starts = choice.starts }) source state
     by None e = all_chosen (record { steps = steps; starts = choice.starts }) range source state (ap (λ (one : Bor (List StepRange)). one.now) e ∙ list) first last
     by (Some ranges) e = ap (λ (one : Bor (List StepRange)). done_or_others (record { steps = one; starts = choice.starts }) source state) e
-
--- where every event is chosen, those count as left that are not done
-pub every_chosen : (source : PlanSource) (state : Content) → done_or_not_chosen every_event source state ≡ done_events source state
-every_chosen source state = search rules

@@ -1,24 +1,10 @@
--- What comes next has one text, and a rehearsal has one, or one cause that refuses it.
-use Rattle.std.{proofs.Common.{◌≡◌, inl, inr, ℕ, ◌≤◌, ℤ, Bool, List, ◌++◌, append_assoc, length, take, take_all, Result, Ok, Err, OnOk, sym, ap, ◌∙◌}, specs.{Prelude.{if◌then◌else◌, is_ok, codes}, List.flat_map}}
-use Rattle.stn_net.{specs.declared.windows.answers.Next.{Next, TheVariants.{Run, AllDone, Overdue}}, proofs.OneAnswer.{one_next, one_rehearsal}}
+-- The text of a rehearsal, and the one event for which it is refused.
+use Rattle.std.{proofs.Common.{◌≡◌, ℕ, ◌≤◌, ℤ, Bool, List, ◌++◌, append_assoc, length, take, take_all, Result, Ok, Err, OnOk, ap, ◌∙◌}, specs.{Prelude.{if◌then◌else◌, is_ok, codes}, List.flat_map}}
+use Rattle.stn_net.{specs.declared.windows.answers.Next.{Next, TheVariants.{Run, AllDone, Overdue}}, proofs.OneAnswer.one_next}
 use Rattle.stn_lift.specs.PlanSource.{PlanSource}
 use Rattle.stn_records.specs.Content.{Content}
 use Rattle.stn_site.specs.{Bounds.all_bounds, Lines.line}
-use Rattle.stn_command.specs.Dispatch.{next_text, IsNextText, run_line, runs_text, IsRestText, IsOverdueAt}
-
-pub one_next_text : (source : PlanSource) (state : Content) (done : List Bool) (now : ℤ) (text other : List ℕ) → IsNextText source state done now text → IsNextText source state done now other → text ≡ other
-one_next_text source state done now text other (inl p) (inl q) =
-    p.said ∙ ap next_text (one_next (all_bounds source state) done now p.answer q.answer p.next q.next) ∙ sym q.said
-one_next_text source state done now text other (inl p) (inr q) = absurd (q.conflict p.possible)
-one_next_text source state done now text other (inr p) (inl q) = absurd (p.conflict q.possible)
-one_next_text source state done now text other (inr p) (inr q) = p.said ∙ sym q.said
-
-pub one_rest_text : (source : PlanSource) (state : Content) (done : List Bool) (now : ℤ) (text other : List ℕ) → IsRestText source state done now text → IsRestText source state done now other → text ≡ other
-one_rest_text source state done now text other (inl p) (inl q) =
-    p.lines ∙ ap runs_text (one_rehearsal p.runs q.runs (all_bounds source state) done now p.rest.rehearsal q.rest.rehearsal) ∙ sym q.lines
-one_rest_text source state done now text other (inl p) (inr q) = absurd (q.conflict (p.rest.times, p.rest.schedule))
-one_rest_text source state done now text other (inr p) (inl q) = absurd (p.conflict (q.rest.times, q.rest.schedule))
-one_rest_text source state done now text other (inr p) (inr q) = p.said ∙ sym q.said
+use Rattle.stn_command.specs.Dispatch.{run_line, runs_text, IsOverdueAt}
 
 -- the lines of all runs, and the last line
 pub runs_ended : {T E : Type 0} (result : Result T E) (runs : List (ℤ × ℕ)) (place : ℕ) (old lines new : List ℕ) → length runs ≤ place

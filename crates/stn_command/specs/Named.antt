@@ -4,7 +4,8 @@ use Rattle.stn_refusal.specs.{declared.failure.Failure.Failure, Refusals.out_of_
 use Rattle.stn_lift.specs.{Plan.{Steps.{PlannedStep, plan_of}, Failures.plan_failure}, declared.plan.fault.PlanFault.PlanFault, PlanSource.steps_of}
 use Rattle.stn_site.specs.Held.{Held}
 use Rattle.stn_questions.specs.{declared.asked.Question.TheVariants.Steps, Steps.{planned_steps, step_name, name_lines}}
-use Rattle.stn_picture.specs.{Chart.Look, Picture.IsPicture}
+use Rattle.stn_chart.specs.Chart.{Look}
+use Rattle.stn_picture.specs.Picture.{IsPicture}
 use Rattle.stn_command.specs.{NamedLines.with_names, Query.{Query, ask, draw, IsSaid, IsQueryRefusal}, Words.no_such_word}
 
 -- the answer without names, and at the end of its lines those of such steps

@@ -5,15 +5,15 @@ use Rattle.stn_refusal.specs.{declared.failure.Failure.Failure, Refusals.{refuse
 use Rattle.stn_net.specs.{Failures.bound_failure, Schedule.times_of, declared.bound.BoundFault.TheVariants.{NoEvent, SameEvent}}
 use Rattle.stn_lift.specs.PlanSource.{PlanSource, events_of, steps_of}
 use Rattle.stn_records.specs.Content.{Content}
-use Rattle.stn_site.specs.{Bounds.all_bounds, Held.Held, Names.broken_bound, Report.IsReport, Own.is_within}
-use Rattle.stn_guard.specs.Adding.{are_within}
-use Rattle.stn_questions.specs.{declared.asked.Question.{Question, TheVariants.{Records, Steps, Bounds}}, Answer.{IsAnswer, AsksOfNoEvent, AsksOfSameEvent}, Ready.IsReadyWith, Steps.source_names}
+use Rattle.stn_site.specs.{Bounds.all_bounds, Held.Held, Names.broken_bound, Report.IsReport, Own.{is_within, are_within}}
+use Rattle.stn_questions.specs.{declared.{asked.Question.Question, words.{LoneQuery.LoneQuery, Outlook.Outlook}}, Answer.{IsAnswer, AsksOfNoEvent, AsksOfSameEvent}, Ready.IsReadyWith, Steps.source_names}
 use Rattle.stn_repairs.specs.Text.{IsRepairsText}
-use Rattle.stn_picture.specs.{Chart.{Look, seen_look}, Picture.IsPicture}
-use Rattle.stn_command.specs.{declared.queries.{Query.Query as QueryOfCode, LoneQuery.LoneQuery, Choice.Choice as ChoiceOfCode, Outlook.Outlook}, Words.no_such_word, Dispatch.{Choice, done_or_not_chosen, check_text, IsNextText, IsRestText, IsOverdueAt, IsRefusedRehearsal}}
+use Rattle.stn_chart.specs.Chart.{Look, seen_look}
+use Rattle.stn_picture.specs.Picture.{IsPicture}
+use Rattle.stn_command.specs.{declared.queries.{Query.Query as QueryOfCode, Choice.Choice as ChoiceOfCode}, Words.no_such_word, Dispatch.{Choice, done_or_not_chosen, check_text, IsNextText, IsRestText, IsOverdueAt, IsRefusedRehearsal}}
 use Rattle.stn_command.specs.declared.queries.Query.TheVariants as asked
-use Rattle.stn_command.specs.declared.queries.LoneQuery.TheVariants as lone
-use Rattle.stn_command.specs.declared.queries.Outlook.TheVariants as outlook
+use Rattle.stn_questions.specs.declared.words.LoneQuery.TheVariants as lone
+use Rattle.stn_questions.specs.declared.words.Outlook.TheVariants as outlook
 
 -- the report; whether times for the events from 1 on are a schedule; of the chosen events, what comes next from a time on, which may run,
 -- or how the rest runs; another question; what mends a conflict; the picture, drawn so
@@ -42,22 +42,6 @@ abbrev pub seen_lone : LoneQuery → Query
 seen_lone lone.Report = report
 seen_lone (lone.Ask question) = ask question
 seen_lone lone.Repairs = repairs
-
--- what a word asks of the events that are left, from a time on
-abbrev pub outlook_of : List ℕ → Option Outlook
-outlook_of word =
-    if bytes_eq word (codes "next") then Some outlook.Next else
-    (if bytes_eq word (codes "ready") then Some outlook.Ready else
-    (if bytes_eq word (codes "rehearse") then Some outlook.Rehearse else None))
-
--- the query that a word asks alone
-abbrev pub lone_query : List ℕ → Option Query
-lone_query word =
-    if bytes_eq word (codes "report") then Some report else
-    (if bytes_eq word (codes "repairs") then Some repairs else
-    (if bytes_eq word (codes "records") then Some (ask Records) else
-    (if bytes_eq word (codes "steps") then Some (ask Steps) else
-    (if bytes_eq word (codes "bounds") then Some (ask Bounds) else None))))
 
 -- what is said of the events that are left from now on, where these events count as done
 abbrev pub IsForeseen : Outlook → PlanSource → Content → List Bool → ℤ → List ℕ → Type 0

@@ -3,8 +3,7 @@ use Rattle.std.specs.{Prelude.{ℕ, ◌==◌, Bool, ◌&&◌, nat_le, nat_lt, if
 use Rattle.stn_text.specs.Numbers.{number_of}
 use Rattle.stn_records.specs.Id.{most_sites}
 use Rattle.stn_refusal.specs.declared.failure.Failure.{Failure}
-use Rattle.stn_site.specs.declared.own.StepRange.{StepRange}
-use Rattle.stn_guard.specs.declared.owners.OwnedSteps.{OwnedSteps}
+use Rattle.stn_site.specs.declared.own.{StepRange.StepRange, OwnedSteps.OwnedSteps}
 use Rattle.stn_command.specs.Words.{and_then, each_read, named, no_such_word}
 
 -- the number of one to five digits that a word is

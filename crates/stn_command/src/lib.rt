@@ -4,16 +4,14 @@
 
 pub use changes::Made;
 pub use guarding::print_guard;
-pub use laws::{chosen_all, every_query_has_an_answer, one_said, same_foreseen};
 pub use names::say_named;
-pub use queries::{Choice, LoneQuery, Outlook, Query, append_said, lone_query, read_outlook, say};
+pub use queries::{Choice, Query, append_said, say};
 pub use steps::{read_owned, read_steps};
 pub use words::{no_such_word, read_between, read_event, read_id, read_time};
 
 mod changes;
 mod dispatch;
 mod guarding;
-mod laws;
 mod named_lines;
 mod names;
 mod queries;

@@ -4,20 +4,21 @@ ghost use Rattle.std.specs.Prelude.{◌≡◌, ◌⊎◌, None, Some, Ok, MatchR
 ghost use Rattle.stn_refusal.specs.Refusals.{out_of_memory};
 ghost use Rattle.stn_lift.specs.Plan.Steps.{plan_of};
 ghost use Rattle.stn_questions.specs.Steps.{planned_steps};
-ghost use Rattle.stn_picture.specs.Chart.{seen_look};
+ghost use Rattle.stn_chart.specs.Chart.{seen_look};
 ghost use Rattle.stn_command.specs.{Query.{ask, draw, seen_query}, Named.{IsNamed, IsNamesRefusal, SaysNamed, IsSaidWithNames, count_refusal}};
 ghost use Rattle.stn_command.specs.Query.{IsQueryRefusal};
 
 use crate::named_lines::with_names;
-use crate::queries::{Query, are_within, say};
+use crate::queries::{Query, say};
 use crate::words::no_such_word;
 use std::alloc::Allocator;
+use stn_chart::Look;
 use stn_lift::Plan;
 use stn_net::BoundFault;
-use stn_picture::{Look, print_picture};
+use stn_picture::print_picture;
 use stn_questions::{Question, names_of, step_names};
 use stn_refusal::Failure;
-use stn_site::SitePlan;
+use stn_site::{SitePlan, are_within};
 
 /// What is said to a query about a site's copy of a plan whose steps have the actions and arguments of the steps of another, of which
 /// this is the text: the steps by these alone, the picture by them, and any other answer with them at the end of its lines, after two

@@ -1,38 +1,28 @@
 //! What a site is asked about its plan and what it holds.
 
-ghost use Rattle.std.specs.Prelude.{◌≡◌, ◌⊎◌, ◌++◌, ◌∷◌, ◌+◌, ◌≤◌, ℕ, pos, length, take, bytes_eq, option_map, List, None, Some, OnOk, OnErr, IfOk, IfErr, IsErrOf};
+ghost use Rattle.std.specs.Prelude.{◌≡◌, ◌⊎◌, ◌++◌, ◌∷◌, ◌+◌, ◌≤◌, ℕ, pos, length, take, List, None, Some, OnOk, OnErr, IfOk, IfErr, IsErrOf};
 ghost use Rattle.stn_net.specs.Event.{most_events};
 ghost use Rattle.stn_lift.specs.PlanSource.{events_of, steps_of};
 ghost use Rattle.stn_records.specs.Content.{AllProper};
 ghost use Rattle.stn_refusal.specs.Refusals.{out_of_memory};
 ghost use Rattle.stn_site.specs.Own.{done_or_others};
-ghost use Rattle.stn_guard.specs.Adding as adding;
-ghost use Rattle.stn_picture.specs.Chart.{seen_look};
-ghost use Rattle.stn_command.specs.{Dispatch.done_or_not_chosen, Query.{report, check, ask, repairs, outlook_of, seen_lone, seen_query, seen_choice, IsSaid, IsQueryRefusal, LacksMemory, Says, Foresees}};
+ghost use Rattle.stn_chart.specs.Chart.{seen_look};
+ghost use Rattle.stn_command.specs.{Dispatch.done_or_not_chosen, Query.{report, check, ask, repairs, seen_lone, seen_query, seen_choice, IsSaid, IsQueryRefusal, LacksMemory, Says, Foresees}};
 ghost use Rattle.stn_command.specs.Query as asked;
 
 use crate::dispatch::{append_check, append_next, append_rest};
 use crate::words::no_such_word;
 use std::alloc::Allocator;
-use stn_guard::OwnedSteps;
+use stn_chart::Look;
 use stn_net::BoundFault;
-use stn_picture::{Look, print_picture};
-use stn_questions::{Question, WhyFault, print_answer, print_ready_with, source_names};
+use stn_picture::print_picture;
+use stn_questions::{
+    LoneQuery, Outlook, Question, WhyFault, print_answer, print_ready_with, source_names,
+};
 use stn_refusal::{Failure, Fault};
 use stn_repairs::print_repairs;
-use stn_site::{EVENT_FLAGS, Own, SitePlan, StepRange, flags_among};
+use stn_site::{EVENT_FLAGS, Own, SitePlan, StepRange, are_within, flags_among};
 use stn_time::{Memory, Ms};
-
-/// What is asked of the events that are left.
-#[derive(Clone, Copy)]
-pub enum Outlook {
-    /// What comes next.
-    Next,
-    /// Which of them may run.
-    Ready,
-    /// How the rest runs.
-    Rehearse,
-}
 
 /// Events of a plan: those of the steps of some ranges, or of all steps where none are given; or the starts of these steps
 /// alone.
@@ -59,68 +49,16 @@ pub enum Query<'a> {
     Draw(Look<'a>),
 }
 
-/// A query without times, steps or a look.
-#[derive(Clone, Copy)]
-pub enum LoneQuery {
-    /// The report.
-    Report,
-    /// The answer to a question.
-    Ask(Question),
-    /// What mends a conflict.
-    Repairs,
-}
+impl<'a> From<LoneQuery> for Query<'a> {
+    ghost from_gives = { λ lone query. seen_query query ≡ seen_lone lone };
 
-impl LoneQuery {
-    /// The query.
-    pub fn query<'a>(self) -> Query<'a>
-        ensures { seen_query result ≡ seen_lone self }
-    {
-        match self {
+    fn from(lone: LoneQuery) -> Query<'a> {
+        match lone {
             LoneQuery::Report => Query::Report,
             LoneQuery::Ask(question) => Query::Ask(question),
             LoneQuery::Repairs => Query::Repairs,
         }
     }
-}
-
-/// What a word asks of all events that are left, or of chosen ones.
-pub fn read_outlook(word: &[u8]) -> Option<Outlook>
-    ensures { result ≡ outlook_of word.now }
-{
-    if is_named(word, b"next") {
-        Some(Outlook::Next)
-    } else if is_named(word, b"ready") {
-        Some(Outlook::Ready)
-    } else if is_named(word, b"rehearse") {
-        Some(Outlook::Rehearse)
-    } else {
-        None
-    }
-}
-
-/// The query that a word asks alone.
-pub fn lone_query(word: &[u8]) -> Option<LoneQuery>
-    ensures { option_map seen_lone result ≡ asked.lone_query word.now }
-{
-    if is_named(word, b"report") {
-        Some(LoneQuery::Report)
-    } else if is_named(word, b"repairs") {
-        Some(LoneQuery::Repairs)
-    } else if is_named(word, b"records") {
-        Some(LoneQuery::Ask(Question::Records))
-    } else if is_named(word, b"steps") {
-        Some(LoneQuery::Ask(Question::Steps))
-    } else if is_named(word, b"bounds") {
-        Some(LoneQuery::Ask(Question::Bounds))
-    } else {
-        None
-    }
-}
-
-fn is_named(word: &[u8], name: &[u8]) -> bool
-    ensures { result ≡ bytes_eq word.now name.now }
-{
-    word == name
 }
 
 /// Appends what is said to a query about a site's copy of the plan. After an error nothing is appended.
@@ -314,11 +252,4 @@ fn draw<'x, A: Allocator + Copy>(
     let mut text = Vec::new(plan.alloc());
     print_picture(plan, look, &names, &mut text)?;
     Ok(text)
-}
-
-/// Whether a plan of so many steps has all steps that sites are said to own.
-pub fn are_within(owned: &[OwnedSteps], steps: u16) -> bool
-    ensures { result ≡ adding.are_within steps owned.now }
-{
-    owned.iter().all(|one| one.steps.is_within(steps))
 }

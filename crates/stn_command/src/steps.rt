@@ -7,10 +7,9 @@ ghost use Rattle.stn_command.specs.Words.{each_read};
 
 use crate::words::no_such_word;
 use std::alloc::{AllocError, Allocator};
-use stn_guard::OwnedSteps;
 use stn_records::{MOST_SITES, Site};
 use stn_refusal::Failure;
-use stn_site::StepRange;
+use stn_site::{OwnedSteps, StepRange};
 use stn_text::read_number;
 use stn_time::Memory;
 

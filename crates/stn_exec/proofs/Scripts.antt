@@ -1,5 +1,5 @@
 -- The heading and the lines of a script, one after the other.
-use Rattle.std.proofs.{Common.{◌≡◌, ℕ, ⊎_elim, min, ◌+◌, ◌-◌, ◌^◌, ◌<◌, ◌≤◌, true, false, cond, List, [], ◌∷◌, ◌++◌, length, Option, Some, None, Result, Ok, Err, Bool, IfSome, inl, inr, refl, sym, ap, ◌∙◌, arith, codes, append_assoc, append-nil, subst}, KnownBytes.{Appends-nil, Appends-trans}, lemmas.Bool.{cases_lt, false≢true, Decides.nat_tests}}
+use Rattle.std.proofs.{Common.{◌≡◌, ℕ, ⊎_elim, min, ◌+◌, ◌-◌, ◌^◌, ◌<◌, ◌≤◌, true, false, cond, List, [], ◌∷◌, ◌++◌, length, Option, Some, None, Result, Ok, Err, Bool, inl, inr, refl, sym, ap, ◌∙◌, arith, codes, append_assoc, append-nil, subst}, KnownBytes.Appends-trans, lemmas.Bool.{cases_lt, false≢true, Decides.nat_tests}}
 use Rattle.stn_device.specs.Bytes.{AppendsPart}
 use Rattle.stn_effects.specs.Printing.{Device}
 use Rattle.stn_text.specs.Lines.{lines_of, words_of}
@@ -159,18 +159,10 @@ pub cut_later : (a b c : Device) (failure : Failure) → b.failures ≡ a.failur
 cut_later a b c failure same (inl write) = inl (write.0, write.1 ∙ ap (λ n. min (n + 1) (2 ^ 64 - 1)) same)
 cut_later a b c failure same (inr memory) = inr (memory.0, memory.1 ∙ same)
 
--- nothing was written
-pub part-nil : (a : Option (List ℕ)) (replies : List CommandReply) → WritesOutputPart a a replies
-part-nil a replies = ([], record { first = []; later = replies; output = []; left = []; parts = refl; printed = refl; front = refl }, Appends-nil a)
-
 -- a part of a reply's text was written
 pub part-one : (a b : Option (List ℕ)) (reply : CommandReply) (text : List ℕ) → IsReplyText reply text → AppendsPart a b text → WritesOutputPart a b (reply ∷ [])
 part-one a b reply text is part =
     (part.0, record { first = reply ∷ []; later = []; output = text; left = part.1; parts = refl; printed = output_one reply text is; front = part.2 }, part.3)
-
-pub IfSome-all : {X : Type 0} (o : Option X) (P : X → Type 0) → ((x : X) → P x) → IfSome o P
-IfSome-all None P each = tt
-IfSome-all (Some x) P each = each x
 
 -- a script by its heading
 pub script_outcome-is : (script : List ℕ) (start : Result Start Failure) → start ≡ heading_of (last_line script) (lines_of script) → started start ≡ script_outcome script

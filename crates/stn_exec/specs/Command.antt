@@ -5,8 +5,8 @@ use Rattle.stn_text.specs.Numbers.{number_of}
 use Rattle.stn_net.specs.Difference.{Difference}
 use Rattle.stn_records.specs.Id.{SiteCounter}
 use Rattle.stn_site.specs.declared.change.Change.{Change, TheVariants.{Add, Amend, Withdraw, Done}}
-use Rattle.stn_questions.specs.declared.asked.Question.TheVariants.{Why, WhyApart}
-use Rattle.stn_command.specs.{Words.{and_then, event_of, id_of, time_read, times_read, bound_between}, Dispatch.every_event, Query.{Query, check, foresee, ask, lone_query, outlook_of}, declared.queries.Outlook.Outlook}
+use Rattle.stn_questions.specs.{declared.{asked.Question.TheVariants.{Why, WhyApart}, words.Outlook.Outlook}, Words.{lone_query, outlook_of}}
+use Rattle.stn_command.specs.{Words.{and_then, event_of, id_of, time_read, times_read, bound_between}, Dispatch.every_event, Query.{Query, check, foresee, ask, seen_lone}}
 
 -- what a command does: it changes what the site holds, merges another site, sends all that the site holds or some of its records and
 -- withdrawn ids, takes in a packet, or asks the site; a time that can't be read is told at a site that is there
@@ -98,7 +98,7 @@ outlook_from outlook words = option_map (λ now. query (and_then (time_read now)
 
 -- the forms of one word
 abbrev pub alone_of : List ℕ → List (List ℕ) → Option Action
-alone_of name [] = option_map (λ asked. query (Ok asked)) (lone_query name)
+alone_of name [] = option_map (λ asked. query (Ok (seen_lone asked))) (lone_query name)
 alone_of name other = None
 
 abbrev pub outlook_or_alone : Option Outlook → List ℕ → List (List ℕ) → Option Action

@@ -9,5 +9,3 @@ pub mod Heading
 pub mod Output
 pub mod Running
 pub mod Runs
-pub mod Reports
-pub mod ReadBack

@@ -4,10 +4,8 @@ ghost use Rattle.stn_command.specs.{Words.id_of, Query.seen_query};
 ghost use Rattle.stn_exec.specs.{Command.{lone_word, lone_number, side_word, bound_asked, command_of, action_of, add_of, done_of, amend_of, withdraw_of, send_of, check_of, why_of, outlook_from, alone_of, tombstone_of, is_item}, Running.{seen_command, seen_action}};
 
 use std::alloc::Allocator;
-use stn_command::{
-    Choice, Outlook, Query, lone_query, read_between, read_event, read_id, read_outlook, read_time,
-};
-use stn_questions::Question;
+use stn_command::{Choice, Query, read_between, read_event, read_id, read_time};
+use stn_questions::{Outlook, Question, lone_query, read_outlook};
 use stn_records::Id;
 use stn_refusal::Failure;
 use stn_site::{AskedBound, Change};
@@ -295,7 +293,7 @@ fn read_alone<'a>(name: &[u8], rest: &'a [u8]) -> Option<Action<'a>>
         return None;
     }
     match lone_query(name) {
-        Some(asked) => Some(Action::Query(Ok(asked.query()))),
+        Some(asked) => Some(Action::Query(Ok(Query::from(asked)))),
         None => None,
     }
 }

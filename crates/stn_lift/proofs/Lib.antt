@@ -1,4 +1,5 @@
 pub mod BareSource
+pub mod PlanFacts
 pub mod Steps
 pub mod Texts
 pub mod Shared
@@ -10,8 +11,6 @@ pub mod Sharing
 pub mod SoundBounds
 pub mod FewBounds
 pub mod LiftedBase
-pub mod PlannedTimes
 pub mod StepFacts
-pub mod FromCauses
 pub mod SoundSource
 pub mod PlanHorizon

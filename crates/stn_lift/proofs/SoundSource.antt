@@ -4,7 +4,7 @@ use Rattle.stn_text.{specs.Faults.{◌>>=◌}, proofs.Readings.bind_ok}
 use Rattle.stn_time.specs.Time.{horizon}
 use Rattle.stn_pddl.{specs.{Tree.Names.is_same_word, declared.fault.DomainFault.DomainFault, Schemas.ActionSchema, Domains.{domain_of, action_named}, Sound.IsSound}, proofs.SoundActions.{domain-sound, domain-short, found-sound}}
 use Rattle.stn_net.specs.Event.{most_steps}
-use Rattle.stn_lift.{specs.{declared.{plan.fault.PlanFault.PlanFault, fault.{LiftFault.{LiftFault, TheVariants.{Arity, DurationDiffers, PastHorizon}}, BaseFault.TheVariants.TooManySteps as TooMany}}, Plan.Steps.{PlannedStep, IsTimely, plan_of}, Timelines.IsTimed, Activities.{Activity, differs, activity, with_action, with_found, activity_of, activities}, PlanSource.{PlanSource, bare, files, of_lift, steps_in, lifted, source_with, base_of, IsSoundSource}}, proofs.{plan.PlanFacts.plan_read, BareSource.sound_bare_source, LiftedBase.{sound_steps, few_found}, Texts.{lifted-Ok, texts_lifted}}}
+use Rattle.stn_lift.{specs.{declared.{plan.fault.PlanFault.PlanFault, fault.{LiftFault.{LiftFault, TheVariants.{Arity, DurationDiffers, PastHorizon}}, BaseFault.TheVariants.TooManySteps as TooMany}}, Plan.Steps.{PlannedStep, IsTimely, plan_of}, Timelines.IsTimed, Activities.{Activity, differs, activity, with_action, with_found, activity_of, activities}, PlanSource.{PlanSource, bare, files, of_lift, steps_in, lifted, source_with, base_of, IsSoundSource}}, proofs.{BareSource.sound_bare_source, LiftedBase.{sound_steps, few_found}, Texts.{lifted-Ok, texts_lifted}, PlanFacts.plan_read}}
 
 -- ---- the steps in a domain
 not_past : (time : ℤ) → int_lt horizon time ≡ false → time ≤ℤ horizon

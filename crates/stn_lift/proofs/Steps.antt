@@ -3,7 +3,7 @@ use Rattle.std.{proofs.{Common.{rules, ◌≡◌, ℕ, ◌+◌, ◌≤◌, List,
 use Rattle.stn_text.{specs.Faults.{◌>>=◌, Fails}, proofs.Readings.both_give}
 use Rattle.stn_net.specs.Event.{most_steps}
 use Rattle.stn_pddl.specs.{declared.fault.DomainFault.DomainFault, Schemas.ActionSchema, Domains.domain_of}
-use Rattle.stn_lift.{specs.{declared.{plan.fault.PlanFault.PlanFault, fault.LiftFault.{LiftFault, TheVariants.{UnknownAction, Arity, DurationDiffers, PastHorizon, Memory}}}, Plan.Steps.{PlannedStep, plan_of}, Activities.{Activity, activity_of, activities, IsFirstRefusedStep, IsLiftCause, is_lift_memory}, PlanSource.{files, of_lift, steps_in, lifted, activities_of, steps_of}}, proofs.plan.PlanFacts.plan_read}
+use Rattle.stn_lift.{specs.{declared.{plan.fault.PlanFault.PlanFault, fault.LiftFault.{LiftFault, TheVariants.{UnknownAction, Arity, DurationDiffers, PastHorizon, Memory}}}, Plan.Steps.{PlannedStep, plan_of}, Activities.{Activity, activity_of, activities, IsFirstRefusedStep, IsLiftCause, is_lift_memory}, PlanSource.{files, of_lift, steps_in, lifted, activities_of, steps_of}}, proofs.PlanFacts.plan_read}
 
 -- the parts of a list of steps of which one is refused
 record Parts (actions : List ActionSchema) (before : ℕ) (steps : List PlannedStep) (fault : LiftFault) : Type 0 where

@@ -1,3 +1,2 @@
 pub mod LineFacts
 pub mod TokenFacts
-pub mod PlanFacts

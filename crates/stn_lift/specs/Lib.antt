@@ -8,5 +8,4 @@ pub mod Activities
 pub mod BaseBounds
 pub mod Timelines
 pub mod PlanSource
-pub mod PlannedTimes
 pub mod Failures

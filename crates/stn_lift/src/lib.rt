@@ -4,7 +4,6 @@
 pub use base::{Base, lift};
 pub use bounds::step_of;
 pub use fault::{BaseFault, LiftFault};
-pub use laws::{interference_by_atoms, lift_faults_by_cause, plan_faults_by_cause, planned_times};
 pub use plan::{Plan, PlanFault, Step};
 pub use source::Source;
 
@@ -13,7 +12,6 @@ mod base;
 mod bounds;
 mod fault;
 mod footprint;
-mod laws;
 mod numbers;
 mod plan;
 mod source;

@@ -1,7 +1,7 @@
 -- How a command grows, word by word, and the program, command by command.
 use Rattle.std.proofs.{Common.{◌≡◌, ◌∙◌, ℕ, ◌+◌, ◌<◌, ◌≤◌, ap, ap₂, sym, subst, false, List, [], ◌∷◌, ◌++◌, ◌||◌, length, map, take, fold, get_or}, lemmas.List.{map_more, take_all, Sums.fold-append}}
-use Rattle.clap.specs.{Built.{AddsArg, AddsSubcommand}, declared.builder.{arg.Arg.Arg, command.Command.Command}, Words.{Rule, Shape, Text, app_of, rule_of, with_subcommand}}
-use Rattle.stn_line.specs.{Commands.{command, top}, Table.{ReadsByShape, read_rule, read_shape}, declared.commands.{Row.Row, Word.Word}}
+use Rattle.clap.specs.{Built.{AddsArg, AddsSubcommand}, declared.builder.{arg.Arg.Arg, command.Command.Command}, Words.{App, Rule, Shape, Text, app_of, rule_of, with_subcommand}}
+use Rattle.stn_line.specs.{Commands.command, Table.{ReadsByShape, read_rule, read_shape}, declared.commands.{Row.Row, Word.Word}}
 
 -- the shape with one rule more, the last
 abbrev with_rule : Shape → Rule → Shape
@@ -18,19 +18,19 @@ grows name words i next old new a within before rule own adds =
       own = adds.globals ∙ ap₂ (λ x y. x || y) before.own own;
     })
 
--- the program with the commands of the first rows
-pub record Joined (rows : List Row) (i : ℕ) (program : Command) : Type 0 where
-  pub is : app_of program ≡ fold with_subcommand top (map read_shape (take i rows))
+-- a program with the commands of the first rows after its own
+pub record Joined (start : App) (rows : List Row) (i : ℕ) (program : Command) : Type 0 where
+  pub is : app_of program ≡ fold with_subcommand start (map read_shape (take i rows))
 
 -- a command that is added is the last
-pub joins : (rows : List Row) (i : ℕ) (next : Row) (old sub new : Command) → Joined rows i old → ReadsByShape (read_shape (get_or rows i next)) sub
-    → AddsSubcommand old sub new → i < length rows → Joined rows (i + 1) new
-joins rows i next old sub new before reads adds within = record {
+pub joins : (start : App) (rows : List Row) (i : ℕ) (next : Row) (old sub new : Command) → Joined start rows i old → ReadsByShape (read_shape (get_or rows i next)) sub
+    → AddsSubcommand old sub new → i < length rows → Joined start rows (i + 1) new
+joins start rows i next old sub new before reads adds within = record {
   is = adds.shape reads.own ∙ ap₂ with_subcommand before.is reads.is
-      ∙ sym (ap (fold with_subcommand top) (map_more read_shape rows i next within)
-      ∙ fold-append with_subcommand top (map read_shape (take i rows)) (read_shape (get_or rows i next) ∷ []));
+      ∙ sym (ap (fold with_subcommand start) (map_more read_shape rows i next within)
+      ∙ fold-append with_subcommand start (map read_shape (take i rows)) (read_shape (get_or rows i next) ∷ []));
 }
 
 -- all of them are the program
-pub joined_all : (rows : List Row) (i : ℕ) (program : Command) → Joined rows i program → length rows ≤ i → app_of program ≡ fold with_subcommand top (map read_shape rows)
-joined_all rows i program joined all = joined.is ∙ ap (λ l. fold with_subcommand top (map read_shape l)) (take_all i rows all)
+pub joined_all : (start : App) (rows : List Row) (i : ℕ) (program : Command) → Joined start rows i program → length rows ≤ i → app_of program ≡ fold with_subcommand start (map read_shape rows)
+joined_all start rows i program joined all = joined.is ∙ ap (λ l. fold with_subcommand start (map read_shape l)) (take_all i rows all)

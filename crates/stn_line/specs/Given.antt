@@ -2,7 +2,7 @@
 -- What the words of an accepted command hold.
 use Rattle.std.specs.{Prelude.{◌≡◌, ◌≢◌, ◌⊎◌, codes, Bool, true, false, List, [], ◌∷◌, Option, Some, IsSomeAnd, IfSome, is_some, ◌||◌, filter, map, ℕ, ⊤, find}, List.AllByRecursion, Str.bytes_eq}
 use Rattle.clap.specs.{declared.builder.value_parser.ValueParser.{ValueParser, TheVariants.{String, Unsigned}}, Words.{IsUnsignedIn, Row, Rule, Shape, Text, built, first_of}}
-use Rattle.stn_command.specs.Query.{lone_query, outlook_of}
+use Rattle.stn_questions.specs.Words.{lone_query, outlook_of}
 use Rattle.stn_line.specs.Commands.{commands, program}
 
 -- the name is one of these

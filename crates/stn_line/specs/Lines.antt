@@ -1,7 +1,7 @@
 -- What the words of a command line ask for, by what clap finds in them: a command, and the value of each of its words.
 use Rattle.std.specs.{Prelude.{◌≡◌, ◌≢◌, ◌↔◌, ◌≤◌, ℕ, Bool, IsTrue, List, [], Option, Some, codes, map, option_map, unwrap_or, ⊤}, Borrow.Bor, Str.Parse.{digits_value, without_leading_plus}}
 use Rattle.clap.specs.{Words.{IsAmong, Row, Text, all_of, fault_of, first_of, kind_of}, declared.error.kind.ErrorKind.TheVariants.OutOfMemory}
-use Rattle.stn_command.specs.Query.{lone_query, outlook_of, seen_lone}
+use Rattle.stn_questions.specs.Words.{lone_query, outlook_of}
 use Rattle.stn_line.specs.{Commands.{most_connections, most_seconds, usual_seconds, stn}, declared.words.{SiteLog.SiteLog, EventChoice.EventChoice, NameWords.NameWords, NewLog.NewLog, LogChange.LogChange, LogQuestion.LogQuestion, Line.Line, LineFault.LineFault}}
 use Rattle.stn_line.specs.declared.words.NewLog.TheVariants as new
 use Rattle.stn_line.specs.declared.words.LogChange.TheVariants as change
@@ -74,7 +74,7 @@ IsChangeOf (change.Guard owned) name rows = (name ≡ codes "guard") × IsWords 
 
 -- it asks such a question
 abbrev pub IsQuestionOf : LogQuestion → Text → List Row → Type 0
-IsQuestionOf (question.Alone asked) name rows = lone_query name ≡ Some (seen_lone asked)
+IsQuestionOf (question.Alone asked) name rows = lone_query name ≡ Some asked
 IsQuestionOf (question.Foresee outlook now choice) name rows = (outlook_of name ≡ Some outlook) × IsWordValue (codes "NOW") now rows × IsChoice choice rows
 IsQuestionOf (question.Why event to) name rows = (name ≡ codes "why") × IsWordValue (codes "EVENT") event rows × IsOption (codes "TO") to rows
 IsQuestionOf (question.Check times) name rows = (name ≡ codes "check") × IsWords (codes "TIME") times.items rows

@@ -1,5 +1,5 @@
-ghost use Rattle.std.specs.Prelude.{◌≡◌, false, IfOk};
-ghost use Rattle.clap.specs.Words.{app_of, rule_of};
+ghost use Rattle.std.specs.Prelude.{◌≡◌, false, fold, map, IfOk};
+ghost use Rattle.clap.specs.Words.{App, app_of, rule_of, with_subcommand};
 ghost use Rattle.stn_line.specs.{Commands.{stn as program, top as bare_top}, Table.{ReadsByShape, read_rule, read_shape}};
 
 use crate::help::REFUSALS;
@@ -99,7 +99,8 @@ const OWN_NAMES: Word = Word::Flag(
 
 const STARTS: Word = Word::Flag("starts", "Only starts count as left");
 
-const COMMANDS: [Row; 25] = [
+// What runs scripts, makes logs and changes them. The commands stand in two tables: one of all would exceed the prover's steps.
+const CHANGES: [Row; 10] = [
     Row {
         name: "run",
         about: "Runs the script on standard input",
@@ -207,6 +208,10 @@ const COMMANDS: [Row; 25] = [
             ),
         ],
     },
+];
+
+// What asks logs, explains, and meets other sites.
+const QUESTIONS: [Row; 15] = [
     Row {
         name: "report",
         about: "Prints each event's window of times, or the bounds that contradict each other",
@@ -343,8 +348,16 @@ const COMMANDS: [Row; 25] = [
 pub(crate) fn stn<'a>(alloc: Global) -> Result<Command<'a>, AllocError>
     ensures app { IfOk result (λ command. app_of command ≡ program) }
 {
-    let mut program = top(alloc);
-    'rows: for row in &COMMANDS {
+    let changing = with_rows(alloc, top(alloc), &CHANGES)?;
+    with_rows(alloc, changing, &QUESTIONS)
+}
+
+// A program with the commands of these rows after its own.
+fn with_rows<'a>(alloc: Global, start: Command<'a>, rows: &[Row]) -> Result<Command<'a>, AllocError>
+    ensures { (app : App) → app_of start.entry ≡ app → IfOk result (λ command. app_of command ≡ fold with_subcommand app (map read_shape rows.now)) }
+{
+    let mut program = start;
+    'rows: for row in rows {
         program = program.subcommand(command(alloc, row)?)?;
     }
     Ok(program)

@@ -10,7 +10,7 @@ use crate::words::{
 use clap::ArgMatches;
 use clap::error::ErrorKind;
 use std::alloc::{AllocError, Global};
-use stn_command::{lone_query, read_outlook};
+use stn_questions::{lone_query, read_outlook};
 use stn_records::Site;
 
 // A session or an exchange may take so many seconds where the words say nothing.

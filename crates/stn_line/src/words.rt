@@ -1,5 +1,5 @@
 use std::alloc::{AllocError, Global};
-use stn_command::{LoneQuery, Outlook};
+use stn_questions::{LoneQuery, Outlook};
 use stn_records::Site;
 use thiserror::Error;
 

@@ -1,5 +1,3 @@
 mod Made
-mod Unsaved
-mod OneEnding
 mod Spelled
 mod Refused

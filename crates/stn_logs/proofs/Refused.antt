@@ -1,11 +1,9 @@
 -- A word that refuses a command.
-use Rattle.std.{proofs.{Common.{◌≡◌, ◌⊎◌, ℕ, List, Bor, Option, Some, None, Result, Ok, Err, refl, sym, ap, subst, ◌∙◌, inl, inr}, lemmas.Option.{none-some, same_Some}}, specs.Prelude.IsErrAnd}
-use Rattle.stn_device.proofs.Known.{not_err}
-use Rattle.stn_effects.specs.Effects.{Effect, Then, stopped, went, failing}
-use Rattle.stn_line.specs.declared.words.{NewLog.TheVariants.Loosen, Line.{Line, TheVariants.{Make, Change, Ask}}}
+use Rattle.std.proofs.Common.{◌≡◌, ◌⊎◌, Result, Ok, Err, refl, ap, inl, inr}
+use Rattle.stn_effects.specs.Effects.{failing}
 use Rattle.stn_refusal.specs.{declared.failure.{Failure.Failure, Fault.Fault}, Refusals.out_of_memory}
-use Rattle.stn_store.{specs.{Steps.Entries, Store.IsLack}, proofs.Lacks.lack_of_memory}
-use Rattle.stn_logs.specs.{Commands.{Reads, DoesLine}, Words.{refused_by, slack_read, update_read, question_read, word_refused}, declared.words.RefusedWord.RefusedWord}
+use Rattle.stn_store.{specs.Steps.Entries, proofs.Lacks.lack_of_memory}
+use Rattle.stn_logs.specs.{Commands.Reads, declared.words.RefusedWord.RefusedWord}
 
 abbrev pub failed : {X : Type 0} → Result X RefusedWord → Result X Failure
 failed = failing (λ refused. refused.failure)
@@ -18,25 +16,3 @@ pub unread : {X : Type 0} (Fails : Fault → Type 0) (entries : Entries) (said :
     → (refused.failure ≡ out_of_memory) ⊎ (said ≡ Err refused) → Reads Fails said entries entries (Err refused.failure)
 unread Fails entries said refused (inl memory) = (refl, inr (lack_of_memory Fails refused.failure memory))
 unread Fails entries said refused (inr is) = (refl, inl (ap failed is))
-
-module _ (Fails : Fault → Type 0) (refused : RefusedWord) where
-  abbrev IsRefused : Result (List ℕ) Failure → Type 0
-  IsRefused ended = IsErrAnd ended (λ failure. (failure ≡ refused.failure) ⊎ IsLack Fails failure)
-
-  -- what a word refuses ends so
-  ends_so : (X : Type 0) (said : Result X RefusedWord) (Next : X → Effect Entries (List ℕ)) (old new : Entries) (ended : Result (List ℕ) Failure)
-      → refused_by said ≡ Some refused → Then (Reads Fails said) Next old new ended → (new ≡ old) × IsRefused ended
-  ends_so X (Ok value) Next old new ended is does = absurd (none-some refused is)
-  ends_so X (Err one) Next old new ended is (went value between first next) = absurd (not_err value one.failure (sym first.1))
-  ends_so X (Err one) Next old new ended is (stopped why first e) = (first.0, subst IsRefused (sym e) (by first.1))
-    where
-      by : ((let said : Result X Failure = Err one.failure in said) ≡ Err why) ⊎ IsLack Fails why → (why ≡ refused.failure) ⊎ IsLack Fails why
-      by (inl cause) = inl (let this : one.failure ≡ why = cc in sym this ∙ ap (λ (word : RefusedWord). word.failure) (same_Some one refused is))
-      by (inr lack) = inr lack
-
-  pub told : (line : Line) (old new : Entries) (ended : Result (List ℕ) Failure) → word_refused line ≡ Some refused → DoesLine Fails line old new ended
-      → (new ≡ old) × IsRefused ended
-  told (Make log (Loosen domain plan early late robust)) old new ended is does = ends_so _ (slack_read early late) _ old new ended is does
-  told (Change log words) old new ended is does = ends_so _ (update_read words) _ old new ended is does
-  told (Ask log words names) old new ended is does = ends_so _ (question_read log words) _ old new ended is does
-  told line old new ended is does = absurd (none-some refused is)

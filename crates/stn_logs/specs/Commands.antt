@@ -4,9 +4,9 @@ use Rattle.stn_effects.specs.Effects.{Effect, Then, Makes, Settles, Gives, faili
 use Rattle.stn_net.specs.Schedule.{HasSchedule}
 use Rattle.stn_lift.specs.{PlanSource.{PlanSource, bare, files, base_of, steps_of}, Failures.base_failure}
 use Rattle.stn_records.specs.{Content.{Content, no_content}, Id.SiteCounter}
-use Rattle.stn_site.specs.{Bounds.all_bounds, Calls.{Accepted, Leaves, took}, Change.{change_call, change_refusal}, Failures.replica_failure, Held.Held, declared.{faults.ReplicaFault.ReplicaFault, change.Change.Change as ChangeAsked}}
+use Rattle.stn_site.specs.{Bounds.all_bounds, Calls.{Accepted, Leaves, took}, Change.{change_call, change_refusal}, Failures.replica_failure, Held.Held, declared.{faults.ReplicaFault.ReplicaFault, change.Change.Change as ChangeAsked, own.OwnedSteps.OwnedSteps}}
 use Rattle.stn_command.specs.{Change.{made_by, made_text}, Query.Query, Guarding.guard_text, Named.{IsSaidBy, IsRefusedBy}, Words.no_such_word}
-use Rattle.stn_guard.specs.{Adding.{AddsGuard, IsGuardRefusal}, declared.owners.OwnedSteps.OwnedSteps}
+use Rattle.stn_guard.specs.Adding.{AddsGuard, IsGuardRefusal}
 use Rattle.stn_store.specs.{Log.log_held, Merging.IsMergeRefusal, Steps.{Entries, FindsFree, FindsText, LoadsLog, Saves, SavesNew}}
 use Rattle.stn_logs.specs.{Words.{Update, change, merge, guard, slack_read, update_read, question_read}, declared.{changes.Outcome.Outcome, words.RefusedWord.RefusedWord}, Loosening.{HoldsLoosened, IsLooseningRefusal}}
 use Rattle.stn_logs.specs.declared.changes.Outcome.TheVariants as came

@@ -3,13 +3,12 @@ use Rattle.std.specs.{Prelude.{ℕ, ℤ, neg_ℤ, pos, int_lt, Bool, true, false
 use Rattle.stn_time.specs.Time.{horizon}
 use Rattle.stn_net.specs.Difference.{Difference}
 use Rattle.stn_loosen.specs.Slack.{Slack}
-use Rattle.stn_questions.specs.declared.asked.Question.{Question, TheVariants.{Why as why, WhyApart as why_apart}}
-use Rattle.stn_command.specs.{Words.{and_then, each_read, event_of, id_of, named, time_read, no_such_word}, Query.{Query, check, foresee, ask, draw, seen_lone}, Steps.{steps_read, owned_too}, declared.queries.Outlook.Outlook}
+use Rattle.stn_questions.specs.declared.{asked.Question.{Question, TheVariants.{Why as why, WhyApart as why_apart}}, words.Outlook.Outlook}
+use Rattle.stn_command.specs.{Words.{and_then, each_read, event_of, id_of, named, time_read, no_such_word}, Query.{Query, check, foresee, ask, draw, seen_lone}, Steps.{steps_read, owned_too}}
 use Rattle.stn_logs.specs.declared.{asked.{Update.Update as UpdateOfCode, Asked.Asked}, words.{Form.Form, RefusedWord.RefusedWord}}
-use Rattle.stn_guard.specs.declared.owners.OwnedSteps.{OwnedSteps}
 use Rattle.stn_line.specs.declared.words.{DrawingWords.DrawingWords, EventChoice.EventChoice, SiteLog.SiteLog, NewLog.TheVariants.Loosen, LogChange.{LogChange, TheVariants.{Add, Amend, Withdraw, Done, Merge, Guard}}, LogQuestion.{LogQuestion, TheVariants.{Alone, Foresee, Why, Check, Draw}}, Line.{Line, TheVariants.{Make, Change, Ask}}}
 use Rattle.stn_records.specs.Id.{SiteCounter}
-use Rattle.stn_site.specs.declared.{change.Change.Change as ChangeOfPlan, own.StepRange.StepRange}
+use Rattle.stn_site.specs.declared.{change.Change.Change as ChangeOfPlan, own.{StepRange.StepRange, OwnedSteps.OwnedSteps}}
 use Rattle.stn_site.specs.declared.change.Change.TheVariants as made
 use Rattle.stn_refusal.specs.declared.failure.Failure.{Failure}
 use Rattle.stn_logs.specs.declared.asked.Update.TheVariants as updating

@@ -5,7 +5,8 @@ ghost use Rattle.stn_command.specs.Query.{foresee, seen_query, seen_choice};
 ghost use Rattle.stn_logs.specs.Keeping.{asked_query, of_all};
 
 use std::alloc::Allocator;
-use stn_command::{Choice, Outlook, Query};
+use stn_command::{Choice, Query};
+use stn_questions::Outlook;
 use stn_time::Ms;
 
 /// A question whose answer is kept: one that costs searches. What is said of an event, or of chosen steps, is asked anew, and so is a

@@ -11,12 +11,12 @@ use crate::words::{
     read_present, read_time, read_times, read_tolerance, read_why,
 };
 use std::alloc::{AllocError, Allocator};
-use stn_command::{Choice, LoneQuery, Outlook, Query};
-use stn_guard::OwnedSteps;
+use stn_chart::Look;
+use stn_command::{Choice, Query};
 use stn_line::{DrawingWords, EventChoice, Line, LogChange, LogQuestion, NewLog, SiteLog};
-use stn_picture::Look;
+use stn_questions::{LoneQuery, Outlook};
 use stn_refusal::Failure;
-use stn_site::{Change, StepRange};
+use stn_site::{Change, OwnedSteps, StepRange};
 use stn_time::{Memory, Ms};
 
 /// What updates a log.
@@ -87,7 +87,7 @@ impl<'a, A: Allocator> Asked<'a, A> {
         ensures { seen_query result ≡ seen_asked self.now }
     {
         match self {
-            Asked::Alone(query) => query.query(),
+            Asked::Alone(query) => Query::from(*query),
             Asked::Foresee(outlook, now, steps, starts) => {
                 Query::Foresee(*outlook, *now, choice_of(steps, *starts))
             }

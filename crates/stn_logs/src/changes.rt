@@ -14,11 +14,11 @@ use crate::asked::Update;
 use std::alloc::Allocator;
 use std::rc::Rc;
 use stn_command::{Made, print_guard};
-use stn_guard::{OwnedSteps, add_guard};
+use stn_guard::add_guard;
 use stn_lift::{Base, Source};
 use stn_records::{Id, Site};
 use stn_refusal::Failure;
-use stn_site::{Change, SitePlan};
+use stn_site::{Change, OwnedSteps, SitePlan};
 use stn_store::{Store, take_in};
 use stn_time::Memory;
 

@@ -5,7 +5,6 @@ pub use asked::refused_word;
 pub use commands::{answer, answer_with};
 pub use fragile::fragile_text;
 pub use keeping::{Kept, Known, find_log};
-pub use laws::{no_answer_nothing_saved, one_ending, told_word_refuses};
 pub use words::{Form, RefusedWord};
 
 mod answered;
@@ -15,6 +14,5 @@ mod commands;
 mod explaining;
 mod fragile;
 mod keeping;
-mod laws;
 mod loosening;
 mod words;

@@ -7,13 +7,12 @@ ghost use Rattle.stn_logs.specs.Words as said;
 
 use std::alloc::Allocator;
 use stn_command::{no_such_word, read_owned, read_steps};
-use stn_guard::OwnedSteps;
 use stn_loosen::Tolerance;
 use stn_net::Event;
 use stn_questions::Question;
 use stn_records::Id;
 use stn_refusal::Failure;
-use stn_site::{AskedBound, StepRange};
+use stn_site::{AskedBound, OwnedSteps, StepRange};
 use stn_time::{HORIZON, Ms};
 
 /// What a word of a command should be.

@@ -3,7 +3,3 @@ pub mod ActionMaps
 pub mod Forms
 pub mod SoundActions
 pub mod Causes
-pub mod SmallWords
-pub mod SmallActions
-pub mod SmallDomain
-pub mod FromCauses

@@ -12,4 +12,3 @@ pub mod Views
 pub mod FieldViews
 pub mod Sound
 pub mod Failures
-pub mod Case

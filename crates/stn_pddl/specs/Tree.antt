@@ -4,5 +4,3 @@ pub mod Trees
 pub mod Scan
 pub mod Cursors
 pub mod FirstFault
-pub mod Written
-pub mod Case

@@ -8,12 +8,10 @@ mod condition;
 mod domain;
 mod fault;
 mod fields;
-mod laws;
 pub mod tree;
 mod word;
 
 pub use action::{Action, Atom, Names, Term};
 pub use domain::Domain;
 pub use fault::DomainFault;
-pub use laws::{faults_by_cause, small_letters};
 pub use tree::Name;

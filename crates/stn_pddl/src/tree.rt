@@ -2,12 +2,10 @@
 
 mod bytes;
 mod cursor;
-mod laws;
 mod name;
 mod scan;
 mod word;
 
 pub use cursor::{Child, Cursor};
-pub use laws::{first_fault, small_letters, written_reads};
 pub use name::{Name, is_same_word};
 pub use scan::{TreeFault, start};

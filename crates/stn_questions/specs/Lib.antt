@@ -2,8 +2,8 @@ pub mod Answer
 pub mod Bounds
 pub mod Durations
 pub mod Ready
-pub mod Among
 pub mod Records
 pub mod Steps
 pub mod Why
+pub mod Words
 pub mod Foresight

@@ -8,17 +8,13 @@ pub use apart::print_apart;
 pub use asked::Question;
 pub use bounds::print_bounds;
 pub use foresight::{next_with, rehearse_with};
-pub use laws::{
-    every_question_has_an_answer, every_state_has_a_next, every_state_has_a_ready_text,
-    every_state_has_a_rehearsal, every_state_has_a_report, one_answer, one_ready_text,
-    ready_begins_with_next, same_answers,
-};
 pub use names::{source_names, step_names};
 pub use ready::print_ready_with;
 pub use ready_event::ReadyEvent;
 pub use records::print_records;
 pub use steps::{names_of, print_steps};
 pub use why::{WhyFault, print_why};
+pub use words::{LoneQuery, Outlook, lone_query, read_outlook};
 
 mod answer;
 mod apart;
@@ -26,10 +22,10 @@ mod asked;
 mod bounds;
 mod ends;
 mod foresight;
-mod laws;
 mod names;
 mod ready;
 mod ready_event;
 mod records;
 mod steps;
 mod why;
+mod words;

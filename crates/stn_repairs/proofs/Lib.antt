@@ -1,10 +1,7 @@
 pub mod Found
-pub mod Once
 pub mod Elements
 pub mod Cycles
 pub mod Refusing
-pub mod Largest
-pub mod LiveOnce
 pub mod Listing
 pub mod RepairFound
 pub mod OneRepairs

@@ -2,12 +2,12 @@
 use crate::tests::sweep::{Call, judged, requests};
 use std::alloc::{Allocator, Global};
 use std::rc::Rc;
-use stn_guard::{OwnedSteps, add_guard};
+use stn_guard::add_guard;
 use stn_lift::Base;
 use stn_net::{Bound, BoundFault, Event};
 use stn_records::{Id, Mark, Records, Site};
 use stn_refusing::{Outcome, Refusing};
-use stn_site::{ReplicaFault, SitePlan, StepRange};
+use stn_site::{OwnedSteps, ReplicaFault, SitePlan, StepRange};
 use stn_time::Ms;
 use stn_world::World;
 

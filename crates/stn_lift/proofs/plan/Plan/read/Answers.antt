@@ -1,6 +1,6 @@
 use Rattle.std.proofs.{Common.{rules, ◌≡◌, ◌<◌, ◌≤◌, length, map, Ok, refl, sym, arith}, lemmas.{Bool.{ltb-false, ltb-true}, List.length-map, Result.err_from_is_err_and}}
 use Rattle.stn_text.specs.Faults.{Fails}
-use Rattle.stn_lift.{specs.Plan.{Lines.lines_of, Steps.{most_steps, is_plan_memory, steps_of, plan_of}, Views.planned_step}, proofs.plan.PlanFacts.{plan_of-Ok, plan_of-many, plan_read, plan_cause_of, plan_cause_for}}
+use Rattle.stn_lift.{specs.Plan.{Lines.lines_of, Steps.{most_steps, is_plan_memory, steps_of, plan_of}, Views.planned_step}, proofs.PlanFacts.{plan_of-Ok, plan_of-many, plan_read, plan_cause_of, plan_cause_for}}
 use Rattle.stn_lift.proofs.plan.Plan.read.Goals as goal
 
 pub returns-then-is_too_long : goal.returns-then-is_too_long

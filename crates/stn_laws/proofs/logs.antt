@@ -1,0 +1,3 @@
+mod Unsaved
+mod OneEnding
+mod Refused

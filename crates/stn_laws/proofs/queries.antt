@@ -1,0 +1,5 @@
+mod OneSaid
+mod Foreseen
+mod SomeRepairs
+mod SomePicture
+mod SomeSaid

@@ -1,0 +1,14 @@
+pub mod Found
+pub mod Chosen
+pub mod Levels
+pub mod Cycles
+pub mod Counted
+pub mod AmongSame
+pub mod OneKnown
+pub mod OneReady
+pub mod OneAnswer
+pub mod ReadyNext
+pub mod SomeReport
+pub mod SomeAnswer
+pub mod SomeReady
+pub mod SomeDispatch

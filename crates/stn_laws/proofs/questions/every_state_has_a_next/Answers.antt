@@ -1,0 +1,5 @@
+use Rattle.stn_laws.proofs.questions.every_state_has_a_next.Goals as goal
+use Rattle.stn_laws.proofs.questions.SomeDispatch.{some_next}
+
+pub returns : goal.returns
+returns c = λ source state based live. some_next source state (record { based = based; live = live })

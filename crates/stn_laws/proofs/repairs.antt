@@ -1,0 +1,4 @@
+mod Once
+mod Fewer
+mod Largest
+mod LiveOnce

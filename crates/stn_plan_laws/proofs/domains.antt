@@ -1,0 +1,4 @@
+pub mod SmallWords
+pub mod SmallActions
+pub mod SmallDomain
+pub mod FromCauses

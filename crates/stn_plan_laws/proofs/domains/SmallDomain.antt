@@ -1,0 +1,205 @@
+-- A domain in small letters has the actions of the domain in small letters.
+use Rattle.std.{proofs.{Common.{rules, ◌≡◌, ℕ, ◌&&◌, List, [], ◌∷◌, ◌++◌, map, is_some, Option, Some, None, Result, Ok, Err, ℤ, refl, sym, ap, ◌∙◌, codes}, lemmas.List.map-append}, specs.Option.option_map}
+use Rattle.stn_text.specs.Faults.{◌>>=◌}
+use Rattle.stn_pddl.specs.{declared.{tree.scan.TreeFault.TreeFault, fault.DomainFault.{DomainFault, TheVariants.Syntax}, action.{Side.{Side, TheVariants.{Condition, Effect}}, Form.TheVariants.Timed}, word.{Item.Item, Field.Field, Key.Key, Section.Section}}, Tree.{Names.{folded, is_same_word}, Trees.{Trees, End, Word, Group}, Scan.tree_of}, Words.{item_of, key_of, section_of}, Schemas.{ActionSchema, bare_action}, Fields.{Listing, Values, no_values, parameters, parameters_behind_type, constant, duration, value_of, with_value, fields, field_value}, Actions.{timed_value, action_of_lists, action_of_values, named_action, is_taken, action}, Domains.{part, parts, is_title, root, domain_of_tree, domain_of_bytes, domain_of}}
+use Rattle.stn_pddl.specs.declared.word.Item.TheVariants as item
+use Rattle.stn_pddl.specs.declared.word.Field.TheVariants as field
+use Rattle.stn_pddl.specs.declared.word.Key.TheVariants as key
+use Rattle.stn_pddl.specs.declared.word.Section.TheVariants as section
+use Rattle.stn_plan_laws.{specs.{Tree.Case.{in_small, tree_in_small}, Case.{action_in_small, domain_in_small}}, proofs.{trees.Case.tree_of-folded, domains.{SmallWords.{same_first, same_both, same_listed, same_name, same_item, same_key_of, same_section, same_time}, SmallActions.{mapped, mapped-then, mapped-either, small_list}}}}
+
+-- parameters
+small_parameter : (line : ℕ) (word : List ℕ) (next : Trees) (before : List (List ℕ))
+    → ((names : List (List ℕ)) → parameters (in_small next) (map folded names) ≡ mapped (map folded) (parameters next names))
+    → parameters_behind_type line (in_small next) (map folded before) ≡ mapped (map folded) (parameters_behind_type line next before)
+    → (k : Item) → item_of word ≡ k → parameters (in_small (Word line word next)) (map folded before) ≡ mapped (map folded) (parameters (Word line word next) before)
+unfolding parameters in_small
+small_parameter line word next before more typed item.Parameter e = search (rules, same_item, same_listed, map-append)
+small_parameter line word next before more typed item.Dash e = rw (same_item word, e, parameters) typed
+small_parameter line word next before more typed item.Other e = rw (same_item word, e, parameters) refl
+
+mutual
+  unfolding parameters parameters_behind_type in_small
+
+  small_parameters : (trees : Trees) (before : List (List ℕ)) → parameters (in_small trees) (map folded before) ≡ mapped (map folded) (parameters trees before)
+  small_parameters End before = refl
+  small_parameters (Group line children next) before = refl
+  small_parameters (Word line word next) before = small_parameter line word next before (λ names. small_parameters next names) (small_behind line next before) (item_of word) refl
+
+  small_behind : (line : ℕ) (trees : Trees) (before : List (List ℕ)) → parameters_behind_type line (in_small trees) (map folded before) ≡ mapped (map folded) (parameters_behind_type line trees before)
+  small_behind line End before = refl
+  small_behind line (Word at word next) before = small_parameters next before
+  small_behind line (Group at children next) before = small_parameters next before
+
+-- the duration
+same_duration : (line : ℕ) (children : Trees) → duration line (in_small children) ≡ duration line children
+unfolding duration constant in_small
+same_duration line (Word a equal (Word b variable (Word at time End))) = rw (same_first equal (codes "="), same_first variable (codes "?duration"), same_time time) refl
+same_duration line children = refl
+
+-- the values of the keys
+small_listing : Listing → Listing
+small_listing listing = record { line = listing.line; children = in_small listing.children }
+
+small_values : Values → Values
+small_values values = record {
+  parameters = option_map small_listing values.parameters;
+  duration = option_map small_listing values.duration;
+  condition = option_map small_listing values.condition;
+  effect = option_map small_listing values.effect;
+}
+
+same_some : (found : Option Listing) → is_some (option_map small_listing found) ≡ is_some found
+same_some None = refl
+same_some (Some listing) = refl
+
+same_value : (name : Field) (values : Values) → is_some (value_of name (small_values values)) ≡ is_some (value_of name values)
+unfolding small_values
+same_value field.Parameters values = same_some values.parameters
+same_value field.Duration values = same_some values.duration
+same_value field.Condition values = same_some values.condition
+same_value field.Effect values = same_some values.effect
+
+small_with : (name : Field) (listing : Listing) (values : Values) → with_value name (small_listing listing) (small_values values) ≡ small_values (with_value name listing values)
+unfolding small_values
+small_with field.Parameters listing values = refl
+small_with name listing values = refl
+
+small_key : (line : ℕ) (word : List ℕ) (next : Trees) (before : Values)
+    → ((name : Field) → field_value line name (in_small next) (small_values before) ≡ mapped small_values (field_value line name next before))
+    → (k : Key) → key_of word ≡ k → fields (in_small (Word line word next)) (small_values before) ≡ mapped small_values (fields (Word line word next) before)
+unfolding fields in_small
+small_key line word next before more (key.Known name) e = search (rules, same_key_of, same_value)
+small_key line word next before more key.Unknown e = rw (same_key_of word, e, fields) refl
+small_key line word next before more key.NoKey e = rw (same_key_of word, e, fields) refl
+
+mutual
+  unfolding fields field_value in_small small_listing
+
+  small_fields : (trees : Trees) (before : Values) → fields (in_small trees) (small_values before) ≡ mapped small_values (fields trees before)
+  small_fields End before = refl
+  small_fields (Group line children next) before = refl
+  small_fields (Word line word next) before = small_key line word next before (λ name. small_field line name next before) (key_of word) refl
+
+  small_field : (line : ℕ) (name : Field) (trees : Trees) (before : Values) → field_value line name (in_small trees) (small_values before) ≡ mapped small_values (field_value line name trees before)
+  small_field line name End before = refl
+  small_field line name (Word at word next) before = refl
+  small_field line name (Group at children next) before =
+      let listing : Listing = record { line = at; children = children } in
+      ap (fields (in_small next)) (small_with name listing before) ∙ small_fields next (with_value name listing before)
+
+-- actions
+small_value : (side : Side) (value : Option Listing) (a : ActionSchema) → timed_value side (option_map small_listing value) (action_in_small a) ≡ mapped action_in_small (timed_value side value a)
+unfolding timed_value small_listing
+small_value side None a = refl
+small_value side (Some listing) a = small_list (Timed side) listing.line listing.children a
+
+small_bare : (name : List ℕ) (names : List (List ℕ)) (millis : ℤ) → bare_action (folded name) (map folded names) millis ≡ action_in_small (bare_action name names millis)
+unfolding action_in_small
+small_bare name names millis = refl
+
+small_sides : (values : Values) (a : ActionSchema)
+    → (timed_value Condition (option_map small_listing values.condition) (action_in_small a) >>= λ found. timed_value Effect (option_map small_listing values.effect) found)
+    ≡ mapped action_in_small (timed_value Condition values.condition a >>= λ found. timed_value Effect values.effect found)
+small_sides values a = search (rules, small_value)
+
+-- a number has no letters
+same_result : (found : Result ℤ DomainFault) → found ≡ mapped (λ millis. millis) found
+same_result (Ok millis) = refl
+same_result (Err fault) = refl
+
+small_lists : (name : List ℕ) (listed timed : Listing) (values : Values)
+    → action_of_lists (folded name) (small_listing listed) (small_listing timed) (small_values values) ≡ mapped action_in_small (action_of_lists name listed timed values)
+unfolding action_of_lists small_listing small_values
+small_lists name listed timed values =
+    let sides : ActionSchema → Result ActionSchema DomainFault = λ a. timed_value Condition values.condition a >>= λ found. timed_value Effect values.effect found in
+    let other_sides : ActionSchema → Result ActionSchema DomainFault =
+    λ a. timed_value Condition (option_map small_listing values.condition) a >>= λ found. timed_value Effect (option_map small_listing values.effect) found in
+    mapped-then (map folded) action_in_small (parameters (in_small listed.children) []) (parameters listed.children [])
+    (λ names. duration timed.line (in_small timed.children) >>= λ millis. other_sides (bare_action (folded name) names millis))
+    (λ names. duration timed.line timed.children >>= λ millis. sides (bare_action name names millis))
+    (small_parameters listed.children [])
+    (λ names. mapped-then (λ (millis : ℤ). millis) action_in_small (duration timed.line (in_small timed.children)) (duration timed.line timed.children)
+    (λ millis. other_sides (bare_action (folded name) (map folded names) millis)) (λ millis. sides (bare_action name names millis))
+    (same_duration timed.line timed.children ∙ same_result (duration timed.line timed.children))
+    (λ millis. ap other_sides (small_bare name names millis) ∙ small_sides values (bare_action name names millis)))
+
+small_action_of : (line : ℕ) (name : List ℕ) (values : Values) (listed timed : Option Listing)
+    → action_of_values line (folded name) (small_values values) (option_map small_listing listed) (option_map small_listing timed)
+    ≡ mapped action_in_small (action_of_values line name values listed timed)
+small_action_of line name values None timed = refl
+small_action_of line name values (Some listed) None = refl
+small_action_of line name values (Some listed) (Some timed) = small_lists name listed timed values
+
+small_named : (line : ℕ) (name : List ℕ) (rest : Trees) → named_action line (folded name) (in_small rest) ≡ mapped action_in_small (named_action line name rest)
+unfolding named_action small_values
+small_named line name rest =
+    mapped-then small_values action_in_small (fields (in_small rest) no_values) (fields rest no_values)
+    (λ values. action_of_values line (folded name) values values.parameters values.duration) (λ values. action_of_values line name values values.parameters values.duration)
+    (small_fields rest no_values)
+    (λ values. small_action_of line name values values.parameters values.duration)
+
+same_taken : (name : List ℕ) (actions : List ActionSchema) → is_taken (folded name) (map action_in_small actions) ≡ is_taken name actions
+unfolding is_taken action_in_small
+same_taken name [] = refl
+same_taken name (a ∷ actions) = rw (same_both name a.name, same_taken name actions) refl
+
+small_action : (line : ℕ) (rest : Trees) (earlier : List ActionSchema) → action line (in_small rest) (map action_in_small earlier) ≡ mapped action_in_small (action line rest earlier)
+unfolding action in_small
+small_action line End earlier = refl
+small_action line (Group at children next) earlier = refl
+small_action line (Word at name rest) earlier = search (rules, same_name, same_taken, small_named)
+
+-- the parts of a domain
+small_part : (line : ℕ) (children : Trees) (before : List ActionSchema) → part line (in_small children) (map action_in_small before) ≡ mapped (map action_in_small) (part line children before)
+unfolding part in_small
+small_part line End before = refl
+small_part line (Group at children next) before = refl
+small_part line (Word at word rest) before = by (section_of word) refl
+  where
+    by : (k : Section) → section_of word ≡ k → part line (in_small (Word at word rest)) (map action_in_small before) ≡ mapped (map action_in_small) (part line (Word at word rest) before)
+    by section.Action e =
+        rw (same_section word, e, part) (mapped-then action_in_small (map action_in_small) (action line (in_small rest) (map action_in_small before)) (action line rest before)
+        (λ found. Ok (map action_in_small before ++ found ∷ [])) (λ found. Ok (before ++ found ∷ []))
+        (small_action line rest before) (λ found. ap Ok (sym (map-append action_in_small before (found ∷ [])))))
+    by other e = rw (same_section word, e, part) refl
+
+small_parts : (trees : Trees) (before : List ActionSchema) → parts (in_small trees) (map action_in_small before) ≡ mapped (map action_in_small) (parts trees before)
+unfolding parts in_small
+small_parts End before = refl
+small_parts (Word line word next) before = refl
+small_parts (Group line children next) before =
+    mapped-then (map action_in_small) (map action_in_small) (part line (in_small children) (map action_in_small before)) (part line children before)
+    (λ found. parts (in_small next) found) (λ found. parts next found) (small_part line children before) (λ found. small_parts next found)
+
+same_title : (children : Trees) → is_title (in_small children) ≡ is_title children
+unfolding is_title in_small
+same_title (Word a domain (Word b name End)) = rw (same_first domain (codes "domain"), same_name name) refl
+same_title children = refl
+
+small_root : (line : ℕ) (children : Trees) → root line (in_small children) ≡ mapped (map action_in_small) (root line children)
+unfolding root in_small
+small_root line (Word a define (Group b title rest)) =
+    mapped-either (map action_in_small) (is_same_word define (codes "define") && is_title title) (is_same_word (folded define) (codes "define") && is_title (in_small title))
+    (parts rest []) (Err (Syntax line)) (parts (in_small rest) []) (Err (Syntax line))
+    (ap (λ t. t && is_title (in_small title)) (same_first define (codes "define")) ∙ ap (λ t. is_same_word define (codes "define") && t) (same_title title))
+    (small_parts rest []) refl
+small_root line children = refl
+
+small_tree : (row : Trees) → domain_of_tree (in_small row) ≡ mapped (map action_in_small) (domain_of_tree row)
+unfolding domain_of_tree in_small
+small_tree End = refl
+small_tree (Word line word next) = refl
+small_tree (Group line children next) = small_root line children
+
+small_bytes : (read : Result Trees TreeFault) → domain_of_bytes (tree_in_small read) ≡ mapped (map action_in_small) (domain_of_bytes read)
+small_bytes (Ok row) = small_tree row
+small_bytes (Err fault) = refl
+
+same_mapped : (found : Result (List ActionSchema) DomainFault) → mapped (map action_in_small) found ≡ domain_in_small found
+same_mapped (Ok actions) = refl
+same_mapped (Err fault) = refl
+
+pub domain_of-folded : (text : List ℕ) → domain_of (folded text) ≡ domain_in_small (domain_of text)
+unfolding domain_of
+domain_of-folded text = ap domain_of_bytes (tree_of-folded text) ∙ small_bytes (tree_of text) ∙ same_mapped (domain_of text)

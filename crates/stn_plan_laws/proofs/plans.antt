@@ -1,0 +1,2 @@
+pub mod FromCauses
+pub mod PlannedTimes

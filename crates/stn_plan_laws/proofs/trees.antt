@@ -1,0 +1,4 @@
+pub mod FirstFault
+pub mod Written
+pub mod Case
+pub mod Writable

@@ -1,0 +1,135 @@
+-- Each tree of a text can be written.
+use Rattle.std.proofs.{Common.{rules, ◌≡◌, ℕ, suc, ◌+◌, ◌-◌, ◌<◌, ◌≤◌, Bool, true, false, cond, ◌==◌, nat_lt, List, [], ◌∷◌, Result, Ok, Err, refl, ap, subst, ◌∙◌, arith}, lemmas.Bool.{ltb-true, ltb-false}}
+use Rattle.stn_text.specs.Faults.{◌>>=◌}
+use Rattle.stn_pddl.{specs.{declared.tree.{bytes.Kind.{Kind, TheVariants.{Blank, Open, Close, Letter, Stray}}, scan.{TreeFault.{TreeFault, TheVariants.{Syntax, TooDeep}}, Place.{Place, TheVariants.{Before, Inside, After}}}}, Tree.{Bytes.{kind_of, kind_in, comment_after, line_after}, Scan.{place_after, scanned, tree_of}, Trees.{Trees, End, Word, Group, Rows, before_byte, begins_word, word_len, rows_from}}}, proofs.tree.{Rows.{letter-outside, letter-begins, word_len-letter}, Faults.tree_of-rows}}
+use Rattle.stn_plan_laws.specs.Tree.Written.{end_line, IsWord, IsWritable}
+
+-- rows that lie in one another can be written, the innermost from a line on and each other one from where that ends
+unfoldable AreWritable : ℕ → ℕ → List Trees → Type 0
+AreWritable depth at [] = Unit {0}
+AreWritable depth at (row ∷ rows) = IsWritable (32 - depth) at row × AreWritable (depth - 1) (end_line at row) rows
+
+depth_of : Place → ℕ
+depth_of Before = 0
+depth_of (Inside depth) = depth
+depth_of After = 0
+
+-- a row that can be written from a line on can be from an earlier one
+earlier_row : (depth at before : ℕ) (row : Trees) → before ≤ at → IsWritable depth at row → IsWritable depth before row
+unfolding IsWritable
+earlier_row depth at before End le is = tt
+earlier_row depth at before (Word line word next) le is = (omega (arith, is.0), is.1, is.2)
+earlier_row depth at before (Group line children next) le is = (omega (arith, is.0), is.1, is.2, is.3)
+
+earlier : (depth at before : ℕ) (rows : List Trees) → before ≤ at → AreWritable depth at rows → AreWritable depth before rows
+unfolding AreWritable IsWritable end_line
+earlier depth at before [] le are = tt
+earlier depth at before (End ∷ rows) le are = (tt, earlier (depth - 1) at before rows le are.1)
+earlier depth at before (Word line word next ∷ rows) le are = (earlier_row (32 - depth) at before (Word line word next) le are.0, are.1)
+earlier depth at before (Group line children next ∷ rows) le are = (earlier_row (32 - depth) at before (Group line children next) le are.0, are.1)
+
+line_after-least : (line b : ℕ) → line ≤ line_after line b
+unfolding line_after
+line_after-least line b = by (b == 10)
+  where
+    by : (feed : Bool) → line ≤ cond feed (line + 1) line
+    by true = omega arith
+    by false = omega arith
+
+-- a list in front of the rows
+opened-rows : (depth line : ℕ) (more : Bool) (b : ℕ) (row : Trees) (around : List Trees) → depth < 32 → AreWritable (depth + 1) line (row ∷ around)
+    → AreWritable depth line ((before_byte Open line b more (record { row = row; around = around })).row ∷ (before_byte Open line b more (record { row = row; around = around })).around)
+unfolding AreWritable IsWritable end_line
+opened-rows depth line more b row [] few are =
+    ((omega arith, omega arith, inside are.0, tt), tt)
+  where
+    inside : IsWritable (32 - (depth + 1)) line row → IsWritable ((32 - depth) - 1) line row
+    inside is = let same : 32 - (depth + 1) ≡ (32 - depth) - 1 = omega arith in subst (λ n. IsWritable n line row) same is
+opened-rows depth line more b row (next ∷ around) few are =
+    ((omega arith, omega arith, inside are.0, behind are.1.0), rest are.1.1)
+  where
+    inside : IsWritable (32 - (depth + 1)) line row → IsWritable ((32 - depth) - 1) line row
+    inside is = let same : 32 - (depth + 1) ≡ (32 - depth) - 1 = omega arith in subst (λ n. IsWritable n line row) same is
+
+    behind : IsWritable (32 - ((depth + 1) - 1)) (end_line line row) next → IsWritable (32 - depth) (end_line line row) next
+    behind is = let same : 32 - ((depth + 1) - 1) ≡ 32 - depth = omega arith in subst (λ n. IsWritable n (end_line line row) next) same is
+
+    rest : AreWritable (((depth + 1) - 1) - 1) (end_line (end_line line row) next) around → AreWritable (depth - 1) (end_line (end_line line row) next) around
+    rest others = let same : ((depth + 1) - 1) - 1 ≡ depth - 1 = omega arith in subst (λ n. AreWritable n (end_line (end_line line row) next) around) same others
+
+-- a letter in front of the rows
+one_letter : (b : ℕ) → kind_of b ≡ Letter → IsWord (b ∷ [])
+unfolding begins_word word_len
+one_letter b is = rw is (refl, refl)
+
+letter-more : (b : ℕ) (word : List ℕ) → kind_of b ≡ Letter → IsWord word → IsWord (b ∷ word)
+unfolding begins_word
+letter-more b word is word_is = (letter-begins b word is, word_len-letter b word is ∙ ap suc word_is.1)
+
+letter-rows : (depth line b : ℕ) (more : Bool) (row : Trees) (around : List Trees) → kind_of b ≡ Letter → AreWritable depth line (row ∷ around)
+    → AreWritable depth line ((before_byte Letter line b more (record { row = row; around = around })).row ∷ (before_byte Letter line b more (record { row = row; around = around })).around)
+unfolding AreWritable IsWritable end_line
+letter-rows depth line b true End around is are = are
+letter-rows depth line b true (Word at word next) around is are = ((are.0.0, letter-more b word is are.0.1, are.0.2), are.1)
+letter-rows depth line b true (Group at children next) around is are = are
+letter-rows depth line b false row around is are = ((omega arith, one_letter b is, are.0), are.1)
+
+-- the rows of a scan without a fault
+module _ (f : Place → Result Place TreeFault) (end : Place) (line b : ℕ) (more : Bool) (rows : Rows) where
+  abbrev Here : ℕ → Kind → Type 0
+  Here depth kind = AreWritable depth line ((before_byte kind line b more rows).row ∷ (before_byte kind line b more rows).around)
+
+  refused : {B : Type 0} (fault : TreeFault) → Err fault ≡ Ok end → B
+  refused fault is = cc
+
+  abbrev Behind : Type 0
+  Behind = (next : Place) → f next ≡ Ok end → AreWritable (depth_of next) line (rows.row ∷ rows.around)
+
+  opened-place : (place : Place) → Behind → (place_after Open line place >>= f) ≡ Ok end → Here (depth_of place) Open
+  unfolding place_after depth_of
+  opened-place Before behind is = opened-rows 0 line more b rows.row rows.around (omega arith) (behind (Inside 1) is)
+  opened-place (Inside depth) behind is = by (nat_lt depth 32) refl is
+    where
+      by : (fits : Bool) → nat_lt depth 32 ≡ fits → (cond fits (Ok (Inside (depth + 1))) (Err (TooDeep line)) >>= f) ≡ Ok end → Here depth Open
+      by true few e = opened-rows depth line more b rows.row rows.around (ltb-true _ _ few) (behind (Inside (depth + 1)) e)
+      by false few e = refused (TooDeep line) e
+  opened-place After behind is = refused (Syntax line) is
+
+  closed-place : (place : Place) → Behind → (place_after Close line place >>= f) ≡ Ok end → Here (depth_of place) Close
+  unfolding place_after depth_of AreWritable IsWritable end_line
+  closed-place Before behind is = refused (Syntax line) is
+  closed-place (Inside depth) behind is = by (nat_lt 1 depth) refl is
+    where
+      by : (deep : Bool) → nat_lt 1 depth ≡ deep → (cond deep (Ok (Inside (depth - 1))) (Ok After) >>= f) ≡ Ok end → Here depth Close
+      by true is_deep e = (tt, behind (Inside (depth - 1)) e)
+      by false is_flat e =
+          let flat : depth ≤ 1 = ltb-false _ _ is_flat in
+          let same : 0 ≡ depth - 1 = omega arith in
+          (tt, subst (λ n. AreWritable n line (rows.row ∷ rows.around)) same (behind After e))
+  closed-place After behind is = refused (Syntax line) is
+
+  byte-place : (kind : Kind) (place : Place) → (kind ≡ Letter → kind_of b ≡ Letter) → Behind → (place_after kind line place >>= f) ≡ Ok end → Here (depth_of place) kind
+  unfolding place_after depth_of
+  byte-place Blank place letter behind is = behind place is
+  byte-place Open place letter behind is = opened-place place behind is
+  byte-place Close place letter behind is = closed-place place behind is
+  byte-place Letter Before letter behind is = refused (Syntax line) is
+  byte-place Letter (Inside depth) letter behind is = letter-rows depth line b more rows.row rows.around (letter refl) (behind (Inside depth) is)
+  byte-place Letter After letter behind is = refused (Syntax line) is
+  byte-place Stray place letter behind is = refused (Syntax line) is
+
+rows-writable : (bytes : List ℕ) (comment : Bool) (line : ℕ) (place end : Place) → scanned comment line place bytes ≡ Ok end
+    → AreWritable (depth_of place) line ((rows_from comment line bytes).row ∷ (rows_from comment line bytes).around)
+unfolding scanned rows_from AreWritable IsWritable end_line
+rows-writable [] comment line place end is = (tt, tt)
+rows-writable (b ∷ bytes) comment line place end is =
+    let rows = rows_from (comment_after comment b) (line_after line b) bytes in
+    byte-place (λ next. scanned (comment_after comment b) (line_after line b) next bytes) end line b (begins_word bytes) rows (kind_in comment b) place
+    (λ letter. (letter-outside comment b letter).1)
+    (λ next so. earlier (depth_of next) (line_after line b) line (rows.row ∷ rows.around) (line_after-least line b)
+    (rows-writable bytes (comment_after comment b) (line_after line b) next end so))
+    is
+
+pub tree_of-writable : (text : List ℕ) (row : Trees) → tree_of text ≡ Ok row → IsWritable 32 1 row
+unfolding AreWritable depth_of
+tree_of-writable text row is = search (rules, tree_of-rows, rows-writable)
