@@ -3,7 +3,7 @@
 many were refused, and which were not, with status 1.
 
 usage: bench/edits.py [CRATE ..]    with no crate: all that have edits there
-       bench/edits.py fit           tries none: says which no longer fit their files
+       bench/edits.py fit           tries none: says which edits, those of the gate too, no longer fit their files
 
 rt tries them in a copy of the repository, where the edits of bench/edits/CRATE take the place of those of
 crates/CRATE/must-fail. The copy shares what is built with the repository, so only what isn't built yet is proved first.
@@ -72,9 +72,10 @@ def misfits(edit, crate):
     return found
 
 
-def fit(crates):
-    """Prints which edits don't fit their files, and returns the status."""
-    wrong = [(edit, old) for crate in crates for edit in sorted((EDITS / crate).glob("*.edit")) for old in misfits(edit, crate)]
+def fit():
+    """Prints which edits, those of the gate too, don't fit their files, and returns the status."""
+    edits = sorted(EDITS.glob("*/*.edit")) + sorted((TOP / "crates").glob("*/must-fail/*.edit"))
+    wrong = [(edit, old) for edit in edits for old in misfits(edit, edit.relative_to(TOP).parts[2 if EDITS in edit.parents else 1])]
     for edit, old in wrong:
         print(f"{edit.relative_to(TOP)}: not once in its file: {old}")
     return 1 if wrong else 0
@@ -83,7 +84,7 @@ def fit(crates):
 def main():
     known = sorted(it.name for it in EDITS.iterdir())
     if sys.argv[1:] == ["fit"]:
-        return fit(known)
+        return fit()
     crates = sys.argv[1:] or known
     unknown = [it for it in crates if it not in known]
     if unknown:
