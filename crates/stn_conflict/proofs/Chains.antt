@@ -1,6 +1,6 @@
-use Rattle.std.{proofs.{Common.{rules, ◌≡◌, ℕ, ◌<◌, List, [], ◌∷◌, ◌++◌, length, take, sym, subst, ap, refl, ◌∙◌, arith}, lemmas.{Int.ints, List.length-take}}, specs.{Prelude.{ℤ, pos, ◌+ℤ◌}, List.AllByRecursion}}
+use Rattle.std.{proofs.{Common.{rules, ◌≡◌, ℕ, ◌<◌, List, [], ◌∷◌, ◌++◌, length, take, sym, ap, refl, ◌∙◌, arith}, lemmas.{Int.ints, List.length-take}}, specs.{Prelude.{ℤ, ◌+ℤ◌}, List.AllByRecursion}}
 use Rattle.stn_net.{specs.{Difference.Difference, Matrix.Tightest.IsTightest}, proofs.Tightest.tightest_unique}
-use Rattle.stn_conflict.{specs.{declared.links.Link.Link, Arcs.{Arc, arc_of, IsChain, weight_of}, Named.{IsTight, IsTightChain, IsFirstStep, IsWay}}, proofs.Tightness.arc_before}
+use Rattle.stn_conflict.{specs.{declared.links.Link.Link, Arcs.{arc_of, IsChain, weight_of}, Named.{IsTight, IsTightChain, IsWay}}, proofs.Tightness.arc_before}
 
 -- one chain and a link that begins where it ends are a chain
 pub chain-push : (bounds : List Difference) (links : List Link) (link : Link) (x y : ℕ) → IsChain bounds links x y → link.place < length bounds → (arc_of bounds link).from ≡ y → IsChain bounds (links ++ link ∷ []) x (arc_of bounds link).to
@@ -40,12 +40,10 @@ weight_of_tight bounds start [] x y m far chain tight = search rules
 weight_of_tight bounds start (link ∷ links) x y m far (placed, from, rest) (tight, others) =
     let (near, near_is, far_is) = tight.tight in
     let w = (arc_of bounds link).weight in
-    let here : IsTightest bounds start x near = subst (λ z. IsTightest bounds start z near) from near_is in
-    let e : near ≡ m = tightest_unique bounds start x near m here far in
-    let there : IsTightest bounds start (arc_of bounds link).to (m +ℤ w) = subst (λ n. IsTightest bounds start (arc_of bounds link).to (n +ℤ w)) e far_is in
-    let whole = weight_of_tight bounds start links _ y (m +ℤ w) there rest others in
+    let e = tightest_unique bounds start x near m (rw from at near_is) far in
+    let whole = weight_of_tight bounds start links _ y (m +ℤ w) (rw e at far_is) rest others in
     let same : (m +ℤ w) +ℤ weight_of bounds links ≡ m +ℤ (w +ℤ weight_of bounds links) = omega (arith, ints) in
-    subst (λ n. IsTightest bounds start y n) same whole
+    rw same at whole
 
 -- a chain over the bounds before a place is a chain over all of them, and as heavy
 pub chain_before : (bounds : List Difference) (place : ℕ) (links : List Link) (x y : ℕ) → IsChain (take place bounds) links x y → IsChain bounds links x y × (weight_of (take place bounds) links ≡ weight_of bounds links)
@@ -54,7 +52,5 @@ chain_before bounds place (link ∷ links) x y (placed, from, rest) =
     let below : link.place < place = omega (arith, placed, length-take place bounds) in
     let there : link.place < length bounds = omega (arith, placed, length-take place bounds) in
     let e = arc_before bounds place link below in
-    let (others, weights) = chain_before bounds place links _ y rest in (
-      (there, sym (ap (λ a. a.from) e) ∙ from, subst (λ (a : Arc). IsChain bounds links a.to y) e others),
-      ap (λ n. (arc_of (take place bounds) link).weight +ℤ n) weights ∙ ap (λ (a : Arc). a.weight +ℤ weight_of bounds links) e,
-    )
+    let (others, weights) = chain_before bounds place links _ y rest in
+    ((there, rw e at from, rw e at others), rw (e, weights) refl)

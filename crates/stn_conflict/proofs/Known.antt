@@ -1,4 +1,4 @@
-use Rattle.std.{proofs.{Common.{◌≡◌, inl, inr, ℕ, ◌<◌, List, length, take, refl, sym, subst, arith}, lemmas.{Int.ints, Bool.cases_lt, List.take_all}}, specs.Prelude.{ℤ, pos}}
+use Rattle.std.{proofs.{Common.{◌≡◌, inl, inr, ℕ, ◌<◌, List, length, take, refl, arith}, lemmas.{Int.ints, Bool.cases_lt, List.take_all}}, specs.Prelude.{ℤ, pos}}
 use Rattle.stn_net.{specs.{Difference.Difference, Horizon.horizon_bounds, Schedule.{Meets, HasSchedule}}, proofs.Widest.horizon_each}
 pub use Rattle.stn_net.proofs.Horizons.{known_within, known_first}
 
@@ -12,11 +12,11 @@ bare_schedule events =
 pub more_than_known : (events : ℕ) (bounds : List Difference) → take events bounds ≡ horizon_bounds events → ¬ HasSchedule bounds
     → (events < length bounds) × HasSchedule (take events bounds) × ¬ HasSchedule (take (length bounds) bounds)
 more_than_known events bounds begins none =
-    let first : HasSchedule (take events bounds) = subst HasSchedule (sym begins) (bare_schedule events) in (
+    let first : HasSchedule (take events bounds) = rw begins (bare_schedule events) in (
       elim (cases_lt events (length bounds)) [
         | inl more ↦ more
-        | inr all ↦ absurd (none (subst HasSchedule (take_all events bounds all) first))
+        | inr all ↦ absurd (none (rw (take_all events bounds all) at first))
       ],
       first,
-      λ has. none (subst HasSchedule (take_all (length bounds) bounds (omega arith)) has),
+      λ has. none (rw (take_all (length bounds) bounds (omega arith)) at has),
     )

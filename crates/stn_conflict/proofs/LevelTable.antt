@@ -1,7 +1,7 @@
-use Rattle.std.{proofs.{Common.{◌≡◌, ◌⊎◌, inl, inr, ℕ, zero, suc, ◌+◌, ◌<◌, ◌≤◌, Option, Some, None, List, [], ◌∷◌, ◌++◌, length, sym, subst, ap, refl, ◌∙◌, arith}, lemmas.{Int.{ints, by_lt_z}, List.{length_push, Elements.All-from_get_or}}}, specs.{Prelude.{ℤ, pos, neg_ℤ, ◌+ℤ◌, ◌-ℤ◌, ◌≤ℤ◌, ◌<ℤ◌}, List.AllByRecursion}}
+use Rattle.std.{proofs.{Common.{◌≡◌, ◌⊎◌, inl, inr, ℕ, zero, suc, ◌+◌, ◌<◌, ◌≤◌, Option, Some, None, List, [], ◌∷◌, ◌++◌, length, sym, subst, ap, refl, ◌∙◌, arith}, lemmas.{Int.{ints, by_lt_z}, List.length_push}}, specs.{Prelude.{ℤ, pos, ◌+ℤ◌}, List.AllByRecursion}}
 use Rattle.stn_time.proofs.Each.{each_pushed}
-use Rattle.stn_net.specs.{Difference.Difference, Schedule.{Meets, IsSchedule, times_of}, Matrix.Tightest.IsTightest}
-use Rattle.stn_conflict.{specs.{declared.links.{Link.Link, Side.{Side, TheVariants.{Upper, Lower}}}, Arcs.{arc, arc_of, bound_at, IsChain}, Relaxation.AreDistances, Named.{IsTight, IsTightChain, IsLevel}}, proofs.{Tightness.{tightest_self, link_reaches, link_among}, Chains.chain-push}}
+use Rattle.stn_net.specs.{Difference.Difference, Schedule.times_of}
+use Rattle.stn_conflict.{specs.{declared.links.Link.Link, Arcs.{arc_of, IsChain}, Relaxation.{AreDistances, AreRelaxed}, Named.{IsTight, IsTightChain, IsLevel}}, proofs.{Tightness.{tightest_self, link_reaches, link_among, tight_from_sum, relaxed_schedule}, Chains.chain-push}}
 
 pub some_or_none : (o : Option ℕ) → (o ≡ None) ⊎ ((k : ℕ) × (o ≡ Some k))
 some_or_none None = inl refl
@@ -35,7 +35,7 @@ chain_to_level bounds start levels closed (suc level) x at =
     let (links, chain, long) = chain_to_level bounds start levels closed level _ from in (
       links ++ link ∷ [],
       record {
-        chain = subst (λ z. IsChain bounds (links ++ link ∷ []) start z) ends (chain-push bounds links link start _ chain.chain tight.there refl);
+        chain = rw ends at (chain-push bounds links link start _ chain.chain tight.there refl);
         tight = each_pushed (IsTight bounds start) links link chain.tight tight;
       },
       omega (arith, length_push links link),
@@ -68,19 +68,13 @@ raise (Some k) = pos 0
 abbrev raised : List ℤ → (ℕ → Option ℕ) → ℕ → ℤ
 raised far levels x = times_of far x +ℤ raise (levels x)
 
--- a link that is not tight has room for one more
-room_of_link : (bounds : List Difference) (start : ℕ) (link : Link) (m n : ℤ) → link.place < length bounds → IsTightest bounds start (arc_of bounds link).from m → IsTightest bounds start (arc_of bounds link).to n → ¬ IsTight bounds start link → n <ℤ (m +ℤ (arc_of bounds link).weight)
-room_of_link bounds start link m n there near far loose =
-    let w = (arc_of bounds link).weight in
-    let reaches = link_reaches bounds start link m n there near far in
-    by_lt_z n (m +ℤ w) (λ h. h) (λ h.
-    let e : n ≡ m +ℤ w = omega (arith, ints) in
-    absurd (loose (record { there = there; tight = (m, near, subst (λ k. IsTightest bounds start (arc_of bounds link).to k) e far) })))
-
--- the raised differences keep to each link
-raised_kept : (bounds : List Difference) (start : ℕ) (levels : ℕ → Option ℕ) (closed : IsClosed bounds start levels) (link : Link) (m n : ℤ) → link.place < length bounds → IsTightest bounds start (arc_of bounds link).from m → IsTightest bounds start (arc_of bounds link).to n → ((n +ℤ raise (levels (arc_of bounds link).to)) -ℤ (m +ℤ raise (levels (arc_of bounds link).from))) ≤ℤ (arc_of bounds link).weight
-raised_kept bounds start levels closed link m n there near far =
-    let reaches = link_reaches bounds start link m n there near far in
+-- the raised differences keep to each link: one that is not tight has room for one more
+raised_relaxed : (bounds : List Difference) (far : List ℤ) (start : ℕ) (levels : ℕ → Option ℕ) → AreDistances bounds start far → IsClosed bounds start levels → AreRelaxed bounds (raised far levels)
+raised_relaxed bounds far start levels exact closed = λ link there.
+    let named = link_among bounds (length far) link exact.named there in
+    let near = exact.tightest _ named.0 in
+    let end = exact.tightest _ named.1 in
+    let reaches = link_reaches bounds start link _ _ there near end in
     elim (some_or_none (levels (arc_of bounds link).to)) [
       | inr (k, e) ↦ elim (some_or_none (levels (arc_of bounds link).from)) [
         | inl f ↦ omega (arith, ints, ap raise e, ap raise f)
@@ -89,28 +83,10 @@ raised_kept bounds start levels closed link m n there near far =
       | inl e ↦ elim (some_or_none (levels (arc_of bounds link).from)) [
         | inl f ↦ omega (arith, ints, ap raise e, ap raise f)
         | inr (i, f) ↦
-            let loose : ¬ IsTight bounds start link = λ tight. let (k, k_at, k_le) = closed.on link tight i f in cc in
-            omega (arith, ints, ap raise e, ap raise f, room_of_link bounds start link m n there near far loose)
+            by_lt_z (times_of far (arc_of bounds link).to) (times_of far (arc_of bounds link).from +ℤ (arc_of bounds link).weight) (λ room. omega (arith, ints, ap raise e, ap raise f))
+            (λ none. absurd (let (k, k_at, k_le) = closed.on link (tight_from_sum bounds start link _ _ there near end (omega (arith, ints))) i f in cc))
       ]
     ]
-
--- times that keep to both sides of a bound meet it, also when all are moved
-pub meets_moved : (bound : Difference) (time : ℕ → ℤ) (by : ℤ) → ((side : Side) → (time (arc bound side).to -ℤ time (arc bound side).from) ≤ℤ (arc bound side).weight) → Meets (λ z. time z -ℤ by) bound
-meets_moved bound time by kept =
-    let low : (time bound.from -ℤ time bound.to) ≤ℤ neg_ℤ bound.lo = kept Lower in
-    let high : (time bound.to -ℤ time bound.from) ≤ℤ bound.hi = kept Upper in
-    (omega (arith, ints), omega (arith, ints))
-
--- the raised differences, moved so that the origin stands at 0, are a schedule
-raised_schedule : (bounds : List Difference) (far : List ℤ) (start : ℕ) (levels : ℕ → Option ℕ) → AreDistances bounds start far → IsClosed bounds start levels → IsSchedule bounds (λ x. raised far levels x -ℤ raised far levels 0)
-raised_schedule bounds far start levels exact closed = record {
-  origin = omega (arith, ints);
-  met = All-from_get_or (Meets (λ x. raised far levels x -ℤ raised far levels 0)) bounds (record { from = 0; to = 0; lo = pos 0; hi = pos 0 }) (λ place there.
-      meets_moved (bound_at bounds place) (raised far levels) (raised far levels 0) (λ side.
-      let link : Link = record { place = place; side = side } in
-      let named = link_among bounds (length far) link exact.named there in
-      raised_kept bounds start levels closed link _ _ there (exact.tightest _ named.0) (exact.tightest _ named.1)));
-}
 
 -- where the search has come to its end, each event has a level
 pub level_of_event : (bounds : List Difference) (far : List ℤ) (start : ℕ) (levels : ℕ → Option ℕ) → AreDistances bounds start far → IsClosed bounds start levels → (x : ℕ) → x < length far → (level : ℕ) × (levels x ≡ Some level)
@@ -120,6 +96,6 @@ level_of_event bounds far start levels exact closed x x_within =
       | inl none ↦
           let most = exact.tightest x x_within in
           let self = tightest_self bounds start _ (exact.tightest start exact.start_named) in
-          let passed = most.bound _ (raised_schedule bounds far start levels exact closed) in
+          let passed = most.bound _ (relaxed_schedule bounds (raised far levels) (raised_relaxed bounds far start levels exact closed)) in
           absurd (omega (arith, ints, ap raise none, ap raise closed.zero_at_start))
     ]

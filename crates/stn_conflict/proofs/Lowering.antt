@@ -1,15 +1,11 @@
 -- How links lower estimates.
-use Rattle.std.proofs.lemmas.Grind.{common_steps}
-use Rattle.std.{proofs.{Common.{rules, ◌≡◌, ◌≢◌, inl, inr, ℕ, ◌+◌, ◌-◌, ◌<◌, Bool, true, false, List, length, set, refl, sym, ap, ◌∙◌, arith}, lemmas.{Int.{ints, by_lt_z}, Bool.{cases_eq, false≢true}, List.{get_or-set_same, get_or-set_other, length-set}}}, specs.Prelude.{ℤ, pos, ◌+ℤ◌, ◌≤ℤ◌, ◌<ℤ◌}}
+use Rattle.std.{proofs.{lemmas.{Grind.common_steps, Int.ints, Bool.{cases_eq, false≢true}, List.{get_or-set_same, get_or-set_other, length-set}}, Common.{rules, ◌≡◌, ◌≢◌, inl, inr, ℕ, ◌+◌, ◌-◌, ◌<◌, Bool, true, false, List, length, set, refl, sym, ap, ◌∙◌, arith}}, specs.Prelude.{ℤ, pos, ◌+ℤ◌, ◌≤ℤ◌, ◌<ℤ◌}}
 use Rattle.stn_net.specs.{Difference.Difference, Schedule.times_of}
 use Rattle.stn_conflict.specs.{declared.links.Link.Link, Arcs.arc_of, Relaxation.{AreRelaxed, Freshens, HasFallen, IsFloor, IsListed, IsRelaxed, IsRelaxedBut, Lowers, is_fresh}}
 
 -- nothing is lowered
 pub lowers_none : (bounds : List Difference) (start : ℕ) (far : List ℤ) → Lowers bounds start far far
 lowers_none bounds start far = record { long = refl; fall = λ x. omega (arith, ints); floors = λ low h. h }
-
-pub freshens_none : (far : List ℤ) (fresh : List Bool) → Freshens far fresh far fresh
-freshens_none far fresh = record { kept = λ x stale. (stale, refl); others = λ x same stale. stale }
 
 module _ (bounds : List Difference) (start : ℕ) (old mid new : List ℤ) (first : Lowers bounds start old mid) (next : Lowers bounds start mid new) where
   -- one lowering after the other
@@ -55,9 +51,6 @@ stale_before fresh x y there stale = sym (get_or-set_other fresh x y true true (
 
 module _ (far : List ℤ) (x : ℕ) (way : ℤ) (there : x < length far) (less : way <ℤ times_of far x) where
   -- one estimate falls, and the others stay
-  pub fallen_here : times_of (set far x way) x ≡ way
-  fallen_here = get_or-set_same far x way (pos 0) there
-
   pub fallen_other : (y : ℕ) → y ≢ x → times_of (set far x way) y ≡ times_of far y
   fallen_other y differs = get_or-set_other far x y way (pos 0) differs
 
@@ -114,10 +107,7 @@ swept_more bounds start onward count seen event old mid fresh new new_fresh turn
     ])
   where
     earlier : (k : ℕ) → k < seen + 1 → turn_of onward count k ≢ event → k < seen
-    earlier k below differs = elim (cases_eq k seen) [
-      | inl same ↦ absurd (differs (ap (turn_of onward count) same ∙ sym turn))
-      | inr apart ↦ omega arith
-    ]
+    earlier k below differs = search (rules, cases_eq)
 
 -- after a sweep only those events are fresh whose estimates fell
 pub all_swept : (onward : Bool) (count : ℕ) (old new : List ℤ) (fresh : List Bool) → AreSwept onward count count old new fresh

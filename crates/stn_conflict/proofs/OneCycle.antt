@@ -1,21 +1,28 @@
-use Rattle.std.proofs.{Common.{rules, ◌≡◌, inl, inr, ℕ, zero, suc, ◌+◌, ◌≤◌, List, [], ◌∷◌, ◌++◌, length, take, sym, subst, ap, refl, ◌∙◌, arith}, lemmas.{Int.ints, Bool.cases_order, List.{length_push, take-take}}}
+use Rattle.std.proofs.{Common.{rules, ◌≡◌, inl, inr, ℕ, zero, suc, ◌+◌, ◌≤◌, List, [], ◌∷◌, ◌++◌, length, take, sym, ap, refl, ◌∙◌, arith}, lemmas.{Int.ints, Bool.cases_order, List.length_push}}
 use Rattle.stn_time.proofs.Each.{each_parted}
-use Rattle.stn_net.{specs.{Difference.Difference, Schedule.{IsSchedule, HasSchedule}}, proofs.Tightest.tightest_unique}
-use Rattle.stn_conflict.{specs.{declared.links.{Link.Link, Side.{Side, TheVariants.{Upper, Lower}}}, Arcs.{arc_of, bound_at, rank, side_rank}, Culprit.{IsRefusedSide, IsCulprit}, Named.{IsLevel, IsLevelStep, IsFirstStep, IsWay, IsNamedCycle}}, proofs.{Tightness.schedule_before, Chains.{IsPushedChain, chain-unpush, last_of}}}
+use Rattle.stn_net.{specs.{Difference.Difference, Schedule.HasSchedule}, proofs.Tightest.tightest_unique}
+use Rattle.stn_conflict.{specs.{declared.links.{Link.Link, Side.{Side, TheVariants.{Upper, Lower}}}, Arcs.{arc_of, bound_at, rank, side_rank}, Culprit.{IsRefusedSide, IsCulprit}, Named.{IsLevel, IsLevelStep, IsFirstStep, IsWay, IsNamedCycle}}, proofs.{Tightness.schedule_earlier, Chains.{IsPushedChain, chain-unpush, last_of}}}
 
 -- links of one place and one side are equal
 pub link_same : (p q : ℕ) (s t : Side) → p ≡ q → s ≡ t → (let one : Link = record { place = p; side = s } in let other : Link = record { place = q; side = t } in one ≡ other)
 link_same p q s t e f = cc
 
--- links of equal rank are equal
+-- so are sides
+pub side_tells : (s t : Side) → side_rank s ≡ side_rank t → s ≡ t
+side_tells Upper Upper e = refl
+side_tells Lower Lower e = refl
+side_tells Upper Lower e = absurd (omega (arith, e))
+side_tells Lower Upper e = absurd (omega (arith, e))
+
+pub side_low : (side : Side) → side_rank side ≤ 1
+side_low Upper = omega arith
+side_low Lower = omega arith
+
+-- and links of equal rank
 pub rank_tells : (one other : Link) → rank one ≡ rank other → one ≡ other
-rank_tells one other e = tells one.side other.side refl refl
-  where
-    tells : (s t : Side) → one.side ≡ s → other.side ≡ t → one ≡ other
-    tells Upper Upper p q = link_same one.place other.place one.side other.side (omega (arith, e, ap side_rank p, ap side_rank q)) (p ∙ sym q)
-    tells Lower Lower p q = link_same one.place other.place one.side other.side (omega (arith, e, ap side_rank p, ap side_rank q)) (p ∙ sym q)
-    tells Upper Lower p q = absurd (omega (arith, e, ap side_rank p, ap side_rank q))
-    tells Lower Upper p q = absurd (omega (arith, e, ap side_rank p, ap side_rank q))
+rank_tells one other e =
+    let place : one.place ≡ other.place = omega (arith, e, side_low one.side, side_low other.side) in
+    link_same one.place other.place one.side other.side place (side_tells one.side other.side (omega (arith, e)))
 
 -- an event has one level
 pub level_unique : (bounds : List Difference) (start x i k : ℕ) → IsLevel bounds start x i → IsLevel bounds start x k → i ≡ k
@@ -29,7 +36,7 @@ level_of_start bounds start = search rules
 pub no_step_to_start : (bounds : List Difference) (start : ℕ) (link : Link) → (arc_of bounds link).to ≡ start → ¬ IsLevelStep bounds start link
 no_step_to_start bounds start link e step =
     let (k, from, to) = step.level in
-    let here : IsLevel bounds start start (suc k) = subst (λ z. IsLevel bounds start z (suc k)) e to in
+    let here : IsLevel bounds start start (suc k) = rw e at to in
     omega (arith, level_unique bounds start start 0 (suc k) (level_of_start bounds start) here)
 
 -- two first steps that end at one event are one link
@@ -48,21 +55,21 @@ way_unique_by : (bounds : List Difference) (start : ℕ) (n : ℕ) (x : ℕ) (on
 way_unique_by bounds start n x [] [] short p q = refl
 way_unique_by bounds start n x [] (link ∷ links) short p q =
     let (init, last, e) = last_of link links in
-    let (parts, way, step) = unpush_way bounds start x init last (subst (IsWay bounds start x) e q) in
+    let (parts, way, step) = unpush_way bounds start x init last (rw e at q) in
     absurd (no_step_to_start bounds start last (parts.ends ∙ sym p.chain) step.step)
 way_unique_by bounds start n x (link ∷ links) [] short p q =
     let (init, last, e) = last_of link links in
-    let (parts, way, step) = unpush_way bounds start x init last (subst (IsWay bounds start x) e p) in
+    let (parts, way, step) = unpush_way bounds start x init last (rw e at p) in
     absurd (no_step_to_start bounds start last (parts.ends ∙ sym q.chain) step.step)
 way_unique_by bounds start zero x (link ∷ links) (link' ∷ links') short p q = absurd (omega arith)
 way_unique_by bounds start (suc n) x (link ∷ links) (link' ∷ links') short p q =
     let (init, last, e) = last_of link links in
     let (init', last', e') = last_of link' links' in
-    let (parts, way, step) = unpush_way bounds start x init last (subst (IsWay bounds start x) e p) in
-    let (parts', way', step') = unpush_way bounds start x init' last' (subst (IsWay bounds start x) e' q) in
+    let (parts, way, step) = unpush_way bounds start x init last (rw e at p) in
+    let (parts', way', step') = unpush_way bounds start x init' last' (rw e' at q) in
     let same = first_step_unique bounds start last last' (parts.ends ∙ sym parts'.ends) step step' in
     let long : length init ≤ n = omega (arith, ap length e, length_push init last) in
-    let before = way_unique_by bounds start n (arc_of bounds last).from init init' long way (subst (λ l. IsWay bounds start (arc_of bounds l).from init') (sym same) way') in
+    let before = way_unique_by bounds start n (arc_of bounds last).from init init' long way (rw same way') in
     e ∙ ap (λ l. l ++ last ∷ []) before ∙ ap (λ l. init' ++ l ∷ []) same ∙ sym e'
 
 -- an event has one way at most
@@ -78,7 +85,7 @@ refused_side_unique bounds bound Lower Upper (m, far, above) (n, far', below) = 
 
 -- bounds that have a schedule have one up to each place
 has_before : (bounds : List Difference) (i k : ℕ) → i ≤ k → HasSchedule (take k bounds) → HasSchedule (take i bounds)
-has_before bounds i k below (time, is) = (time, subst (λ l. IsSchedule l time) (take-take i k bounds below) (schedule_before (take k bounds) i time is))
+has_before bounds i k below (time, is) = (time, schedule_earlier bounds i k time below is)
 
 -- bounds have one culprit at most
 pub culprit_unique : (bounds : List Difference) (one other : Link) → IsCulprit bounds one → IsCulprit bounds other → one ≡ other
@@ -87,7 +94,7 @@ culprit_unique bounds one other p q =
       | inr (inl below) ↦ absurd (p.refused (has_before bounds (one.place + 1) other.place (omega arith) q.before))
       | inr (inr above) ↦ absurd (q.refused (has_before bounds (other.place + 1) one.place (omega arith) p.before))
       | inl place ↦
-          let side' : IsRefusedSide (take one.place bounds) (bound_at bounds one.place) other.side = subst (λ n. IsRefusedSide (take n bounds) (bound_at bounds n) other.side) (sym place) q.side in
+          let side' : IsRefusedSide (take one.place bounds) (bound_at bounds one.place) other.side = rw place q.side in
           let side = refused_side_unique (take one.place bounds) (bound_at bounds one.place) one.side other.side p.side side' in
           link_same one.place other.place one.side other.side place side
     ]
@@ -98,6 +105,6 @@ named_cycle_unique bounds [] other p q = absurd p
 named_cycle_unique bounds (link ∷ links) [] p q = absurd q
 named_cycle_unique bounds (link ∷ links) (link' ∷ links') (culprit, way) (culprit', way') =
     let same = culprit_unique bounds link link' culprit culprit' in
-    let there : IsWay (take link.place bounds) (arc_of bounds link).to (arc_of bounds link).from links' = subst (λ (l : Link). IsWay (take l.place bounds) (arc_of bounds l).to (arc_of bounds l).from links') (sym same) way' in
+    let there : IsWay (take link.place bounds) (arc_of bounds link).to (arc_of bounds link).from links' = rw same way' in
     let rest = way_unique (take link.place bounds) (arc_of bounds link).to (arc_of bounds link).from links links' way there in
     ap (λ l. l ∷ links) same ∙ ap (λ l. link' ∷ l) rest

@@ -1,8 +1,7 @@
-use Rattle.std.proofs.lemmas.Grind.{common_steps}
-use Rattle.std.{proofs.{Common.{rules, ◌≡◌, ◌≢◌, inl, inr, ℕ, Bool, true, false, ◌||◌, lt-ltb, le-ltb, ◌+◌, ◌<◌, ◌≤◌, List, [], ◌∷◌, ◌++◌, length, get_or, set, take, replicate, sym, subst, ap, refl, ◌∙◌, arith}, lemmas.{Int.ints, Bool.{cases_eq, cases_lt, false≢true, or_left, or_right}, List.{take-take, get_or-set_same, get_or-set_other, get_or-replicate, get_or-take, get_or_default, get_or_push, length-take, length-append, length-set, length-replicate, Elements.{All-from_get_or, All-take, All-append, All-push}}}}, specs.Prelude.{ℤ, pos, ◌+ℤ◌, ◌-ℤ◌, ◌≤ℤ◌, nat_lt, int_lt, IsTrue, All}}
-use Rattle.stn_time.{specs.Time.{horizon}, proofs.Each.All-left}
-use Rattle.stn_net.{specs.{Difference.{Difference, NamesEvents}, Schedule.{Meets, IsSchedule, HasSchedule, times_of}, Horizon.horizon_bounds}, proofs.Widest.horizon_times}
-use Rattle.stn_conflict.{specs.{declared.links.{Link.Link, Side.{Side, TheVariants.{Upper, Lower}}}, Arcs.{Arc, arc, arc_of, bound_at}, Relaxation.{NamesAmong, IsNetwork, AreEstimates, AreDistances, AreLimited, AreRelaxed, IsArcBetween, IsFloor, IsListed, IsRelaxed, IsRelaxedBut, IsPossibleGap, is_fresh}}, proofs.{Lowering.{fell_elsewhere, stale_before}, Tightness.{arc_longer, schedule_before, link_kept, link_reaches, link_among}, Known.known_first, LevelTable.meets_moved}}
+use Rattle.std.{proofs.{lemmas.{Grind.common_steps, Int.ints, Bool.{cases_eq, cases_lt, or_left, or_right}, List.{take-take, get_or-set_same, get_or-set_other, get_or-replicate, get_or_push, length-take, length-append, length-set, length-replicate, Elements.{All-take, All-append, All-push}}}, Common.{rules, ◌≡◌, ◌≢◌, inl, inr, ℕ, Bool, true, false, lt-ltb, ◌+◌, ◌<◌, ◌≤◌, List, [], ◌∷◌, ◌++◌, length, set, take, replicate, ap, refl, ◌∙◌, arith}}, specs.Prelude.{ℤ, pos, ◌+ℤ◌, ◌-ℤ◌, ◌≤ℤ◌, int_lt, All}}
+use Rattle.stn_time.specs.Time.{horizon}
+use Rattle.stn_net.{specs.{Difference.{Difference, NamesEvents}, Schedule.{IsSchedule, HasSchedule, times_of}, Horizon.horizon_bounds}, proofs.Widest.horizon_times}
+use Rattle.stn_conflict.{specs.{declared.links.{Link.Link, Side.{Side, TheVariants.{Upper, Lower}}}, Arcs.{arc, arc_of, bound_at}, Relaxation.{NamesAmong, IsNetwork, AreEstimates, AreDistances, AreLimited, AreRelaxed, IsArcBetween, IsFloor, IsListed, IsRelaxed, IsRelaxedBut, IsPossibleGap, is_fresh}}, proofs.{Lowering.{fell_elsewhere, stale_before}, Tightness.{arc_before, arc_longer, link_reaches, link_among, relaxed_schedule}, Known.known_first}}
 
 -- the events of the plan are so many and the origin
 pub among_events : (bounds : List Difference) (events count : ℕ) → count ≡ events + 1 → All (NamesEvents events) bounds → All (NamesAmong count) bounds
@@ -13,20 +12,14 @@ pub network_known : (events : ℕ) (bounds : List Difference) → take events bo
 network_known events bounds begins named = record {
   named = named;
   apart = λ time met x y xs ys.
-      let moved : ℕ → ℤ = λ z. time z -ℤ time 0 in
-      let s : IsSchedule (horizon_bounds events) (λ z. time z -ℤ time 0) = record { origin = omega (arith, ints); met = subst (All (Meets (λ z. time z -ℤ time 0))) begins (horizon_met time met) } in
+      let s : IsSchedule (horizon_bounds events) (λ z. time z -ℤ time 0) =
+      rw begins at (relaxed_schedule (take events bounds) time (λ link there.
+      let front : link.place < events = omega (arith, there, length-take events bounds) in
+      rw (arc_before bounds events link front) (met link (omega (arith, there, length-take events bounds)) (or_left _ _ (lt-ltb link.place events front))))) in
       let first = horizon_times events (λ z. time z -ℤ time 0) s x xs in
       let second = horizon_times events (λ z. time z -ℤ time 0) s y ys in
       omega (arith, ints);
 }
-  where
-    horizon_met : (time : ℕ → ℤ) → AreLimited events bounds time → All (Meets (λ z. time z -ℤ time 0)) (take events bounds)
-    horizon_met time met = λ k d below.
-        let front : k < events = omega (arith, length-take events bounds) in
-        let there : k < length bounds = omega (arith, length-take events bounds) in
-        let is : get_or (take events bounds) k d ≡ bound_at bounds k = get_or-take events bounds k d front ∙ get_or_default bounds k d _ there in
-        subst (Meets (λ z. time z -ℤ time 0)) (sym is) (meets_moved (bound_at bounds k) time (time 0) (λ side.
-        let kept = met (record { place = k; side = side }) there (or_left _ _ (lt-ltb k events front)) in omega (arith, ints)))
 
 -- in a schedule of a network, two events are within the horizon of each other
 pub network_near : (events : ℕ) (bounds : List Difference) → IsNetwork events bounds → (time : ℕ → ℤ) → IsSchedule bounds time → (x y : ℕ) → x ≤ events → y ≤ events
@@ -83,57 +76,32 @@ network_estimates bounds events start far e within network =
       named = among_events bounds events (length far) long network.named;
       start_named = omega arith;
       own = here;
-      sound = λ time s x below. elim (cases_eq x start) [
-        | inl same ↦ (let at : times_of far x ≡ pos 0 = ap (times_of far) same ∙ here in let now : time x ≡ time start = ap time same in omega (arith, ints))
-        | inr differs ↦
-            let below' : x < events + 1 = omega arith in
-            let at = ap (λ l. times_of l x) e ∙ get_or-set_other old start x (pos 0) (pos 0) differs ∙ get_or-replicate (events + 1) x horizon (pos 0) below' in
-            let near = network_near events bounds network time s start x within (omega arith) in
-            omega (arith, ints)
-      ];
+      sound = λ time s x below. search (rules, ints, cases_eq, get_or-set_other, get_or-replicate, network_near);
       least = λ time s x below. (let near = network_near events bounds network time s x start (omega arith) within in omega (arith, ints));
     }
 
 -- estimates for bounds are estimates for more of them
-pub estimates_of_more : (bounds : List Difference) (events low middle start : ℕ) (far : List ℤ) → low ≤ middle → length far ≡ events + 1 → All (NamesEvents events) bounds
-    → AreEstimates (take low bounds) start far → AreEstimates (take middle bounds) start far
-estimates_of_more bounds events low middle start far more long named h =
-    let back : (time : ℕ → ℤ) → IsSchedule (take middle bounds) time → IsSchedule (take low bounds) time = λ time s.
-    subst (λ l. IsSchedule l time) (take-take low middle bounds more) (schedule_before (take middle bounds) low time s) in
-    record {
-      named = All-take (NamesAmong (length far)) middle bounds (among_events bounds events (length far) long named);
-      start_named = h.start_named;
-      own = h.own;
-      sound = λ time s. h.sound time (back time s);
-      least = λ time s. h.least time (back time s);
-    }
+pub estimates_more : (bounds more : List Difference) (start : ℕ) (far : List ℤ) → All (NamesAmong (length far)) more → ((time : ℕ → ℤ) → IsSchedule more time → IsSchedule bounds time)
+    → AreEstimates bounds start far → AreEstimates more start far
+estimates_more bounds more start far named back h = record {
+  named = named;
+  start_named = h.start_named;
+  own = h.own;
+  sound = λ time s. h.sound time (back time s);
+  least = λ time s. h.least time (back time s);
+}
 
 -- a schedule, moved so that `start` stands at 0, is a floor of the estimates
 pub floor_of : (bounds : List Difference) (start : ℕ) (far : List ℤ) (time : ℕ → ℤ) → AreEstimates bounds start far → IsSchedule bounds time
     → IsFloor bounds start far (λ x. time x -ℤ time start)
 floor_of bounds start far time h s = search (rules, ints)
 
--- by a floor the link's end comes no later than the estimate at its beginning and the link allow
-pub below_way : (bounds : List Difference) (start : ℕ) (far : List ℤ) (link : Link) (low : ℕ → ℤ) → All (NamesAmong (length far)) bounds → link.place < length bounds
-    → IsFloor bounds start far low → low (arc_of bounds link).to ≤ℤ (times_of far (arc_of bounds link).from +ℤ (arc_of bounds link).weight)
-below_way bounds start far link low named there h = grind (arith, link_among, ints)
-
--- where each link is relaxed, the estimates, moved so that the origin stands at 0, are a schedule
-pub relaxed_schedule : (bounds : List Difference) (far : List ℤ) → AreRelaxed bounds (times_of far)
-    → IsSchedule bounds (λ x. times_of far x -ℤ times_of far 0)
-relaxed_schedule bounds far relaxed = record {
-  origin = omega (arith, ints);
-  met = All-from_get_or (Meets (λ x. times_of far x -ℤ times_of far 0)) bounds (record { from = 0; to = 0; lo = pos 0; hi = pos 0 }) (λ place there.
-      meets_moved (bound_at bounds place) (times_of far) (times_of far 0) (λ side.
-      let kept = relaxed (record { place = place; side = side }) there in omega (arith, ints)));
-}
-
--- and the estimates are the distances
+-- where each link is relaxed, the estimates are the distances
 pub settled : (bounds : List Difference) (start : ℕ) (far : List ℤ) → AreEstimates bounds start far → AreRelaxed bounds (times_of far)
     → HasSchedule bounds × AreDistances bounds start far
 settled bounds start far h relaxed =
     let time : ℕ → ℤ = λ x. times_of far x -ℤ times_of far 0 in
-    let s : IsSchedule bounds time = relaxed_schedule bounds far relaxed in (
+    let s : IsSchedule bounds time = relaxed_schedule bounds (times_of far) relaxed in (
       (time, s),
       record {
         named = h.named;
@@ -166,44 +134,24 @@ pub distances_taken : (bounds : List Difference) (start : ℕ) (far : List ℤ) 
     → IsPossibleGap bounds from to (times_of far to -ℤ times_of far from)
 distances_taken bounds start far from to d = (
   λ x. times_of far x -ℤ times_of far 0,
-  relaxed_schedule bounds far (distances_relaxed bounds start far d),
+  relaxed_schedule bounds (times_of far) (distances_relaxed bounds start far d),
   omega (arith, ints),
 )
-
--- estimates are estimates with one bound more
-pub estimates_push : (events start : ℕ) (bounds : List Difference) (bound : Difference) (far : List ℤ) → length far ≡ events + 1 → NamesEvents events bound
-    → AreEstimates bounds start far → AreEstimates (bounds ++ bound ∷ []) start far
-estimates_push events start bounds bound far long ends h =
-    let back : (time : ℕ → ℤ) → IsSchedule (bounds ++ bound ∷ []) time → IsSchedule bounds time =
-    λ time s. record { origin = s.origin; met = All-left (Meets time) bounds (bound ∷ []) s.met } in
-    record {
-      named = All-push (NamesAmong (length far)) bounds bound h.named (omega arith, omega arith);
-      start_named = h.start_named;
-      own = h.own;
-      sound = λ time s. h.sound time (back time s);
-      least = λ time s. h.least time (back time s);
-    }
 
 -- with one bound more, whose events have fresh estimates then, the other links are still met
 pub relaxed_push : (whole : ℕ) (bounds : List Difference) (bound : Difference) (far : List ℤ) (fresh : List Bool) → bound.from < length fresh → bound.to < length fresh
     → IsRelaxedBut whole bounds far fresh → IsRelaxedBut whole (bounds ++ bound ∷ []) far (set (set fresh bound.from true) bound.to true)
 relaxed_push whole bounds bound far fresh from to before = λ link there listed stale.
-    let first : List Bool = set fresh bound.from true in
-    let event : ℕ = (arc_of (bounds ++ bound ∷ []) link).from in
     let long = length-set fresh bound.from true in
-    let was : is_fresh (set fresh bound.from true) (arc_of (bounds ++ bound ∷ []) link).from ≡ false =
-    stale_before (set fresh bound.from true) bound.to (arc_of (bounds ++ bound ∷ []) link).from (omega arith) stale in
-    let old : is_fresh fresh (arc_of (bounds ++ bound ∷ []) link).from ≡ false = stale_before fresh bound.from (arc_of (bounds ++ bound ∷ []) link).from from was in
+    let not_to = fell_elsewhere (set fresh bound.from true) bound.to (arc_of (bounds ++ bound ∷ []) link).from (omega arith) stale in
+    let was = stale_before (set fresh bound.from true) bound.to (arc_of (bounds ++ bound ∷ []) link).from (omega arith) stale in
+    let not_from = fell_elsewhere fresh bound.from (arc_of (bounds ++ bound ∷ []) link).from from was in
+    let old = stale_before fresh bound.from (arc_of (bounds ++ bound ∷ []) link).from from was in
     elim (cases_lt link.place (length bounds)) [
-      | inl earlier ↦
-          let same : arc_of (bounds ++ bound ∷ []) link ≡ arc_of bounds link = arc_longer bounds (bound ∷ []) link earlier in
-          subst (λ (a : Arc). times_of far a.to ≤ℤ (times_of far a.from +ℤ a.weight)) (sym same) (before link earlier (subst (λ (a : Arc). IsTrue (nat_lt link.place whole || int_lt a.weight horizon)) same listed) (subst (λ (a : Arc). is_fresh fresh a.from ≡ false) same old))
+      | inl earlier ↦ (let same = arc_longer bounds (bound ∷ []) link earlier in rw same (before link earlier (rw same at listed) (rw same at old)))
       | inr last ↦
-          let place : link.place ≡ length bounds = omega (arith, there, length-append bounds (bound ∷ [])) in
-          let is : bound_at (bounds ++ bound ∷ []) link.place ≡ bound = get_or_push bounds bound _ link.place (sym place) in
-          absurd (begins_elsewhere bound link.side
-          (subst (λ (b : Difference). (arc b link.side).from ≢ bound.from) is (fell_elsewhere fresh bound.from (arc_of (bounds ++ bound ∷ []) link).from from was))
-          (subst (λ (b : Difference). (arc b link.side).from ≢ bound.to) is (fell_elsewhere (set fresh bound.from true) bound.to (arc_of (bounds ++ bound ∷ []) link).from (omega arith) stale)))
+          let is : bound_at (bounds ++ bound ∷ []) link.place ≡ bound = get_or_push bounds bound _ link.place (omega (arith, there, length-append bounds (bound ∷ []))) in
+          absurd (begins_elsewhere bound link.side (rw is at not_from) (rw is at not_to))
     ]
   where
     begins_elsewhere : (bound : Difference) (side : Side) → (arc bound side).from ≢ bound.from → (arc bound side).from ≢ bound.to → ⊥

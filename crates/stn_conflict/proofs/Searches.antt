@@ -1,13 +1,12 @@
 -- How a search goes on.
-use Rattle.std.proofs.lemmas.Grind.{common_steps}
-use Rattle.std.{proofs.{Common.{◌≡◌, ℕ, ◌+◌, ◌≤◌, List, Result, Ok, Err, length, refl, sym, subst, ap, ◌∙◌, arith}, lemmas.Bool.false≢true}, specs.{Prelude.{ℤ, All, OnOk, is_ok, is_err, true}}}
+use Rattle.std.{proofs.{Common.{◌≡◌, ℕ, ◌+◌, ◌≤◌, Bool, List, Result, Ok, Err, length, replicate, refl, sym, ap, ◌∙◌, arith}, lemmas.{Grind.common_steps, Bool.false≢true, List.length-replicate}}, specs.Prelude.{ℤ, Vec, OnOk, is_ok, is_err, true}}
 use Rattle.stn_net.specs.{Difference.Difference, Schedule.{HasSchedule, times_of}}
-use Rattle.stn_conflict.{specs.{declared.relaxation.Search.Search, Relaxation.{AreDistances, AreRelaxed, HasTables, IsBegun, IsFloor, IsNetwork, IsSearch, Lowers, NamesAmong, Searched}}, proofs.Relaxing.{floor_of, settled}}
+use Rattle.stn_conflict.{specs.{declared.relaxation.Search.Search, Relaxation.{AreDistances, AreRelaxed, HasTables, IsBegun, IsFloor, IsNetwork, IsPending, IsSearch, Lowers, Searched}}, proofs.Relaxing.{all_fresh, among_events, distances_relaxed, floor_of, settled}}
 
 module _ {A : Type 0} where
   -- of as many events as it has estimates
   pub tables_of : (count : ℕ) (search : Search A) → HasTables count search → HasTables (length search.far.items) search
-  tables_of count search h = subst (λ n. HasTables n search) (sym h.far) h
+  tables_of count search h = rw h.far h
 
   -- a search has begun
   pub begun_of : (searched : Searched) (search : Search A) → IsNetwork searched.events searched.bounds → searched.events ≤ searched.whole → IsSearch searched.bounds search.start (searched.events + 1) search
@@ -25,7 +24,7 @@ module _ {A : Type 0} where
       tables = begun.tables;
       from = start;
       estimates = record {
-        named = subst (λ n. All (NamesAmong n) bounds) (sym begun.tables.far) begun.named;
+        named = rw begun.tables.far begun.named;
         start_named = omega (arith, was.estimates.start_named, lowers.long);
         own = ap (times_of new.far.items) (sym start) ∙ begun.own;
         sound = λ time s. (lowers.floors _ (floor_of bounds old.start old.far.items time was.estimates s)).below;
@@ -49,6 +48,15 @@ module _ {A : Type 0} where
           unless : {T E : Type 0} (r : Result T E) → (is_err r ≡ true → ⊥) → is_ok r ≡ true
           unless (Ok x) not = refl
           unless (Err e) not = absurd (not refl)
+
+  module _ (events : ℕ) (bounds : List Difference) (search : Search A) (late : IsSearch bounds 0 (events + 1) search) where
+    -- where it has found the distances, no link is left
+    pub pending_none : AreDistances bounds 0 search.far.items → IsPending events bounds search
+    pending_none exact = record { late = late; relaxed = λ link there listed stale. distances_relaxed bounds 0 search.far.items exact link there }
+
+    -- where all estimates are fresh, any may be
+    pub pending_all : (fresh : Vec Bool A) → IsNetwork events bounds → fresh.items ≡ replicate (events + 1) true → IsPending events bounds (record search { fresh = fresh })
+    pending_all fresh network is = grind (arith, common_steps, length-replicate, all_fresh, among_events)
 
 -- what is so unless it was refused
 pub unrefused : {T E : Type 0} (r : Result T E) (P : Type 0) → (is_err r ≡ true → ⊥) → OnOk r P → P

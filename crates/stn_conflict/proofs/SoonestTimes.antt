@@ -1,7 +1,7 @@
 -- The earliest, the latest and the soonest times that a search finds.
-use Rattle.std.{proofs.{Common.{rules, ◌≡◌, ℕ, ℤ, pos, ◌+◌, ◌≤◌, ◌≤ℤ◌, neg_ℤ, Bool, List, ◌++◌, length, map, sym, subst, append_assoc, arith}, lemmas.{Int.ints, List.{get_or-map, Elements.All-append}}}, specs.Prelude.{Vec, All, Option, Some, None, MatchOption}}
+use Rattle.std.{proofs.{Common.{rules, ◌≡◌, ℕ, ℤ, pos, ◌+◌, ◌≤◌, ◌≤ℤ◌, neg_ℤ, Bool, List, ◌++◌, length, map, append_assoc, arith}, lemmas.{Int.ints, List.{get_or-map, Elements.All-append}}}, specs.Prelude.{Vec, All, Option, Some, None, MatchOption}}
 use Rattle.stn_time.specs.Time.{horizon}
-use Rattle.stn_net.{specs.{Difference.{Difference, NamesEvents}, Schedule.{IsSchedule, HasSchedule, times_of}, Windows.{Window.IsInWindow, Dispatch.{IsLeft, CanWaitUntil}, Leading.AreFloorsBelow, Soonest.{AreEarliest, AreLatest, AreSoonest}}}, proofs.{Readiness.left_within, Ends.{earliest_of_tightest, latest_of_tightest}, Soonest.{waits_above, soonest_of_earliest}}}
+use Rattle.stn_net.{specs.{Difference.{Difference, NamesEvents}, Schedule.{IsSchedule, HasSchedule, times_of}, Windows.{Dispatch.{IsLeft, CanWaitUntil}, Leading.AreFloorsBelow, Soonest.{AreEarliest, AreLatest, AreSoonest}}}, proofs.{Readiness.left_within, Ends.{earliest_of_tightest, latest_of_tightest}, Soonest.{waits_above, soonest_of_earliest}}}
 use Rattle.stn_conflict.{specs.{declared.relaxation.Search.Search, Distances.{AreDistancesFrom, AreDistancesTo}, Relaxation.{AreDistances, HasTables, IsNetwork}}, proofs.Relaxing.network_near}
 
 -- the distances that a search has found
@@ -15,8 +15,8 @@ earliest_opposite bounds events far d =
     let are = earliest_of_tightest bounds events (times_of far) d.tightest in
     let at : (event : ℕ) → event ≤ events → times_of (map neg_ℤ far) event ≡ neg_ℤ (times_of far event) = λ event within. get_or-map neg_ℤ far event (pos 0) (pos 0) (omega (arith, d.long)) in
     record {
-      taken = λ event within. subst (IsInWindow bounds event) (sym (at event within)) (are.taken event within);
-      least = λ others schedule event within. subst (λ time. time ≤ℤ others event) (sym (at event within)) (are.least others schedule event within);
+      taken = λ event within. rw (at event within) (are.taken event within);
+      least = λ others schedule event within. rw (at event within) (are.least others schedule event within);
     }
 
 -- how long after the origin each event can come at the most: the latest times
@@ -37,5 +37,5 @@ module _ (base extra floors : List Difference) (events : ℕ) (done : List Bool)
   pub found_soonest : {A : Type 0} (found : Option (Vec ℤ A))
       → MatchOption found (¬ HasSchedule (base ++ (extra ++ floors))) (λ times. (length times.items ≡ events + 1) × AreEarliest (base ++ (extra ++ floors)) events (times_of times.items))
       → MatchOption found (¬ CanWaitUntil (base ++ extra) done now) (λ times. (length times.items ≡ events + 1) × AreSoonest (base ++ extra) done now (times_of times.items))
-  found_soonest None none = λ can. none (subst HasSchedule (append_assoc base extra floors) ((waits_above (base ++ extra) floors done now are by_horizon).1 can))
+  found_soonest None none = λ can. none (rw (append_assoc base extra floors) at ((waits_above (base ++ extra) floors done now are by_horizon).1 can))
   found_soonest (Some times) (long, earliest) = search (rules, soonest_of_earliest, by_horizon, All-append, append_assoc)

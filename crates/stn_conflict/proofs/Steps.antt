@@ -1,7 +1,7 @@
-use Rattle.std.{proofs.{Common.{rules, ◌≡◌, ◌≢◌, inl, inr, ℕ, zero, suc, ◌+◌, ◌*◌, ◌<◌, ◌≤◌, Option, Some, lt-ltb, List, [], ◌∷◌, ◌++◌, length, eqb, eqb-true, eq-eqb, sym, subst, ap, refl, ◌∙◌, arith, to_z, of_z, w64}, lemmas.{List.{get_or_default, reverse-append}, Bool.{cases_eq, cases_lt, or_left}, Int.ints}}, specs.{Prelude.{ℤ, ◌+ℤ◌, IsTrue, reverse, slice_index_or}, List.AllByRecursion}}
+use Rattle.std.{proofs.{Common.{rules, ◌≡◌, ◌≢◌, inl, inr, ℕ, zero, suc, ◌+◌, ◌*◌, ◌<◌, ◌≤◌, Option, Some, lt-ltb, List, [], ◌∷◌, ◌++◌, length, eqb, sym, ap, refl, ◌∙◌, arith, to_z, of_z, w64}, lemmas.{List.{get_or_default, reverse-append}, Bool.{cases_lt, or_left}}}, specs.{Prelude.{ℤ, ◌+ℤ◌, ◌↔◌, IsTrue, reverse, slice_index_or}, List.AllByRecursion}}
 use Rattle.stn_time.specs.Time.{IsWithinHorizon}
 use Rattle.stn_net.specs.{Difference.Difference, Matrix.Tightest.IsTightest}
-use Rattle.stn_conflict.{specs.{declared.{links.{Link.Link, Side.{Side, TheVariants.{Upper, Lower}}}, outgoing.Look.Look}, Arcs.{arc, arc_of, bound_at, rank, side_rank, IsChain}, Named.{IsTight, IsLevel, IsLevelStep, IsFirstStep}, Relaxation.{HasLink, IsRow, Searched}, Search.{other_side, across, HasLevels, HasNoStep, IsFirstStepTo}}, proofs.{Tightness.{tight_from_sum, sum_from_tight}, OneCycle.{link_same, level_unique}}}
+use Rattle.stn_conflict.{specs.{declared.{links.{Link.Link, Side.{Side, TheVariants.{Upper, Lower}}}, outgoing.Look.Look}, Arcs.{arc, arc_of, bound_at, rank, side_rank, IsChain}, Named.{IsTight, IsLevel, IsLevelStep, IsFirstStep}, Relaxation.{HasLink, IsRow, Searched}, Search.{other_side, across, HasLevels, HasNoStep, IsFirstStepTo}}, proofs.{LevelTable.some_same, OneCycle.{link_same, side_low, side_tells}}}
 
 -- what a test of a sum of two times says
 pub sum_test : (m w n : ℤ) → IsWithinHorizon m → IsWithinHorizon w → IsWithinHorizon n
@@ -13,22 +13,14 @@ sum_test m w n (ml, mh) (wl, wh) (nl, nh) = search rules
 pub tight_decided : (bounds : List Difference) (start : ℕ) (link : Link) (x y : ℕ) (w m n : ℤ) → link.place < length bounds → x ≡ (arc_of bounds link).from → y ≡ (arc_of bounds link).to → w ≡ (arc_of bounds link).weight → IsTightest bounds start x m → IsTightest bounds start y n → (m +ℤ w ≡ n → IsTight bounds start link) × (IsTight bounds start link → m +ℤ w ≡ n)
 tight_decided bounds start link x y w m n there from to weight near far = search rules
 
--- a tight link whose entries differ by one is a step
-pub step_from_entries : (bounds : List Difference) (start events : ℕ) (levels : ℕ → Option ℕ) (link : Link) (x y : ℕ) → HasLevels bounds start events levels → x ≡ (arc_of bounds link).from → y ≡ (arc_of bounds link).to → IsTight bounds start link → (level : ℕ) × (levels x ≡ Some level) × (levels y ≡ Some (suc level)) → IsLevelStep bounds start link
-step_from_entries bounds start events levels link x y has from to tight (level, low, high) = record {
-  tight = tight;
-  level = (level, subst (λ z. IsLevel bounds start z level) from ((has.level x level).0 low), subst (λ z. IsLevel bounds start z (suc level)) to ((has.level y (suc level)).0 high));
-}
-
--- the entries of a step's ends differ by one
-pub entries_from_step : (bounds : List Difference) (start events : ℕ) (levels : ℕ → Option ℕ) (link : Link) (x y : ℕ) → HasLevels bounds start events levels → x ≡ (arc_of bounds link).from → y ≡ (arc_of bounds link).to → IsLevelStep bounds start link → (level : ℕ) × (levels x ≡ Some level) × (levels y ≡ Some (suc level))
-entries_from_step bounds start events levels link x y has from to step =
-    let (level, low, high) = step.level in
-    (level, ap levels from ∙ (has.level _ level).1 low, ap levels to ∙ (has.level _ (suc level)).1 high)
-
-side_low : (side : Side) → side_rank side ≤ 1
-side_low Upper = omega arith
-side_low Lower = omega arith
+-- a step is a tight link whose entries differ by one
+pub step_told : (bounds : List Difference) (start events : ℕ) (levels : ℕ → Option ℕ) (link : Link) (begin end : ℕ) → HasLevels bounds start events levels
+    → levels (arc_of bounds link).from ≡ Some begin → levels (arc_of bounds link).to ≡ Some end → IsLevelStep bounds start link ↔ (IsTight bounds start link × (end ≡ suc begin))
+step_told bounds start events levels link begin end has low high = (
+  λ step. (let (level, from, to) = step.level in
+      (step.tight, omega (arith, some_same _ level begin ((has.level _ level).1 from) low, some_same _ (suc level) end ((has.level _ (suc level)).1 to) high))),
+  λ is. record { tight = is.0; level = (begin, (has.level _ begin).0 low, rw is.1 at ((has.level _ end).0 high)) },
+)
 
 -- the links of so many bounds have the first ranks
 pub rank_within : (count : ℕ) (link : Link) → link.place < count → rank link < 2 * count
@@ -71,13 +63,11 @@ across_twice link = ap (λ side. record { place = link.place; side = side }) (tw
 
 -- of the two links of a bound, that before the one across from a link is the link
 link_before_across : (one link : Link) → one.place ≡ link.place → rank one < rank (across link) → one ≡ link
-link_before_across one link place before = sides one.side link.side refl refl
+link_before_across one link place before = link_same one.place link.place one.side link.side place (side_tells one.side link.side (omega (arith, other_rank link.side)))
   where
-    sides : (s t : Side) → one.side ≡ s → link.side ≡ t → one ≡ link
-    sides Upper Upper p q = link_same one.place link.place one.side link.side place (p ∙ sym q)
-    sides Lower Lower p q = link_same one.place link.place one.side link.side place (p ∙ sym q)
-    sides Upper Lower p q = absurd (omega (arith, ap side_rank p, ap (λ s. side_rank (other_side s)) q))
-    sides Lower Upper p q = absurd (omega (arith, ap side_rank p, ap (λ s. side_rank (other_side s)) q))
+    other_rank : (side : Side) → side_rank (other_side side) + side_rank side ≡ 1
+    other_rank Upper = refl
+    other_rank Lower = refl
 
 -- a step ends at another event
 step_leaves : (bounds : List Difference) (start : ℕ) (link : Link) → IsLevelStep bounds start link → (arc_of bounds link).from ≢ (arc_of bounds link).to
@@ -113,7 +103,7 @@ module _ (searched : Searched) (start event seen : ℕ) (row : List Look) (whole
               let (found, (k, within, at), names) = across_in_row other other_step.tight.there (same ∙ ends) in
               let back : across found.link ≡ other = ap across names ∙ across_twice other in
               elim (cases_lt k seen) [
-                | inl earlier ↦ passed k found earlier at (subst (IsLevelStep bounds start) (sym back) other_step)
+                | inl earlier ↦ passed k found earlier at (rw back other_step)
                 | inr later ↦
                     let order = is.ordered seen k look later within in
                     let read : slice_index_or row k look ≡ found = get_or_default row k look found within ∙ at in
@@ -139,8 +129,8 @@ module _ (searched : Searched) (start event seen : ℕ) (row : List Look) (whole
 pub lower_by_one : (bounds : List Difference) (start count x : ℕ) (levels : ℕ → Option ℕ) (link : Link) → HasLevels bounds start count levels
     → IsFirstStepTo bounds start x link → (level : ℕ) × (levels (arc_of bounds link).from ≡ Some level) × (levels x ≡ Some (suc level))
 lower_by_one bounds start count x levels link has h =
-    let (level, low, high) = entries_from_step bounds start count levels link _ _ has refl refl h.first.step in
-    (level, low, sym (ap levels h.ends) ∙ high)
+    let (level, low, high) = h.first.step.level in
+    (level, (has.level _ level).1 low, ap levels (sym h.ends) ∙ (has.level _ (suc level)).1 high)
 
 -- the start alone has no step
 pub at_start : (bounds : List Difference) (start count x : ℕ) (levels : ℕ → Option ℕ) → HasLevels bounds start count levels → HasNoStep bounds start x → x < count → x ≡ start
@@ -152,7 +142,7 @@ at_start bounds start count x levels has none within =
     by_level zero at = level_zero bounds start x ((has.level x 0).0 at)
     by_level (suc level) at =
         let (link, tight, ends, from) = has.back x level at in
-        absurd (none link ends (step_from_entries bounds start count levels link _ _ has refl refl tight (level, from, ap levels ends ∙ at)))
+        absurd (none link ends ((step_told bounds start count levels link level (suc level) has from (ap levels ends ∙ at)).1 (tight, refl)))
 
 -- a first step added before a way to its end
 pub chain_before_way : (bounds : List Difference) (start here x : ℕ) (links : List Link) (link : Link) → IsFirstStep bounds start link → (arc_of bounds link).to ≡ here → IsChain bounds (reverse links) here x → AllByRecursion (IsFirstStep bounds start) (reverse links) → IsChain bounds (reverse (links ++ link ∷ [])) (arc_of bounds link).from x × AllByRecursion (IsFirstStep bounds start) (reverse (links ++ link ∷ []))

@@ -1,6 +1,6 @@
-use Rattle.std.{proofs.{Common.{rules, ◌≡◌, ℕ, ◌<◌, List, ◌++◌, length, take, sym, subst, ap, ◌∙◌, arith}, lemmas.{Int.ints, List.{get_or-take, get_or_append_left, Elements.All-take}}}, specs.{Prelude.{ℤ, pos, ◌+ℤ◌, ◌-ℤ◌, ◌≤ℤ◌}, List.All}}
-use Rattle.stn_net.{specs.{Difference.Difference, Schedule.{Meets, IsSchedule}, Matrix.Tightest.IsTightest}, proofs.Tightest.tightest_unique}
-use Rattle.stn_conflict.specs.{declared.links.{Link.Link, Side.{Side, TheVariants.{Upper, Lower}}}, Arcs.{arc, arc_of, bound_at}, Relaxation.NamesAmong, Named.IsTight}
+use Rattle.std.{proofs.{Common.{rules, ◌≡◌, ℕ, ◌<◌, ◌≤◌, List, ◌++◌, length, take, ap, arith}, lemmas.{Int.ints, List.{get_or-take, get_or_append_left, take-take, Elements.{All-take, All-from_get_or}}}}, specs.{Prelude.{ℤ, pos, neg_ℤ, ◌+ℤ◌, ◌-ℤ◌, ◌≤ℤ◌}, List.All}}
+use Rattle.stn_net.specs.{Difference.Difference, Schedule.{Meets, IsSchedule}, Matrix.Tightest.IsTightest}
+use Rattle.stn_conflict.specs.{declared.links.{Link.Link, Side.{Side, TheVariants.{Upper, Lower}}}, Arcs.{arc, arc_of, bound_at}, Relaxation.{NamesAmong, AreRelaxed}, Named.IsTight}
 
 -- an event lies at 0 from itself
 pub tightest_self : (bounds : List Difference) (x : ℕ) (m : ℤ) → IsTightest bounds x x m → m ≡ pos 0
@@ -9,6 +9,21 @@ tightest_self bounds x m far = omega (arith, ints)
 -- a schedule of the bounds is one of those before a place
 pub schedule_before : (bounds : List Difference) (place : ℕ) (time : ℕ → ℤ) → IsSchedule bounds time → IsSchedule (take place bounds) time
 schedule_before bounds place time s = record { origin = s.origin; met = All-take (Meets time) place bounds s.met }
+
+-- and one of the bounds before a place is one of those before an earlier place
+pub schedule_earlier : (bounds : List Difference) (i k : ℕ) (time : ℕ → ℤ) → i ≤ k → IsSchedule (take k bounds) time → IsSchedule (take i bounds) time
+schedule_earlier bounds i k time below s = rw (take-take i k bounds below) at (schedule_before (take k bounds) i time s)
+
+-- times by which each link is relaxed are a schedule, once they are moved so that the origin stands at 0
+pub relaxed_schedule : (bounds : List Difference) (time : ℕ → ℤ) → AreRelaxed bounds time → IsSchedule bounds (λ x. time x -ℤ time 0)
+relaxed_schedule bounds time relaxed = record {
+  origin = omega (arith, ints);
+  met = All-from_get_or (Meets (λ x. time x -ℤ time 0)) bounds (record { from = 0; to = 0; lo = pos 0; hi = pos 0 }) (λ place there.
+      let b = bound_at bounds place in
+      let low : time b.from ≤ℤ (time b.to +ℤ neg_ℤ b.lo) = relaxed (record { place = place; side = Lower }) there in
+      let high : time b.to ≤ℤ (time b.from +ℤ b.hi) = relaxed (record { place = place; side = Upper }) there in
+      (omega (arith, ints), omega (arith, ints)));
+}
 
 -- times that meet a bound keep to what each of its sides says
 pub arc_kept : (bound : Difference) (side : Side) (time : ℕ → ℤ) → Meets time bound → (time (arc bound side).to -ℤ time (arc bound side).from) ≤ℤ (arc bound side).weight

@@ -1,7 +1,7 @@
 -- A way to an event by a link, tried against the event's estimate.
-use Rattle.std.{proofs.{Common.{rules, ◌≡◌, ◌⊎◌, inl, inr, ℕ, Bool, false, ◌<◌, List, length, sym, ap, ◌∙◌, arith}, lemmas.Int.ints}, specs.Prelude.{ℤ, pos, ◌+ℤ◌, ◌≤ℤ◌, All}}
+use Rattle.std.{proofs.{Common.{rules, ◌≡◌, ◌⊎◌, inl, inr, ℕ, Bool, false, ◌<◌, List, length, sym, ◌∙◌, arith}, lemmas.Int.ints}, specs.Prelude.{ℤ, pos, ◌+ℤ◌, ◌≤ℤ◌, All}}
 use Rattle.stn_net.specs.{Difference.Difference, Schedule.times_of}
-use Rattle.stn_conflict.{specs.{declared.outgoing.Look.Look, Relaxation.{AreBegun, AreTables, Freshens, IsFloor, IsKept, IsLook, IsLowered, LeavesNoFloor, IsRelaxedOf, Lowers, NamesAmong, Searched, is_fresh}}, proofs.{Tightness.link_among, Lowering.{lowers_none, freshens_none, lowered_at, freshened_at, fallen_other, relaxed_now}, Relaxing.below_way}}
+use Rattle.stn_conflict.{specs.{declared.outgoing.Look.Look, Relaxation.{AreBegun, AreTables, Freshens, IsFloor, IsKept, IsLook, IsLowered, LeavesNoFloor, IsRelaxedOf, Lowers, NamesAmong, Searched, is_fresh}}, proofs.{Tightness.link_among, Lowering.{lowered_at, freshened_at, fallen_other, relaxed_now}}}
 
 -- estimates that have begun have so still, if that of the start is kept
 pub begun_on : {by new_by : List ℕ} {fresh new_fresh : List Bool} (searched : Searched) (start : ℕ) {far : List ℤ} (new : List ℤ) → AreBegun searched start far by fresh

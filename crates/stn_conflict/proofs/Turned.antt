@@ -1,4 +1,4 @@
-use Rattle.std.{proofs.{Common.{rules, ◌≡◌, ℕ, Bool, ◌||◌, ◌<◌, List, ◌++◌, length, map, take, refl, subst, sym, ap, ◌∙◌, arith}, Math.IntN.neg_ℤ-neg_ℤ, lemmas.{Int.ints, List.{get_or-map, get_or-take, map-append, take-map, length-map, length-take, Elements.All-map}}}, specs.Prelude.{ℤ, neg_ℤ, ◌+ℤ◌, ◌≤ℤ◌, nat_lt, int_lt, IsTrue, All}}
+use Rattle.std.{proofs.{Common.{rules, ◌≡◌, ℕ, Bool, ◌||◌, ◌<◌, List, [], ◌∷◌, ◌++◌, length, map, take, refl, sym, arith}, Math.IntN.neg_ℤ-neg_ℤ, lemmas.{Int.ints, List.{get_or-map, get_or-take, map-append, take-map, length-map, length-take, Elements.All-map}}}, specs.Prelude.{ℤ, neg_ℤ, ◌+ℤ◌, ◌≤ℤ◌, nat_lt, int_lt, IsTrue, All}}
 use Rattle.stn_time.specs.Time.{horizon}
 use Rattle.stn_net.specs.{Difference.{Difference, NamesEvents}, Schedule.{Meets, IsSchedule, HasSchedule}, Matrix.Tightest.IsTightest}
 use Rattle.stn_conflict.specs.{declared.{arcs.Direction.{Direction, TheVariants.{Forward, Backward}}, links.{Side.{Side, TheVariants.{Upper, Lower}}}}, Arcs.{arc, bound_at}, Directions.{turned, faced, facing}, Distances.{AreDistancesFrom, AreDistancesTo}, Relaxation.{AreLimited, IsNetwork, NamesAmong}, Search.{across, other_side}}
@@ -13,7 +13,7 @@ schedule_of_turned bounds time s = record {
   origin = (let o = s.origin in omega (arith, ints));
   met = λ k d below.
       let long = length-map bounds turned in
-      let (low, high) = subst (Meets time) (get_or-map turned bounds k d (turned d) below) (s.met k (turned d) (omega arith)) in
+      let (low, high) = rw (get_or-map turned bounds k d (turned d) below) at (s.met k (turned d) (omega arith)) in
       (omega (arith, ints), omega (arith, ints));
 }
 
@@ -26,13 +26,16 @@ schedule_turned bounds time s = record {
       (omega (arith, ints), omega (arith, ints)));
 }
 
+-- one of the bounds
+pub bound_facing : (direction : Direction) (bounds : List Difference) (place : ℕ) → place < length bounds
+    → (bound_at (facing direction bounds) place) ≡ faced direction (bound_at bounds place)
+bound_facing Forward bounds place there = refl
+bound_facing Backward bounds place there = get_or-map turned bounds place _ _ there
+
 -- times that do what the turned bounds limit do what the bounds do, with their signs changed
 limited_of_turned : (whole : ℕ) (bounds : List Difference) (time : ℕ → ℤ) → AreLimited whole (map turned bounds) time → AreLimited whole bounds (opposite time)
 limited_of_turned whole bounds time met = λ link there listed.
-    let kept = subst (λ b. IsTrue (nat_lt link.place whole || int_lt (arc b (other_side link.side)).weight horizon)
-    → time (arc b (other_side link.side)).to ≤ℤ (time (arc b (other_side link.side)).from +ℤ (arc b (other_side link.side)).weight))
-    (get_or-map turned bounds link.place _ _ there) (met (across link) (omega (arith, length-map bounds turned))) in
-    across_kept (bound_at bounds link.place) link.side (nat_lt link.place whole) listed kept
+    across_kept (bound_at bounds link.place) link.side (nat_lt link.place whole) listed (rw (bound_facing Backward bounds link.place there) at (met (across link) (omega (arith, length-map bounds turned))))
   where
     across_kept : (b : Difference) (side : Side) (first : Bool) → IsTrue (first || int_lt (arc b side).weight horizon)
         → (IsTrue (first || int_lt (arc (turned b) (other_side side)).weight horizon)
@@ -56,10 +59,7 @@ tightest_of_turned bounds x y m t = record {
 
 -- distances over turned bounds from an event are those to it
 pub distances_of_turned : (bounds : List Difference) (events event : ℕ) (far : List ℤ) → AreDistancesFrom (map turned bounds) events event far → AreDistancesTo bounds events event far
-distances_of_turned bounds events event far d = record {
-  long = d.long;
-  tightest = λ x xs. tightest_of_turned bounds event x _ (d.tightest x xs);
-}
+distances_of_turned bounds events event far d = search (rules, tightest_of_turned, d.tightest)
 
 -- as many bounds
 pub length_facing : (direction : Direction) (bounds : List Difference) → length (facing direction bounds) ≡ length bounds
@@ -83,12 +83,6 @@ faced_among count Forward bound Lower named = named.1
 faced_among count Backward bound Upper named = named.0
 faced_among count Backward bound Lower named = named.1
 
--- one of the bounds
-pub bound_facing : (direction : Direction) (bounds : List Difference) (place : ℕ) → place < length bounds
-    → (bound_at (facing direction bounds) place) ≡ faced direction (bound_at bounds place)
-bound_facing Forward bounds place there = refl
-bound_facing Backward bounds place there = get_or-map turned bounds place _ _ there
-
 -- one of the first of the bounds
 pub bound_listed : (direction : Direction) (all bounds : List Difference) (end place : ℕ) → facing direction (take end all) ≡ bounds → place < length bounds
     → bound_at bounds place ≡ bound_at (facing direction all) place
@@ -98,6 +92,11 @@ bound_listed direction all bounds end place is there = search (rules, take_facin
 pub append_facing : (direction : Direction) (bounds more : List Difference) → facing direction (bounds ++ more) ≡ facing direction bounds ++ facing direction more
 append_facing Forward bounds more = refl
 append_facing Backward bounds more = map-append turned bounds more
+
+-- or one bound
+pub facing_push : (direction : Direction) (bounds : List Difference) (bound : Difference) → facing direction (bounds ++ bound ∷ []) ≡ facing direction bounds ++ faced direction bound ∷ []
+facing_push Forward bounds bound = refl
+facing_push Backward bounds bound = map-append turned bounds (bound ∷ [])
 
 -- bounds about so many events are so when turned round
 pub named_facing : (direction : Direction) (count : ℕ) (bounds : List Difference) → All (NamesAmong count) bounds → All (NamesAmong count) (facing direction bounds)

@@ -1,4 +1,4 @@
-use Rattle.std.{proofs.{Common.{rules, ◌≡◌, ◌≢◌, inl, inr, ℕ, suc, ◌+◌, ◌<◌, ◌≤◌, cond, Option, Some, None, lt-ltb, List, [], ◌∷◌, ◌++◌, length, set, replicate, refl, sym, subst, ap, ◌∙◌, arith}, lemmas.{Bool.{cases_eq, cases_lt, or_left}, List.{get_or-set_same, get_or-set_other, get_or-replicate, get_or_past, get_or_append_left, get_or_push, length-set, length-replicate, length_push, Elements.Contains-push_cases, Sums.{sum_by-set, count_by-le-length}}}}, specs.{Prelude.{ℤ, is_some, count_by, slice_index_or}, List.Contains}}
+use Rattle.std.{proofs.{Common.{rules, ◌≡◌, ◌≢◌, inl, inr, ℕ, suc, ◌+◌, ◌<◌, ◌≤◌, Option, Some, None, lt-ltb, List, [], ◌∷◌, ◌++◌, length, set, replicate, refl, sym, ap, ◌∙◌, arith}, lemmas.{Bool.{cases_eq, cases_lt, or_left}, List.{get_or-set_same, get_or-set_other, get_or-replicate, get_or_past, get_or_append_left, get_or_push, length-set, length-replicate, length_push, Elements.Contains-push_cases, Sums.{sum_by-set, count_by-le-length}}}}, specs.{Prelude.{ℤ, is_some, count_by, slice_index_or}, List.Contains}}
 use Rattle.stn_net.specs.Difference.{Difference}
 use Rattle.stn_conflict.{specs.{declared.{levels.Walk.Walk, links.Link.Link, outgoing.Look.Look}, Arcs.arc_of, Relaxation.{AreDistances, IsRow, Searched}, Named.IsTight, Search.{level_at, event_at, IsFollowed, IsWalk, IsWalkOf, AreLevels, LeadsOn}}, proofs.LevelTable.{IsClosed, some_or_none, some_same, level_of_entry, entry_of_level, level_of_event}}
 
@@ -16,11 +16,7 @@ walk_reaches bounds start seen level levels marked reached link w there here lea
     let kept = keeps_level levels marked (arc_of bounds link).to leads.to others in
     record {
       zero_at_start = kept start 0 w.zero_at_start;
-      only = λ x at.
-          elim (cases_eq x end) [
-            | inl same ↦ absurd (omega (arith, some_same (marked x) 0 (suc level) at (ap marked same ∙ gets)))
-            | inr differs ↦ w.only x (sym (others x differs) ∙ at)
-          ];
+      only = λ x at. search (rules, cases_eq, some_same);
       back = λ x i at.
           elim (cases_eq x end) [
             | inl same ↦
@@ -30,13 +26,7 @@ walk_reaches bounds start seen level levels marked reached link w there here lea
                 let (old, tight, ends, from) = w.back x i (sym (others x differs) ∙ at) in
                 (old, tight, ends, kept _ i from)
           ];
-      every = λ x i at.
-          elim (cases_eq x end) [
-            | inl same ↦ (length reached, omega (arith, more), last_at ∙ sym same)
-            | inr differs ↦
-                let (k, below, is) = w.every x i (sym (others x differs) ∙ at) in
-                (k, omega (arith, more), old_at k below ∙ is)
-          ];
+      every = λ x i at. search (rules, cases_eq, more, last_at, old_at);
       each = λ k below.
           elim (cases_lt k (length reached)) [
             | inl old ↦ (let (i, at, le) = w.each k old in (i, ap marked (old_at k old) ∙ kept _ i at, le))
@@ -99,36 +89,6 @@ count_marked levels x k there none = search (rules, sum_by-set)
 none_in_replicate : {X : Type 0} (table : List (Option X)) (n : ℕ) → table ≡ replicate n None → (x : ℕ) → slice_index_or table x None ≡ None
 none_in_replicate {X} table n e x = search (rules, get_or-replicate, get_or_past, length-replicate)
 
--- a walk begins at its start, which has the level 0
-pub walk_begins : (bounds : List Difference) (start : ℕ) (levels : List (Option ℕ)) → start < length levels → ((x : ℕ) → level_at levels x ≡ None)
-    → IsWalk bounds start 0 (level_at (set levels start (Some 0))) (start ∷ [])
-walk_begins bounds start levels there none = record {
-  zero_at_start = here;
-  only = λ x at. is_start x 0 at;
-  back = λ x i at. absurd (omega (arith, zero_alone x (suc i) at));
-  every = λ x i at. (0, omega arith, sym (is_start x i at));
-  each = λ k below. (let e : k ≡ 0 = omega arith in (0, ap (λ z. level_at (set levels start (Some 0)) (event_at (start ∷ []) z)) e ∙ here, omega arith));
-  rising = λ j k i m before below at_j at_k. omega (arith, zero_alone _ i at_j);
-  near = λ k i m still below at_seen at_k. omega (arith, zero_alone _ m at_k);
-  followed = λ k i below. absurd (omega arith);
-}
-  where
-    here : level_at (set levels start (Some 0)) start ≡ Some 0
-    here = get_or-set_same levels start (Some 0) None there
-
-    is_start : (x i : ℕ) → level_at (set levels start (Some 0)) x ≡ Some i → x ≡ start
-    is_start x i at =
-        elim (cases_eq x start) [
-          | inl same ↦ same
-          | inr differs ↦
-              let e : level_at (set levels start (Some 0)) x ≡ level_at levels x = get_or-set_other levels start x (Some 0) None differs in
-              let n = none x in
-              absurd (cc)
-        ]
-
-    zero_alone : (x i : ℕ) → level_at (set levels start (Some 0)) x ≡ Some i → i ≡ 0
-    zero_alone x i at = some_same _ i 0 at (ap (level_at (set levels start (Some 0))) (is_start x i at) ∙ here)
-
 -- where each event that a walk reached is followed, each has its level
 pub levels_of_walk : (bounds : List Difference) (far : List ℤ) (start seen : ℕ) (levels : List (Option ℕ)) (reached : List ℕ) → AreDistances bounds start far → length levels ≡ length far
     → length reached ≤ count_by is_some levels → IsWalk bounds start seen (level_at levels) reached → length reached ≤ seen → AreLevels bounds start (length far) levels
@@ -145,10 +105,7 @@ levels_of_walk bounds far start seen levels reached exact whole counted w all =
         level = λ x k. (level_of_entry bounds start (level_at levels) closed x k, entry_of_level bounds start (level_at levels) closed x k);
         every = level_of_event bounds far start (level_at levels) exact closed;
         back = w.back;
-        most = λ x i at.
-            let (k, below, is) = w.every x i at in
-            let (m, m_at, le) = w.each k below in
-            omega (arith, counted, whole, count_by-le-length is_some levels, some_same _ i m at (sym (ap (level_at levels) is) ∙ m_at));
+        most = λ x i at. search (rules, count_by-le-length, some_same);
       };
     }
 
@@ -232,7 +189,7 @@ module _ {A : Type 0} where
         elim (Contains-push_cases row look other has) [
           | inl before ↦ h.followed other before tight
           | inr same ↦ elim (some_or_none (level_at walk.levels.items (arc_of bounds other.link).to)) [
-            | inl none ↦ absurd (stays (subst (λ (l : Look). LeadsOn bounds start (level_at walk.levels.items) l.link) (sym same) (record { tight = tight; to = none })))
+            | inl none ↦ absurd (stays (rw same (record { tight = tight; to = none })))
             | inr (k, at) ↦
                 let w = h.so_far.steps in
                 let (place, below, is) = w.every _ k at in
@@ -250,5 +207,5 @@ module _ {A : Type 0} where
     steps = walk_goes_on searched.bounds start seen level (level_at walk.levels.items) walk.reached.items h.so_far.steps h.there (ap (level_at walk.levels.items) h.here ∙ h.marked)
         (λ link tight from.
         let (look, has, names) = is.every link tight.there (or_left _ _ (lt-ltb link.place searched.whole (omega (arith, tight.there)))) (from ∙ h.here) in
-        subst (λ l. IsFollowed searched.bounds (level_at walk.levels.items) l level) names (h.followed look has (subst (IsTight searched.bounds start) (sym names) tight)));
+        rw names at (h.followed look has (rw names tight)));
   }

@@ -167,14 +167,16 @@ pub record IsLook (bounds : List Difference) (event : ℕ) (look : Look) : Type 
 abbrev pub HasLink : List Look → Link → Type 0
 HasLink looks link = (look : Look) × Contains looks look × (look.link ≡ link)
 
--- there is a row for each of so many events; of the first links of the bounds, those of rank below `seen`, those that are to be are looked at in
--- the rows of the events at which they begin, and nothing else is, and the looks of each row stand in the order of their bounds
+-- of the links of rank below `seen` that begin at the event, those that are to be are looked at, and nothing else is, in the order of the bounds
+pub record IsRowTo (whole : ℕ) (bounds : List Difference) (event seen : ℕ) (row : List Look) : Type 0 where
+  pub every : (link : Link) → rank link < seen → IsListed whole bounds link → (arc_of bounds link).from ≡ event → HasLink row link
+  pub each : (look : Look) → Contains row look → IsLook bounds event look × (rank look.link < seen)
+  pub ordered : IsNonDecreasingBy (λ look. look.link.place) row
+
+-- there is such a row for each of so many events
 pub record AreRowsTo {A : Type 0} (whole : ℕ) (bounds : List Difference) (count seen : ℕ) (rows : List (Vec Look A)) : Type 0 where
   pub long : length rows ≡ count
-  pub every : (link : Link) → rank link < seen → IsListed whole bounds link → HasLink (row_of rows (arc_of bounds link).from) link
-  pub each : (x : ℕ) (look : Look) → Contains (row_of rows x) look → IsLook bounds x look
-  pub below : (x : ℕ) (look : Look) → Contains (row_of rows x) look → rank look.link < seen
-  pub ordered : (x : ℕ) → IsNonDecreasingBy (λ look. look.link.place) (row_of rows x)
+  pub row : (x : ℕ) → x < count → IsRowTo whole bounds x seen (row_of rows x)
 
 -- the links that were added are the first ones of the bounds, or of the bounds turned round
 pub record AreFirstRows {A : Type 0} (direction : Direction) (whole : ℕ) (bounds : List Difference) (count : ℕ) (rows : Rows A) : Type 0 where

@@ -1,42 +1,48 @@
 use Rattle.std.{proofs.{lemmas.{Grind.common_steps, Int.{ints, clamps}, List.Elements.{All-push, All-pop}}, Common.{rules, ◌≡◌, ℕ, ℤ, pos, ◌≤◌, ◌+ℤ◌, ◌-ℤ◌, ◌≤ℤ◌, neg_ℤ, List, [], ◌∷◌, ◌++◌, get_or, Some, sym, refl, subst, arith}}, specs.Prelude.All}
 use Rattle.stn_time.{specs.Time.horizon, proofs.Each.All-left}
-use Rattle.stn_net.{specs.{Difference.{Difference, NamesEvents}, Schedule.{IsSchedule, HasSchedule, Meets}, Matrix.{Table.{Table, far_of}, Tightest.IsExact, Closed.IsClosed, Way.{shorter, narrower, IsImplied, HasRoom}}}, proofs.Tightest.{IsTight, tight_from_exact, exact_from_tight}}
+use Rattle.stn_net.{specs.{Difference.{Difference, NamesEvents}, Schedule.{IsSchedule, HasSchedule, Meets}, Matrix.{Table.{Table, far_of}, Tightest.IsExact, Closed.{IsShortest, IsClosed}, Way.{shorter, narrower, IsImplied, HasRoom}}}, proofs.Tightest.{IsTight, tight_from_exact, exact_from_tight}}
 
--- a closed square stays closed by way of a link that closes no negative cycle
-pub shorter-closed : (events : ℕ) (far : ℕ → ℕ → ℤ) (u v : ℕ) (w : ℤ) → IsClosed events far → u ≤ events → v ≤ events → pos 0 ≤ℤ (far v u +ℤ w)
-    → IsClosed events (shorter far u v w)
-shorter-closed events far u v w closed us vs round = record {
+-- the shortest differences stay so by way of a link that closes no negative cycle
+pub shorter-shortest : (events : ℕ) (far : ℕ → ℕ → ℤ) (u v : ℕ) (w : ℤ) → IsShortest events far → u ≤ events → v ≤ events → pos 0 ≤ℤ (far v u +ℤ w)
+    → IsShortest events (shorter far u v w)
+shorter-shortest events far u v w shortest us vs round = record {
   itself = λ x xs.
-      let same = closed.itself x xs in
-      let back = closed.triangle v x u vs xs us in
+      let same = shortest.itself x xs in
+      let back = shortest.triangle v x u vs xs us in
       omega (arith, ints, clamps);
   triangle = λ x y z xs ys zs.
-      let a = closed.triangle x y z xs ys zs in
-      let b = closed.triangle v y z vs ys zs in
-      let c = closed.triangle x y u xs ys us in
-      let d = closed.triangle v y u vs ys us in
-      omega (arith, ints, clamps);
-  most = λ x y xs ys.
-      let most = closed.most x y xs ys in
+      let a = shortest.triangle x y z xs ys zs in
+      let b = shortest.triangle v y z vs ys zs in
+      let c = shortest.triangle x y u xs ys us in
+      let d = shortest.triangle v y u vs ys us in
       omega (arith, ints, clamps);
 }
+
+-- and a closed square closed
+pub shorter-closed : (events : ℕ) (far : ℕ → ℕ → ℤ) (u v : ℕ) (w : ℤ) → IsClosed events far → u ≤ events → v ≤ events → pos 0 ≤ℤ (far v u +ℤ w)
+    → IsClosed events (shorter far u v w)
+shorter-closed events far u v w closed us vs round = search (rules, ints, clamps, shorter-shortest, closed.shortest, closed.most)
 
 -- nor does a row whose way to the link's end is no shorter by the link
 pub shorter-kept_row : (events : ℕ) (far : ℕ → ℕ → ℤ) (u v : ℕ) (w : ℤ) → IsClosed events far → v ≤ events
     → (x y : ℕ) → x ≤ events → y ≤ events → far x v ≤ℤ (far x u +ℤ w) → shorter far u v w x y ≡ far x y
 shorter-kept_row events far u v w closed vs x y xs ys longer =
-    let onward = closed.triangle x v y xs vs ys in
+    let onward = closed.shortest.triangle x v y xs vs ys in
     omega (arith, ints, clamps)
 
 -- the way by the upper link leaves room for the lower one
-pub lower_round : (events : ℕ) (far : ℕ → ℕ → ℤ) (b : Difference) → IsClosed events far → NamesEvents events b → b.lo ≤ℤ b.hi → HasRoom far b
+pub lower_round : (events : ℕ) (far : ℕ → ℕ → ℤ) (b : Difference) → IsShortest events far → NamesEvents events b → b.lo ≤ℤ b.hi → HasRoom far b
     → pos 0 ≤ℤ (shorter far b.from b.to b.hi b.from b.to +ℤ neg_ℤ b.lo)
-lower_round events far b closed named ordered room = grind (arith, common_steps)
+lower_round events far b shortest named ordered room = grind (arith, common_steps)
 
--- a closed square stays closed by a bound that has room
+-- the same by a bound that has room
+pub narrower-shortest : (events : ℕ) (far : ℕ → ℕ → ℤ) (b : Difference) → IsShortest events far → NamesEvents events b → b.lo ≤ℤ b.hi → HasRoom far b
+    → IsShortest events (narrower far b)
+narrower-shortest events far b shortest named ordered room = search (rules, shorter-shortest, lower_round)
+
 pub narrower-closed : (events : ℕ) (far : ℕ → ℕ → ℤ) (b : Difference) → IsClosed events far → NamesEvents events b → b.lo ≤ℤ b.hi → HasRoom far b
     → IsClosed events (narrower far b)
-narrower-closed events far b closed named ordered room = search (rules, shorter-closed, lower_round)
+narrower-closed events far b closed named ordered room = search (rules, ints, clamps, narrower-shortest, closed.shortest, closed.most)
 
 -- a schedule of a longer list is one of its front, and meets the last bound
 pub schedule_before : (bounds more : List Difference) (time : ℕ → ℤ) → IsSchedule (bounds ++ more) time → IsSchedule bounds time
@@ -45,11 +51,13 @@ schedule_before bounds more time s = record { origin = s.origin; met = All-left 
 pub schedule_last : (bounds : List Difference) (b : Difference) (time : ℕ → ℤ) → IsSchedule (bounds ++ b ∷ []) time → Meets time b
 schedule_last bounds b time s = (All-pop (Meets time) (bounds ++ b ∷ []) bounds (Some b) refl s.met).1
 
--- equal entries are closed alike
-pub closed_same : (events : ℕ) (far other : ℕ → ℕ → ℤ) → ((x y : ℕ) → x ≤ events → y ≤ events → other x y ≡ far x y) → IsClosed events far → IsClosed events other
-closed_same events far other same closed = grind (arith)
+-- equal entries are alike
+pub shortest_same : (events : ℕ) (far other : ℕ → ℕ → ℤ) → ((x y : ℕ) → x ≤ events → y ≤ events → other x y ≡ far x y) → IsShortest events far → IsShortest events other
+shortest_same events far other same shortest = grind (arith)
 
--- equal entries are tight alike
+pub closed_same : (events : ℕ) (far other : ℕ → ℕ → ℤ) → ((x y : ℕ) → x ≤ events → y ≤ events → other x y ≡ far x y) → IsClosed events far → IsClosed events other
+closed_same events far other same closed = record { shortest = shortest_same events far other same closed.shortest; most = grind (arith) }
+
 pub tight_same : (bounds : List Difference) (events : ℕ) (far other : ℕ → ℕ → ℤ) → All (NamesEvents events) bounds
     → ((x y : ℕ) → x ≤ events → y ≤ events → other x y ≡ far x y) → IsTight bounds events far → IsTight bounds events other
 tight_same bounds events far other named same tight = grind (arith)
@@ -75,23 +83,20 @@ narrower_sound time events far b named sound met =
 narrower_at_most : (far : ℕ → ℕ → ℤ) (b : Difference) (x y : ℕ) → narrower far b x y ≤ℤ far x y
 narrower_at_most far b x y = omega (arith, ints, clamps)
 
-narrower_upper : (events : ℕ) (far : ℕ → ℕ → ℤ) (b : Difference) → IsClosed events far → NamesEvents events b → narrower far b b.from b.to ≤ℤ b.hi
-narrower_upper events far b closed named = grind (arith, common_steps)
-
-narrower_lower : (events : ℕ) (far : ℕ → ℕ → ℤ) (b : Difference) → IsClosed events far → NamesEvents events b → b.lo ≤ℤ neg_ℤ (narrower far b b.to b.from)
-narrower_lower events far b closed named = grind (arith, common_steps)
+narrower_implied : (events : ℕ) (far : ℕ → ℕ → ℤ) (b : Difference) → IsShortest events far → NamesEvents events b → IsImplied (narrower far b) b
+narrower_implied events far b shortest named = record { upper = grind (arith, common_steps); lower = grind (arith, common_steps) }
 
 -- a tight square is tight for one more bound by way of its links
-pub narrower-tight : (bounds : List Difference) (events : ℕ) (far : ℕ → ℕ → ℤ) (b : Difference) → IsClosed events far → NamesEvents events b
+pub narrower-tight : (bounds : List Difference) (events : ℕ) (far : ℕ → ℕ → ℤ) (b : Difference) → IsShortest events far → NamesEvents events b
     → IsTight bounds events far → IsTight (bounds ++ b ∷ []) events (narrower far b)
-narrower-tight bounds events far b closed named tight = record {
+narrower-tight bounds events far b shortest named tight = record {
   sound = λ time s. narrower_sound time events far b named (tight.sound time (schedule_before bounds (b ∷ []) time s)) (schedule_last bounds b time s);
-  upper = All-push (λ d. narrower far b d.from d.to ≤ℤ d.hi) bounds b
-      (λ k d h. let at = get_or bounds k d in let most = narrower_at_most far b at.from at.to in let upper = tight.upper k d h in omega (arith, ints))
-      (narrower_upper events far b closed named);
-  lower = All-push (λ d. d.lo ≤ℤ neg_ℤ (narrower far b d.to d.from)) bounds b
-      (λ k d h. let at = get_or bounds k d in let most = narrower_at_most far b at.to at.from in let lower = tight.lower k d h in omega (arith, ints))
-      (narrower_lower events far b closed named);
+  implied = All-push (IsImplied (narrower far b)) bounds b (λ k d h.
+      let at = get_or bounds k d in
+      let forth = narrower_at_most far b at.from at.to in
+      let back = narrower_at_most far b at.to at.from in
+      let implied = tight.implied k d h in
+      record { upper = omega (arith, ints); lower = omega (arith, ints) }) (narrower_implied events far b shortest named);
 }
 
 -- a tight square is tight for an implied bound as it is
@@ -99,8 +104,7 @@ pub implied-tight : (bounds : List Difference) (events : ℕ) (far : ℕ → ℕ
     → IsTight bounds events far → IsTight (bounds ++ b ∷ []) events far
 implied-tight bounds events far b implied tight = record {
   sound = λ time s. tight.sound time (schedule_before bounds (b ∷ []) time s);
-  upper = All-push (λ d. far d.from d.to ≤ℤ d.hi) bounds b tight.upper implied.upper;
-  lower = All-push (λ d. d.lo ≤ℤ neg_ℤ (far d.to d.from)) bounds b tight.lower (omega (arith, ints, implied.lower));
+  implied = All-push (IsImplied far) bounds b tight.implied implied;
 }
 
 -- where the list followed by the bound has a schedule, the bound has room
@@ -114,32 +118,22 @@ room_from_schedule bounds table b named exact s =
 
 -- the table by way of the bound's links is exact for the list followed by the bound
 pub exact_narrower : (bounds : List Difference) (table other : Table) (b : Difference) → NamesEvents table.events b
-    → IsClosed table.events (far_of table) → IsClosed other.events (far_of other)
+    → IsShortest table.events (far_of table) → IsShortest other.events (far_of other)
     → other.events ≡ table.events → ((x y : ℕ) → x ≤ table.events → y ≤ table.events → far_of other x y ≡ narrower (far_of table) b x y)
     → IsExact bounds table → IsExact (bounds ++ b ∷ []) other
-exact_narrower bounds table other b ends closed other_closed events same exact =
+exact_narrower bounds table other b ends shortest other_shortest events same exact =
     let named : All (NamesEvents table.events) (bounds ++ b ∷ []) = All-push (NamesEvents table.events) bounds b exact.named ends in
     let tight : IsTight (bounds ++ b ∷ []) table.events (far_of other) =
     tight_same (bounds ++ b ∷ []) table.events (narrower (far_of table) b) (far_of other) named same
-    (narrower-tight bounds table.events (far_of table) b closed ends (tight_from_exact bounds table exact)) in
-    let P : ℕ → Type 0 = λ n. IsTight (bounds ++ b ∷ []) n (far_of other) in
-    exact_from_tight (bounds ++ b ∷ []) other (rw events named) other_closed (subst P (sym events) tight)
-
--- an implied bound leaves the table exact
-pub exact_implied : (bounds : List Difference) (table other : Table) (b : Difference) → NamesEvents table.events b
-    → IsClosed other.events (far_of other) → other.events ≡ table.events → other.entries ≡ table.entries → IsImplied (far_of table) b
-    → IsExact bounds table → IsExact (bounds ++ b ∷ []) other
-exact_implied bounds table other b ends closed events entries implied exact =
-    let named : All (NamesEvents table.events) (bounds ++ b ∷ []) = All-push (NamesEvents table.events) bounds b exact.named ends in
-    let tight : IsTight (bounds ++ b ∷ []) table.events (far_of table) = implied-tight bounds table.events (far_of table) b implied (tight_from_exact bounds table exact) in
-    exact_from_tight (bounds ++ b ∷ []) other (rw events named) closed (rw (events, entries) tight)
+    (narrower-tight bounds table.events (far_of table) b shortest ends (tight_from_exact bounds table exact)) in
+    exact_from_tight (bounds ++ b ∷ []) other (rw events named) other_shortest (subst (λ n. IsTight (bounds ++ b ∷ []) n (far_of other)) (sym events) tight)
 
 -- no entry of a closed square is beyond the horizon, on either side of 0
 pub closed_within : (events : ℕ) (far : ℕ → ℕ → ℤ) → IsClosed events far → (x y : ℕ) → x ≤ events → y ≤ events
     → (neg_ℤ horizon ≤ℤ far x y) × (far x y ≤ℤ horizon)
 closed_within events far closed x y xs ys =
-    let itself = closed.itself x xs in
-    let round = closed.triangle x y x xs ys xs in
+    let itself = closed.shortest.itself x xs in
+    let round = closed.shortest.triangle x y x xs ys xs in
     let most = closed.most y x ys xs in
     (omega (arith, ints), closed.most x y xs ys)
 
@@ -153,11 +147,12 @@ pub record IsTightened (table other : Table) (b : Difference) : Type 0 where
 pub tightened_implied : (table other : Table) (b : Difference) → IsClosed table.events (far_of table) → NamesEvents table.events b → IsImplied (far_of table) b
     → other.events ≡ table.events → other.entries ≡ table.entries → IsTightened table other b
 tightened_implied table other b closed named implied events entries =
-    let other_closed : IsClosed other.events (far_of other) = rw (events, entries) closed in
+    let here : IsClosed other.events (far_of other) = rw (events, entries) closed in
     record {
-      closed = other_closed;
+      closed = here;
       events = events;
-      exact = λ bounds exact. exact_implied bounds table other b named other_closed events entries implied exact;
+      exact = λ bounds exact. exact_from_tight (bounds ++ b ∷ []) other (rw events (All-push (NamesEvents table.events) bounds b exact.named named)) here.shortest
+          (rw (events, entries) (implied-tight bounds table.events (far_of table) b implied (tight_from_exact bounds table exact)));
     }
 
 -- the differences by way of the bound's sides tighten the table
@@ -169,10 +164,5 @@ tightened_narrower table other b closed named events here same =
     record {
       closed = other_closed;
       events = events;
-      exact = λ bounds exact. exact_narrower bounds table other b named closed other_closed events same exact;
+      exact = λ bounds exact. exact_narrower bounds table other b named closed.shortest other_closed.shortest events same exact;
     }
-
--- a bound without room has no schedule together with the list
-pub no_room : (bounds : List Difference) (table : Table) (b : Difference) → NamesEvents table.events b → ¬ HasRoom (far_of table) b → IsExact bounds table
-    → ¬ HasSchedule (bounds ++ b ∷ [])
-no_room bounds table b named none exact s = none (room_from_schedule bounds table b named exact s)

@@ -1,18 +1,11 @@
-use Rattle.std.{proofs.{lemmas.{Grind.common_steps, Bool.{cases_lt, false≢true}, Int.{ints, by_lt_z}}, Common.{rules, ◌≡◌, ℕ, ℤ, ◌+◌, ◌<◌, ◌≤◌, ◌≤ℤ◌, ◌<ℤ◌, Bool, true, false, List, length, Option, Some, None, refl, sym, arith}}, specs.Prelude.{int_le, is_none, IfSome, IfNone}}
-use Rattle.stn_net.{specs.{Difference.Difference, Matrix.{Table.{Table, far_of}, Tightest.IsExact}, Windows.{Dispatch.{IsLeft, IsReady, IsFirstReady, ComesFirst}, Leading.{earliest, MayLead, NonePast, CanLead, IsFirstPast, IsLeastLeader, IsEarliestBelow, IsEarliestSoFar, earlier_of}}}, proofs.Readiness.{left_within, exact_triangle, exact_itself, ready_now, ready_can_lead, ready_none_past}}
+use Rattle.std.{proofs.{lemmas.{Grind.common_steps, Bool.{cases_lt, false≢true}, Int.{ints, by_lt_z}}, Common.{rules, ◌≡◌, ℕ, ℤ, ◌+◌, ◌<◌, ◌≤◌, ◌≤ℤ◌, ◌<ℤ◌, ◌↔◌, Bool, true, false, List, length, Option, Some, None, refl, arith}}, specs.Prelude.{int_le, is_none, IfSome, IfNone}}
+use Rattle.stn_net.{specs.{Difference.Difference, Matrix.{Table.{Table, far_of}, Tightest.IsExact}, Windows.{Dispatch.{IsLeft, IsFirstReady, ComesFirst}, Leading.{earliest, MayLead, NonePast, CanLead, IsFirstPast, IsLeastLeader, IsEarliestBelow, IsEarliestSoFar, earlier_of}}}, proofs.{Tightest.shortest_from_exact, Readiness.{left_within, ready_now, ready_can_lead}}}
 
--- what a look for the first event whose latest time has passed says where it finds none
-pub none_is_past : (latest : ℕ → ℤ) (done : List Bool) (time : ℤ) (found : Option ℕ) → is_none found ≡ true → IfNone found (NonePast latest done time) → NonePast latest done time
-none_is_past latest done time None test none = none
-none_is_past latest done time (Some event) test none = absurd (false≢true test)
-
--- and where it finds one, nothing is ready then
-pub past_none_ready : (bounds : List Difference) (table : Table) (done : List Bool) (time : ℤ) (event : ℕ) (found : Option ℕ) → IsExact bounds table → length done ≡ table.events + 1
-    → is_none found ≡ false → IfSome found (IsFirstPast (far_of table 0) done time) → ¬ IsReady bounds done event time
-past_none_ready bounds table done time event None exact one_each test past ready = false≢true (sym test)
-past_none_ready bounds table done time event (Some other) exact one_each test past ready =
-    let before = ready_none_past bounds table done event time exact one_each ready other past.left in
-    absurd (omega (arith, ints))
+-- a look for the first event whose latest time has passed finds none exactly where none has
+pub past_told : (latest : ℕ → ℤ) (done : List Bool) (time : ℤ) (found : Option ℕ) → IfSome found (IsFirstPast latest done time) → IfNone found (NonePast latest done time)
+    → (is_none found ≡ true) ↔ NonePast latest done time
+past_told latest done time None past none = (λ yes. none, λ is. refl)
+past_told latest done time (Some event) past none = (λ yes. absurd (false≢true yes), λ is. (let late = is event past.left in absurd (omega (arith, ints, past.past))))
 
 -- the least event that can lead runs first, now
 pub leader_is_first : (bounds : List Difference) (table : Table) (done : List Bool) (now : ℤ) (run : ℤ × ℕ) → IsExact bounds table → length done ≡ table.events + 1
@@ -31,17 +24,18 @@ pub earliest_is_first : (bounds : List Difference) (table : Table) (done : List 
 earliest_is_first bounds table done now run exact one_each none first =
     let event = run.1 in
     let within : event ≤ table.events = omega (arith, left_within done event first.left) in
-    let itself = exact_itself bounds table 0 exact (omega arith) in
+    let shortest = shortest_from_exact bounds table exact in
+    let itself = shortest.itself 0 (omega arith) in
     let leads : MayLead (far_of table) done event = λ other left.
     let others = left_within done other left in
     let sooner = (first.first other others left).0 in
-    let round = exact_triangle bounds table event other 0 exact within (omega arith) (omega arith) in
+    let round = shortest.triangle event other 0 within (omega arith) (omega arith) in
     omega (arith, ints) in
     let can : CanLead (far_of table) done run.0 event = record { left = first.left; come = omega (arith, ints); leads = leads } in
     let in_time : NonePast (far_of table 0) done run.0 = λ other left.
     let others = left_within done other left in
     let sooner = (first.first other others left).0 in
-    let round = exact_triangle bounds table 0 other 0 exact (omega arith) (omega arith) (omega arith) in
+    let round = shortest.triangle 0 other 0 (omega arith) (omega arith) (omega arith) in
     omega (arith, ints) in
     record {
       ready = ready_now bounds table done event run.0 exact one_each can in_time;

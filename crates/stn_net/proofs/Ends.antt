@@ -1,6 +1,6 @@
 -- The earliest and the latest times of a plan's events.
-use Rattle.std.{proofs.{Common.{◌≡◌, ℕ, ℤ, ◌+◌, ◌≤◌, ◌<ℤ◌, ◌↔◌, neg_ℤ, Bool, List, length, get_or, arith}, lemmas.Int.{ints, by_lt_z}}, specs.Prelude.All}
-use Rattle.stn_net.{specs.{Difference.{Difference, NamesEvents}, Schedule.IsSchedule, Matrix.{Table.{Table, far_of}, Tightest.{IsTightest, IsExact}}, Windows.{Dispatch.{IsLeft, HasTimeFrom, IsOverdue, CanWaitUntil}, Leading.{NonePast, IsFirstPast}, Soonest.{AreEarliest, AreLatest}}}, proofs.Readiness.left_within}
+use Rattle.std.{proofs.{Common.{◌≡◌, ℕ, ℤ, ◌+◌, ◌≤◌, ◌<ℤ◌, ◌≤ℤ◌, ◌↔◌, ◌⊎◌, inl, inr, neg_ℤ, Bool, List, length, get_or, arith}, lemmas.Int.{ints, by_lt_z}}, specs.Prelude.All}
+use Rattle.stn_net.{specs.{Difference.{Difference, NamesEvents}, Schedule.IsSchedule, Matrix.{Table.{Table, far_of}, Tightest.{IsTightest, IsExact}}, Windows.{Window.IsInWindow, Dispatch.{IsLeft, HasTimeFrom, IsOverdue, CanWaitUntil}, Leading.{NonePast, IsFirstPast}, Soonest.{AreEarliest, AreLatest}}}, proofs.Readiness.left_within}
 
 -- how far the origin comes after each event at the most gives the earliest times
 pub earliest_of_tightest : (bounds : List Difference) (events : ℕ) (back : ℕ → ℤ) → ((event : ℕ) → event ≤ events → IsTightest bounds event 0 (back event))
@@ -30,37 +30,30 @@ latest_of_tightest bounds events far tightest = record {
 pub latest_of_exact : (bounds : List Difference) (table : Table) → IsExact bounds table → AreLatest bounds table.events (far_of table 0)
 latest_of_exact bounds table exact = latest_of_tightest bounds table.events (far_of table 0) (λ event within. exact.far 0 event (omega arith) within)
 
--- the earliest times are a schedule
-pub earliest_schedule : (bounds : List Difference) (events : ℕ) (times : ℕ → ℤ) → All (NamesEvents events) bounds → AreEarliest bounds events times → IsSchedule bounds times
-earliest_schedule bounds events times named are = record {
-  origin = (let (first, schedule, at) = are.taken 0 (omega arith) in let origin = schedule.origin in omega (arith, ints));
+-- times that are each taken in some schedule, and all come no later than those of any, or all no earlier, are a schedule
+extreme_schedule : (bounds : List Difference) (events : ℕ) (times : ℕ → ℤ) → All (NamesEvents events) bounds → ((event : ℕ) → event ≤ events → IsInWindow bounds event (times event))
+    → ((others : ℕ → ℤ) → IsSchedule bounds others → (event : ℕ) → event ≤ events → times event ≤ℤ others event)
+    ⊎ ((others : ℕ → ℤ) → IsSchedule bounds others → (event : ℕ) → event ≤ events → others event ≤ℤ times event) → IsSchedule bounds times
+extreme_schedule bounds events times named taken side = record {
+  origin = (let (first, schedule, at) = taken 0 (omega arith) in let origin = schedule.origin in omega (arith, ints));
   met = λ k d below.
       let b = get_or bounds k d in
       let ends = named k d below in
-      let (one, is_one, at_from) = are.taken b.from ends.from in
-      let (other, is_other, at_to) = are.taken b.to ends.to in
+      let (one, is_one, at_from) = taken b.from ends.from in
+      let (other, is_other, at_to) = taken b.to ends.to in
       let (low, high) = is_one.met k d below in
       let (other_low, other_high) = is_other.met k d below in
-      let to = are.least one is_one b.to ends.to in
-      let from = are.least other is_other b.from ends.from in
-      (omega (arith, ints), omega (arith, ints));
+      elim side [
+        | inl least ↦ (let to = least one is_one b.to ends.to in let from = least other is_other b.from ends.from in (omega (arith, ints), omega (arith, ints)))
+        | inr most ↦ (let to = most one is_one b.to ends.to in let from = most other is_other b.from ends.from in (omega (arith, ints), omega (arith, ints)))
+      ];
 }
 
--- so are the latest
+pub earliest_schedule : (bounds : List Difference) (events : ℕ) (times : ℕ → ℤ) → All (NamesEvents events) bounds → AreEarliest bounds events times → IsSchedule bounds times
+earliest_schedule bounds events times named are = extreme_schedule bounds events times named are.taken (inl are.least)
+
 pub latest_schedule : (bounds : List Difference) (events : ℕ) (times : ℕ → ℤ) → All (NamesEvents events) bounds → AreLatest bounds events times → IsSchedule bounds times
-latest_schedule bounds events times named are = record {
-  origin = (let (first, schedule, at) = are.taken 0 (omega arith) in let origin = schedule.origin in omega (arith, ints));
-  met = λ k d below.
-      let b = get_or bounds k d in
-      let ends = named k d below in
-      let (one, is_one, at_from) = are.taken b.from ends.from in
-      let (other, is_other, at_to) = are.taken b.to ends.to in
-      let (low, high) = is_one.met k d below in
-      let (other_low, other_high) = is_other.met k d below in
-      let to = are.most one is_one b.to ends.to in
-      let from = are.most other is_other b.from ends.from in
-      (omega (arith, ints), omega (arith, ints));
-}
+latest_schedule bounds events times named are = extreme_schedule bounds events times named are.taken (inr are.most)
 
 module _ (bounds : List Difference) (events : ℕ) (latest : ℕ → ℤ) (done : List Bool) (are : AreLatest bounds events latest) (one_each : length done ≡ events + 1) where
   -- an event that is left is one of the plan's

@@ -1,4 +1,4 @@
-use Rattle.std.{proofs.{lemmas.{Grind.common_steps, Int.{ints, clamps}, Bool.{cases_eq, cases_lt}, Nat.{mul-add-lt, same_from_place}, List.{get_or_default, Elements.{All-push, Contains-push, Contains-append_left}}}, Common.{rules, ◌≡◌, ◌≢◌, ℕ, ℤ, pos, ◌+◌, ◌*◌, ◌<◌, ◌≤◌, ◌+ℤ◌, ◌≤ℤ◌, ◌<ℤ◌, ◌⊎◌, neg_ℤ, inl, inr, List, [], ◌∷◌, ◌++◌, length, set, refl, ap, sym, ◌∙◌, arith, get_or-set_same, get_or-set_other}}, specs.{Prelude.{All, Contains, slice_index_or}, Int.int_min}}
+use Rattle.std.{proofs.{lemmas.{Grind.common_steps, Int.{ints, clamps}, Bool.{cases_eq, cases_lt}, Nat.{mul-add-lt, same_from_place}, List.{get_or_default, Elements.{All-push, Contains-push, Contains-append_left}}}, Common.{rules, ◌≡◌, ◌≢◌, ℕ, ℤ, pos, ◌+◌, ◌*◌, ◌<◌, ◌≤◌, ◌+ℤ◌, ◌≤ℤ◌, ◌<ℤ◌, ◌⊎◌, inl, inr, List, [], ◌∷◌, ◌++◌, length, set, refl, sym, ◌∙◌, arith, get_or-set_same, get_or-set_other}}, specs.{Prelude.{All, Contains, slice_index_or}, Int.int_min}}
 use Rattle.stn_time.specs.Time.{horizon}
 use Rattle.stn_net.{specs.Matrix.{Closed.IsClosed, Table.{Square, entry}, Way.{IsWholeSquare, shorter, IsWithinTwoHorizons, AreNearer, AreRunsOf, IsWrittenEntry, IsRowShortened}}, proofs.Closure.shorter-kept_row}
 
@@ -43,18 +43,8 @@ shortened_column size old new next onward through columns place so_far within th
       | inr own ↦ omega (arith, ints, clamps)
     ] in
     record {
-      here = λ k before below. elim (cases_eq (slice_index_or columns k 0) column) [
-        | inl e ↦ rw e least
-        | inr ne ↦ (others (slice_index_or columns k 0) (within k 0 below) ne
-            ∙ so_far.here k (let differs : k ≢ place = λ same. ne (ap (λ k. slice_index_or columns k 0) same) in omega arith) below)
-      ];
-      either = λ y ys. elim (cases_eq y column) [
-        | inl e ↦ inr (rw e least)
-        | inr ne ↦ elim (so_far.either y ys) [
-          | inl own ↦ inl (others y ys ne ∙ own)
-          | inr own ↦ inr (others y ys ne ∙ own)
-        ]
-      ];
+      here = λ k before below. search (rules, cases_eq);
+      either = λ y ys. search (rules, cases_eq);
     }
 
 -- the run of a column that comes no nearer
@@ -106,32 +96,33 @@ nearer_more events far u v w columns column so_far cs = record {
   ];
 }
 
--- a column that comes no nearer to u by way of v comes no nearer to any row's event
-pub kept_column : (events : ℕ) (far : ℕ → ℕ → ℤ) (u v : ℕ) (w : ℤ) → IsClosed events far → u ≤ events
-    → (x y : ℕ) → x ≤ events → y ≤ events → far u y ≤ℤ (w +ℤ far v y) → far x y ≤ℤ ((far x u +ℤ w) +ℤ far v y)
-kept_column events far u v w closed us x y xs ys longer =
-    let onward = closed.triangle x u y xs us ys in
-    omega (arith, ints)
-
--- the rows before this one are shorter already by way of the link, and the others are as they were
+-- the rows before this one are shorter already by way of a link that closes no negative cycle, and the others are as they were
 pub record IsShortenedTo (events : ℕ) (old new : ℕ → ℕ → ℤ) (u v : ℕ) (w : ℤ) (row : ℕ) : Type 0 where
+  pub closed : IsClosed events old
+  pub from : u ≤ events
+  pub to : v ≤ events
+  pub round : pos 0 ≤ℤ (old v u +ℤ w)
   pub here : (x y : ℕ) → x < row → x ≤ events → y ≤ events → new x y ≡ shorter old u v w x y
   pub left : (x y : ℕ) → row ≤ x → x ≤ events → y ≤ events → new x y ≡ old x y
 
 -- the row that the link leads to is as it was all the while
 pub shortened-own_row : (events : ℕ) (old new : ℕ → ℕ → ℤ) (u v : ℕ) (w : ℤ) (row : ℕ) → IsShortenedTo events old new u v w row
-    → u ≤ events → v ≤ events → pos 0 ≤ℤ (old v u +ℤ w) → (y : ℕ) → y ≤ events → new v y ≡ old v y
-shortened-own_row events old new u v w row so_far us vs round y ys = grind (arith, common_steps, cases_lt)
+    → (y : ℕ) → y ≤ events → new v y ≡ old v y
+shortened-own_row events old new u v w row so_far y ys = (let to = so_far.to in grind (arith, common_steps, cases_lt))
 
 -- the row as it was
 pub shortened_skip : (events : ℕ) (old new : ℕ → ℕ → ℤ) (u v : ℕ) (w : ℤ) (row : ℕ) → IsShortenedTo events old new u v w row
-    → IsClosed events old → u ≤ events → v ≤ events → row ≤ events → new row v ≤ℤ (new row u +ℤ w) → IsShortenedTo events old new u v w (row + 1)
-shortened_skip events old new u v w row so_far closed us vs rs longer =
-    let own = so_far.left row v (omega arith) rs vs in
-    let way = so_far.left row u (omega arith) rs us in
+    → row ≤ events → new row v ≤ℤ (new row u +ℤ w) → IsShortenedTo events old new u v w (row + 1)
+shortened_skip events old new u v w row so_far rs longer =
+    let own = so_far.left row v (omega arith) rs so_far.to in
+    let way = so_far.left row u (omega arith) rs so_far.from in
     record {
+      closed = so_far.closed;
+      from = so_far.from;
+      to = so_far.to;
+      round = so_far.round;
       here = λ x y h xs ys. elim (cases_eq x row) [
-        | inl e ↦ (let kept = shorter-kept_row events old u v w closed vs row y rs ys (omega (arith, ints)) in rw e (so_far.left row y (omega arith) rs ys ∙ sym kept))
+        | inl e ↦ (let kept = shorter-kept_row events old u v w so_far.closed so_far.to row y rs ys (omega (arith, ints)) in rw e (so_far.left row y (omega arith) rs ys ∙ sym kept))
         | inr ne ↦ so_far.here x y (omega arith) xs ys
       ];
       left = λ x y h xs ys. so_far.left x y (omega arith) xs ys;
@@ -139,28 +130,22 @@ shortened_skip events old new u v w row so_far closed us vs rs longer =
 
 -- the row by way of the link
 pub shortened_turn : (events : ℕ) (old new next : ℕ → ℕ → ℤ) (u v : ℕ) (w : ℤ) (row : ℕ) → IsShortenedTo events old new u v w row
-    → u ≤ events → v ≤ events → pos 0 ≤ℤ (old v u +ℤ w) → row ≤ events
-    → IsRowShortened events new next row v (new row u +ℤ w) → IsShortenedTo events old next u v w (row + 1)
-shortened_turn events old new next u v w row so_far us vs round rs turned = record {
+    → row ≤ events → IsRowShortened events new next row v (new row u +ℤ w) → IsShortenedTo events old next u v w (row + 1)
+shortened_turn events old new next u v w row so_far rs turned = record {
+  closed = so_far.closed;
+  from = so_far.from;
+  to = so_far.to;
+  round = so_far.round;
   here = λ x y h xs ys. elim (cases_eq x row) [
     | inl e ↦ (
         let own = so_far.left row y (omega arith) rs ys in
-        let way = so_far.left row u (omega arith) rs us in
-        let onward = shortened-own_row events old new u v w row so_far us vs round y ys in
+        let way = so_far.left row u (omega arith) rs so_far.from in
+        let onward = shortened-own_row events old new u v w row so_far y ys in
         rw e (turned.here y ys ∙ (rw (own, way, onward) refl)))
     | inr ne ↦ (turned.others x y xs ys ne ∙ so_far.here x y (omega arith) xs ys)
   ];
   left = λ x y h xs ys. turned.others x y xs ys (omega arith) ∙ so_far.left x y (omega arith) xs ys;
 }
-
--- the differences by way of the row's own event and the link's end do not pass the least, minus the horizon
-pub least_way : (events : ℕ) (far : ℕ → ℕ → ℤ) (u v : ℕ) (w : ℤ) → IsClosed events far → u ≤ events → v ≤ events → pos 0 ≤ℤ (far v u +ℤ w)
-    → (x y : ℕ) → x ≤ events → y ≤ events → neg_ℤ horizon ≤ℤ ((far x u +ℤ w) +ℤ far v y)
-least_way events far u v w closed us vs round x y xs ys =
-    let back = closed.triangle v x u vs xs us in
-    let onward = closed.triangle v y x vs ys xs in
-    let most = closed.most y x ys xs in
-    omega (arith, ints)
 
 -- a row from which v comes nearer by way of the arc is not v's own, and no sum of its differences goes beyond reach
 pub record IsNearerRow (events : ℕ) (far : ℕ → ℕ → ℤ) (row v : ℕ) (through : ℤ) : Type 0 where
@@ -168,37 +153,35 @@ pub record IsNearerRow (events : ℕ) (far : ℕ → ℕ → ℤ) (row v : ℕ) 
   pub ways : (y : ℕ) → y ≤ events → IsWithinTwoHorizons (through +ℤ far v y)
 
 pub nearer_row : (events : ℕ) (old new : ℕ → ℕ → ℤ) (u v : ℕ) (w : ℤ) (row : ℕ) (through : ℤ) → IsShortenedTo events old new u v w row
-    → IsClosed events old → u ≤ events → v ≤ events → pos 0 ≤ℤ (old v u +ℤ w) → row ≤ events
-    → through ≡ (new row u +ℤ w) → through <ℤ new row v → IsNearerRow events new row v through
-nearer_row events old new u v w row through so_far closed us vs round rs is nearer =
-    let start = so_far.left row u (omega arith) rs us in
-    let end = so_far.left row v (omega arith) rs vs in
-    let most = closed.most row v rs vs in
-    let itself = closed.itself v vs in
+    → row ≤ events → through ≡ (new row u +ℤ w) → through <ℤ new row v → IsNearerRow events new row v through
+nearer_row events old new u v w row through so_far rs is nearer =
+    let closed = so_far.closed in
+    let round = so_far.round in
+    let start = so_far.left row u (omega arith) rs so_far.from in
+    let end = so_far.left row v (omega arith) rs so_far.to in
+    let most = closed.most row v rs so_far.to in
     record {
-      apart = λ e.
-          let own : old row v ≡ old v v = ap (λ x. old x v) e in
-          let way : old row u ≡ old v u = ap (λ x. old x u) e in
-          omega (arith, ints);
+      apart = λ e. search (rules, ints);
       ways = λ y ys.
-          let onward = shortened-own_row events old new u v w row so_far us vs round y ys in
-          let far = closed.most v y vs ys in
-          let below = least_way events old u v w closed us vs round row y rs ys in
+          let own = shortened-own_row events old new u v w row so_far y ys in
+          let far = closed.most v y so_far.to ys in
+          let back = closed.shortest.triangle v row u so_far.to rs so_far.from in
+          let onward = closed.shortest.triangle v y row so_far.to ys rs in
+          let near = closed.most y row ys rs in
           (omega (arith, ints), omega (arith, ints));
     }
 
 -- in the row the columns that are not listed do not come nearer
 pub row_left_out : (events : ℕ) (old new : ℕ → ℕ → ℤ) (u v : ℕ) (w : ℤ) (row : ℕ) (columns : List ℕ) (through : ℤ) → IsShortenedTo events old new u v w row
-    → IsClosed events old → u ≤ events → v ≤ events → pos 0 ≤ℤ (old v u +ℤ w) → row ≤ events
-    → through ≡ (new row u +ℤ w) → AreNearer events old u v w columns (events + 1)
+    → row ≤ events → through ≡ (new row u +ℤ w) → AreNearer events old u v w columns (events + 1)
     → (y : ℕ) → y ≤ events → Contains columns y ⊎ (new row y ≤ℤ (through +ℤ new v y))
-row_left_out events old new u v w row columns through so_far closed us vs round rs is listed y ys =
-    let start = so_far.left row u (omega arith) rs us in
+row_left_out events old new u v w row columns through so_far rs is listed y ys =
+    let start = so_far.left row u (omega arith) rs so_far.from in
     let own = so_far.left row y (omega arith) rs ys in
-    let onward = shortened-own_row events old new u v w row so_far us vs round y ys in
+    let onward = shortened-own_row events old new u v w row so_far y ys in
     elim (listed.left_out y (omega arith)) [
       | inl there ↦ inl there
-      | inr longer ↦ inr (let kept = kept_column events old u v w closed us row y rs ys longer in omega (arith, ints))
+      | inr longer ↦ inr (let way = so_far.closed.shortest.triangle row u y rs so_far.from ys in omega (arith, ints))
     ]
 
 -- the rows before this one hold the widest differences already, and the others the horizon

@@ -1,4 +1,4 @@
-use Rattle.std.{proofs.{Common.{◌≡◌, ℕ, ℤ, true, Bool, List, [], ◌∷◌, ◌++◌, refl, sym, subst, arith}, lemmas.Int.ints}, specs.Prelude.slice_set}
+use Rattle.std.{proofs.{Common.{◌≡◌, ℕ, ℤ, true, Bool, List, [], ◌∷◌, ◌++◌, refl, sym, arith}, lemmas.Int.ints}, specs.Prelude.slice_set}
 use Rattle.stn_net.specs.{Difference.Difference, declared.windows.answers.Next.{Next, TheVariants.{Run, AllDone, Overdue}}, Windows.{Dispatch.{IsFirstReady, IsOverdue, IsNext}, Rehearsal.{fixed_at, IsRehearsal}}}
 
 -- two runs that both come first are one
@@ -31,7 +31,7 @@ one_rehearsal (run ∷ runs) (other ∷ others) bounds done now p q =
     let same = one_first bounds done now run.0 other.0 run.1 other.1 p.0 q.0 in
     let first : run ≡ other = rw (same.0, same.1) refl in
     let P : ℤ × ℕ → Type 0 = λ r. IsRehearsal (bounds ++ fixed_at r.0 r.1 ∷ []) (slice_set done r.1 true) r.0 runs in
-    let rest : runs ≡ others = one_rehearsal runs others (bounds ++ fixed_at other.0 other.1 ∷ []) (slice_set done other.1 true) other.0 (subst P first p.1) q.1 in
+    let rest : runs ≡ others = one_rehearsal runs others (bounds ++ fixed_at other.0 other.1 ∷ []) (slice_set done other.1 true) other.0 (rw first at p.1) q.1 in
     rw (first, rest) refl
 
 -- no event is overdue in a plan that has a rehearsal

@@ -1,5 +1,5 @@
-use Rattle.std.{proofs.{Common.{rules, ◌≡◌, ℕ, ℤ, ◌+◌, ◌<◌, ◌≤◌, ◌+ℤ◌, ◌≤ℤ◌, pos, inl, inr, List, length, set, arith}, lemmas.{Int.ints, List.Sorted.{All-permutation, Contains-permutation}}}, specs.{Prelude.{All, slice_index_or}, List.Sorted.IsPermutation}}
-use Rattle.stn_net.{specs.Matrix.{Closed.IsClosed, Way.{AreNearer, IsOnWay, AreRuns, AreRunsOf}}, proofs.Entries.{IsShortenedTo, shortened-own_row}}
+use Rattle.std.{proofs.{Common.{rules, ◌≡◌, ℕ, ℤ, ◌+◌, ◌<◌, ◌≤◌, ◌+ℤ◌, inl, inr, List, length, set, arith}, lemmas.{Int.ints, List.Sorted.{All-permutation, Contains-permutation}}}, specs.{Prelude.{All, slice_index_or}, List.Sorted.IsPermutation}}
+use Rattle.stn_net.{specs.Matrix.Way.{AreNearer, IsOnWay, AreRuns, AreRunsOf}, proofs.Entries.{IsShortenedTo, shortened-own_row}}
 
 -- the columns in another order
 pub nearer_moved : (events : ℕ) (far : ℕ → ℕ → ℤ) (u v : ℕ) (w : ℤ) (columns moved : List ℕ) (column : ℕ) → AreNearer events far u v w columns column
@@ -31,9 +31,8 @@ runs_more far v columns moved ends begin end so_far same after within kept beyon
 
 -- where the difference of a column's event does not get shorter, neither do those of its run
 pub runs_of_row : (events : ℕ) (old new : ℕ → ℕ → ℤ) (u v : ℕ) (w : ℤ) (row : ℕ) (through : ℤ) (columns ends : List ℕ) → IsShortenedTo events old new u v w row
-    → IsClosed events old → u ≤ events → v ≤ events → pos 0 ≤ℤ (old v u +ℤ w) → row ≤ events
-    → through ≡ (new row u +ℤ w) → All (λ y. y ≤ events) columns → AreRuns old v columns ends → AreRunsOf (events + 1) (new row) (new v) through columns ends
-runs_of_row events old new u v w row through columns ends so_far closed us vs round rs is within runs = record {
+    → row ≤ events → through ≡ (new row u +ℤ w) → All (λ y. y ≤ events) columns → AreRuns old v columns ends → AreRunsOf (events + 1) (new row) (new v) through columns ends
+runs_of_row events old new u v w row through columns ends so_far rs is within runs = record {
   named = λ k d h. let e = within k d h in omega arith;
   alike = runs.alike;
   after = runs.after;
@@ -45,9 +44,9 @@ runs_of_row events old new u v w row through columns ends so_far closed us vs ro
       let thens : then ≤ events = within j 0 below in
       let first_own = so_far.left row first (omega arith) rs firsts in
       let then_own = so_far.left row then (omega arith) rs thens in
-      let first_way = shortened-own_row events old new u v w row so_far us vs round first firsts in
-      let then_way = shortened-own_row events old new u v w row so_far us vs round then thens in
-      let onward = closed.triangle row first then rs firsts thens in
+      let first_way = shortened-own_row events old new u v w row so_far first firsts in
+      let then_way = shortened-own_row events old new u v w row so_far then thens in
+      let onward = so_far.closed.shortest.triangle row first then rs firsts thens in
       let way = runs.beyond i j later below before_end in
       omega (arith, ints);
 }

@@ -1,35 +1,18 @@
-use Rattle.std.{proofs.{Common.{◌≡◌, ℕ, ℤ, pos, ◌+◌, ◌<◌, ◌≤◌, ◌+ℤ◌, ◌-ℤ◌, ◌≤ℤ◌, Bool, true, List, length, sym, ◌∙◌, inl, inr, arith}, lemmas.{Int.{ints, clamps}, Bool.{false≢true, cases_lt}, List.get_or_past}}, specs.Int.int_min}
-use Rattle.stn_net.{specs.{Difference.Difference, Schedule.IsSchedule, Matrix.{Table.{Table, far_of}, Tightest.IsExact}, Windows.{Dispatch.{IsLeft, IsReady}, Leading.{NonePast, CanLead}}}, proofs.{Tightest.{row_of_triangles, tight_from_exact}, WindowEnds.lesser_schedule}}
+use Rattle.std.{proofs.{Common.{◌≡◌, ℕ, ℤ, ◌+◌, ◌<◌, ◌≤◌, ◌+ℤ◌, ◌-ℤ◌, Bool, true, List, length, sym, ◌∙◌, inl, inr, arith}, lemmas.{Int.{ints, clamps}, Bool.{false≢true, cases_lt}, List.get_or_past}}, specs.Int.int_min}
+use Rattle.stn_net.{specs.{Difference.Difference, Matrix.{Table.{Table, far_of}, Tightest.IsExact}, Windows.{Dispatch.{IsLeft, IsReady}, Leading.{NonePast, CanLead}}}, proofs.{Tightest.{exact_row, shortest_from_exact}, WindowEnds.lesser_schedule}}
 
 -- an event that is left has a test in the list
 pub left_within : (done : List Bool) (event : ℕ) → IsLeft done event → event < length done
 left_within done event left = elim (cases_lt event (length done)) [ inl lt ↦ lt | inr ge ↦ absurd (false≢true (sym left.1 ∙ get_or_past done event true ge)) ]
-
--- no difference is more than the two by way of a third event
-pub exact_triangle : (bounds : List Difference) (table : Table) (x y z : ℕ) → IsExact bounds table → x ≤ table.events → y ≤ table.events → z ≤ table.events
-    → far_of table x z ≤ℤ (far_of table x y +ℤ far_of table y z)
-exact_triangle bounds table x y z exact xs ys zs =
-    let whole = (exact.far x z xs zs).attained in
-    let first = (exact.far x y xs ys).bound whole.0 whole.1 in
-    let second = (exact.far y z ys zs).bound whole.0 whole.1 in
-    omega (arith, ints)
-
--- an event lies no time from itself
-pub exact_itself : (bounds : List Difference) (table : Table) (x : ℕ) → IsExact bounds table → x ≤ table.events → far_of table x x ≡ pos 0
-exact_itself bounds table x exact xs = let attains = (exact.far x x xs xs).attained.2 in omega (arith, ints)
-
--- a row of an exact table, shifted so that the origin is at 0, is a schedule
-pub exact_row : (bounds : List Difference) (table : Table) (x : ℕ) → IsExact bounds table → x ≤ table.events → IsSchedule bounds (λ z. far_of table x z -ℤ far_of table x 0)
-exact_row bounds table x exact xs =
-    row_of_triangles bounds table.events (far_of table) exact.named (λ x y z. exact_triangle bounds table x y z exact) (tight_from_exact bounds table exact) x xs
 
 -- an event that is left, whose earliest time has come, that leads, and before which no other has to run, is ready
 pub ready_now : (bounds : List Difference) (table : Table) (done : List Bool) (event : ℕ) (time : ℤ) → IsExact bounds table → length done ≡ table.events + 1
     → CanLead (far_of table) done time event → NonePast (far_of table 0) done time → IsReady bounds done event time
 ready_now bounds table done event time exact one_each can none =
     let within : event ≤ table.events = omega (arith, left_within done event can.left) in
-    let itself = exact_itself bounds table event exact within in
-    let origin = exact_itself bounds table 0 exact (omega arith) in
+    let shortest = shortest_from_exact bounds table exact in
+    let itself = shortest.itself event within in
+    let origin = shortest.itself 0 (omega arith) in
     let in_time = none event can.left in
     record {
       left = can.left;

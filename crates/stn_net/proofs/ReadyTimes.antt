@@ -42,10 +42,10 @@ pub some_ready_times : (bounds : List Difference) (table : Table) (done : List B
 some_ready_times bounds table done now event are =
     elim (left_told done event) [
       | inr not_left ↦ (None, λ time later ready. not_left ready.left)
-      | inl left ↦ elim (leads_told (far_of table) done event) [
+      | inl left ↦ elim (leads_told done (far_of table) event) [
         | inr behind ↦ (None, λ time later ready. behind (ready_can_lead bounds table done event time are.exact are.one_each ready).leads)
         | inl leads ↦
-            let (last, least) = some_least_latest (far_of table) done event left in
+            let (last, least) = some_least_latest done (far_of table 0) event left in
             let first = ord_max int_cmp (earliest (far_of table) event) now in
             let ready = ready_from_now bounds table done event now (earliest (far_of table) event) first last are.exact are.one_each left leads least refl refl in
             by_lt_z last first

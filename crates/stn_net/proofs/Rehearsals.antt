@@ -1,4 +1,4 @@
-use Rattle.std.{proofs.{lemmas.{Grind.common_steps, Int.ints, Bool.{false≢true, Decides.eqb_tells}, List.{Sums.sum_by-cons, Elements.{All-nil, All-cons}}}, Common.{rules, ◌≡◌, ◌≢◌, ℕ, ℤ, true, Bool, List, [], ◌∷◌, ◌++◌, cond, eqb, inl, inr, refl, sym, ap, subst, ◌∙◌, arith, get_or-set_other}}, specs.Prelude.{slice_set, Result, Err, IfErr}}
+use Rattle.std.{proofs.{lemmas.{Grind.common_steps, Int.ints, Bool.{false≢true, Decides.eqb_tells}, List.{Sums.sum_by-cons, Elements.{All-nil, All-cons}}}, Common.{rules, ◌≡◌, ◌≢◌, ℕ, ℤ, true, Bool, List, [], ◌∷◌, ◌++◌, cond, eqb, inl, inr, refl, sym, ap, ◌∙◌, arith, get_or-set_other}}, specs.Prelude.{slice_set, Result, Err, IfErr}}
 use Rattle.stn_net.{specs.{Difference.Difference, Schedule.{IsSchedule, HasSchedule}, Matrix.{Table.Table, Tightest.IsExact}, declared.windows.answers.{Next.{Next, TheVariants.{Run, AllDone, Overdue}}, RehearseFault.{RehearseFault, TheVariants.Memory}}, Windows.{Dispatch.{IsLeft, IsReady, IsOverdue, IsNext, CanWaitUntil}, Rehearsal.{fixed_at, IsRehearsal, NeverFalls, RunsEachOnce, HasScheduleThrough, IsRehearseFault}}}, proofs.Closure.{schedule_before, schedule_last}}
 
 -- a schedule that has the event at the time is one of the bounds and the fixed event
@@ -79,7 +79,7 @@ rehearsed_once (run ∷ runs) bounds done now rehearsal =
         | inr differs ↦ omega (arith, ap one_or_none differs.0, rest.left event (left_after done run.1 event is_left (λ same. differs.1 (sym same))))
       ];
       others = λ event not_left. sum_by-cons (runs_at event) run runs ∙ elim (eqb_tells run.1 event) [
-        | inl same ↦ absurd (not_left (subst (IsLeft done) same.1 left))
+        | inl same ↦ absurd (not_left (rw same.1 at left))
         | inr differs ↦ omega (arith, ap one_or_none differs.0, rest.others event (λ still. not_left (left_before done run.1 event left still).1))
       ];
     }
@@ -90,4 +90,4 @@ pub want_of_memory : {X : Type 0} (result : Result X RehearseFault) (table : Tab
     → IfErr result (λ fault. (bounds : List Difference) → IsExact bounds table → IsRehearseFault bounds done now fault)
 want_of_memory {X} result table done now answer is next none =
     let P : Result X RehearseFault → Type 0 = λ r. IfErr r (λ fault. (bounds : List Difference) → IsExact bounds table → IsRehearseFault bounds done now fault) in
-    subst P (sym is) (λ bounds exact. can_wait bounds done now answer exact.possible (next bounds exact) none)
+    rw is (λ bounds exact. can_wait bounds done now answer exact.possible (next bounds exact) none)

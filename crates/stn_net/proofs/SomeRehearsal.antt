@@ -20,11 +20,7 @@ some_rehearsal left bounds table done now (Overdue event) few are = absurd (are.
 some_rehearsal zero bounds table done now (Run time event) few are = absurd (omega (arith, one_fewer done event are.next.ready.left))
 some_rehearsal (suc left) bounds table done now (Run time event) few are =
     let ready = are.next.ready in
-    let (other, same, exact) = exact_fixed bounds table time event (record {
-      exact = are.flagged.exact;
-      within = omega (arith, left_within done event ready.left, are.flagged.one_each);
-      possible = ready_can_be_fixed bounds done time event ready;
-    }) in
+    let (other, same, exact) = exact_fixed bounds table time event are.flagged.exact (omega (arith, left_within done event ready.left, are.flagged.one_each)) (ready_can_be_fixed bounds done time event ready) in
     let flagged : AreFlagged (bounds ++ fixed_at time event ∷ []) other (slice_set done event true) = record { exact = exact; one_each = omega (arith, length-set done event true, are.flagged.one_each, same) } in
     let (answer, next) = some_next (bounds ++ fixed_at time event ∷ []) other (slice_set done event true) time flagged in
     let (runs, rest) = some_rehearsal left (bounds ++ fixed_at time event ∷ []) other (slice_set done event true) time answer (omega (arith, one_fewer done event ready.left)) (record {

@@ -1,7 +1,7 @@
 -- What the soonest times say of what comes next, of the rest of a plan, and of when an event may run.
-use Rattle.std.{proofs.{lemmas.{Int.{ints, clamps}, Bool.{cases_eq, cases_lt, eq-eqb, ne_eqb, false≢true, Decides.nat_tests}, Cmp.{nat_cmp_total, int_cmp_total, on_total, then_total}, List.{Sorted.{sorted_far, ranks_by, All-permutation, sum_by-IsPermutation}, Elements.{All-tail, All-append, All-contains, All-push, Contains-append_left, Contains-push}, Sums.{sum_by-cons, sum_by_push}}}, Common.{rules, ◌≡◌, ◌≢◌, inl, inr, ℕ, ℤ, pos, zero, suc, ◌+◌, ◌<◌, ◌≤◌, ◌+ℤ◌, ◌-ℤ◌, ◌≤ℤ◌, ◌<ℤ◌, ◌↔◌, Bool, true, false, eqb, List, [], ◌∷◌, ◌++◌, length, get_or, Ordering, Less, Equal, Greater, refl, sym, ap, subst, ◌∙◌, arith}}, specs.{Prelude.{All, Option, Some, None, slice_set, count_by, MatchOption}, List.{AllPairs, Contains, Sorted.{IsSorted, IsPermutation}}, Int.{int_min, int_max}, Ordering.{ord_max, int_cmp, nat_cmp, is_lt, ordering_then, MatchOrdering}, Cmp.{IsTotalOrder, ranks, int_ranks}}}
+use Rattle.std.{proofs.{lemmas.{Int.{ints, clamps}, Bool.{cases_eq, cases_lt, eq-eqb, ne_eqb, false≢true}, Cmp.{nat_cmp_total, int_cmp_total, on_total, then_total}, List.{Sorted.{sorted_far, ranks_by, All-permutation, sum_by-IsPermutation}, Elements.{All-append, All-contains, All-contains_itself, All-filter, All-push, Contains-append_left, Contains-push, filter_passes}, Sums.{length-filter, get_or-le-sum_by, sum_by-cons, sum_by_push}}}, Common.{rules, ◌≡◌, ◌≢◌, inl, inr, ℕ, ℤ, pos, zero, suc, ◌+◌, ◌<◌, ◌≤◌, ◌+ℤ◌, ◌-ℤ◌, ◌≤ℤ◌, ◌<ℤ◌, ◌↔◌, Bool, true, false, eqb, eqb-true, List, [], ◌∷◌, ◌++◌, length, get_or, Ordering, Less, Equal, Greater, refl, sym, ap, subst, ◌∙◌, arith}}, specs.{Prelude.{All, Option, Some, None, slice_set, count_by, MatchOption}, List.{AllPairs, Contains, filter, Sorted.{IsSorted, IsPermutation}}, Int.{int_min, int_max}, Ordering.{ord_max, int_cmp, nat_cmp, is_lt, ordering_then, MatchOrdering}, Cmp.{IsTotalOrder, ranks, int_ranks}}}
 use Rattle.stn_time.{proofs.Each.All-right, specs.Time.horizon}
-use Rattle.stn_net.{specs.{Difference.{Difference, NamesEvents}, Schedule.{IsSchedule, HasSchedule, Meets}, Windows.{Dispatch.{IsLeft, LeavesNoneBefore, IsReady, AreReadyTimes, ComesFirst, IsFirstReady, CanWaitUntil}, Rehearsal.{fixed_at, IsRehearsal, RunsEachOnce}, Leading.{floor_at, AreFloorsBelow, RunsBefore, AreRunsBelow, AreReadyAt, IsEarliestBelow, IsEarliestSoFar}, Soonest.{AreEarliest, AreSoonest}}}, proofs.{Closure.{schedule_before, schedule_last}, Readiness.left_within, WindowEnds.lesser_schedule, ReadyTimes.later_of, Ends.earliest_schedule, Rehearsals.{fixed_schedule, left_before, left_after, one_or_none, runs_at}, SomeNext.left_told}}
+use Rattle.stn_net.{specs.{Difference.{Difference, NamesEvents}, Schedule.{IsSchedule, HasSchedule, Meets}, Windows.{Dispatch.{IsLeft, LeavesNoneBefore, IsReady, AreReadyTimes, ComesFirst, IsFirstReady, CanWaitUntil}, Rehearsal.{fixed_at, IsRehearsal}, Leading.{floor_at, AreFloorsBelow, RunsBefore, AreRunsBelow, AreReadyAt, IsEarliestBelow, IsEarliestSoFar}, Soonest.{AreEarliest, AreSoonest}}}, proofs.{Closure.{schedule_before, schedule_last}, Readiness.left_within, WindowEnds.lesser_schedule, ReadyTimes.later_of, Ends.earliest_schedule, Rehearsals.{fixed_schedule, left_before, left_after, one_or_none, runs_at}}}
 
 module _ (bounds : List Difference) (done : List Bool) (now : ℤ) (times : ℕ → ℤ) (are : AreSoonest bounds done now times) where
   -- an event that is left and comes first in the soonest times is ready then
@@ -16,7 +16,7 @@ module _ (bounds : List Difference) (done : List Bool) (now : ℤ) (times : ℕ 
   pub soonest_is_first : (time : ℤ) (event : ℕ) → IsLeft done event → time ≡ times event → ((other : ℕ) → IsLeft done other → ComesFirst time event (times other) other)
       → IsFirstReady bounds done now time event
   soonest_is_first time event left at first = record {
-    ready = subst (IsReady bounds done event) (sym at) (first_is_ready event left (λ other is_left. let (before, _) = first other is_left in omega (arith, ints)));
+    ready = rw at (first_is_ready event left (λ other is_left. let (before, _) = first other is_left in omega (arith, ints)));
     later = (let after = are.waits event left in omega (arith, ints));
     first = λ other_time other later ready.
         let (before, less) = first other ready.left in
@@ -40,18 +40,17 @@ module _ (bounds : List Difference) (done : List Bool) (now : ℤ) (times : ℕ 
   }
 
 -- what counts in a list stands somewhere in it
-pub stands : {X : Type 0} (number : X → ℕ) (xs : List X) (n : ℕ) → 0 < count_by (λ x. eqb (number x) n) xs
-    → (place : ℕ) × (place < length xs) × ((d : X) → number (get_or xs place d) ≡ n)
-stands number [] n some = absurd (omega arith)
-stands {X} number (x ∷ xs) n some = by (eqb (number x) n) refl (λ later. stands number xs n later)
+stands : {X : Type 0} (number : X → ℕ) (xs : List X) (n : ℕ) → 0 < count_by (λ x. eqb (number x) n) xs → (x : X) × Contains xs x × (number x ≡ n)
+stands {X} number xs n some =
+    let (x, has) = first (filter (λ x. eqb (number x) n) xs) (omega (arith, length-filter (λ x. eqb (number x) n) xs)) in (
+      x,
+      All-contains (Contains xs) _ x (All-filter (λ x. eqb (number x) n) (Contains xs) xs (All-contains_itself xs)) has,
+      eqb-true (number x) n (All-contains (λ x. eqb (number x) n ≡ true) _ x (filter_passes (λ x. eqb (number x) n) xs) has),
+    )
   where
-    by : (same : Bool) → eqb (number x) n ≡ same
-        → (0 < count_by (λ y. eqb (number y) n) xs → (place : ℕ) × (place < length xs) × ((d : X) → number (get_or xs place d) ≡ n))
-        → (place : ℕ) × (place < length (x ∷ xs)) × ((d : X) → number (get_or (x ∷ xs) place d) ≡ n)
-    by true is behind = (0, omega arith, λ d. grind (arith, nat_tests))
-    by false is behind =
-        let later = behind (omega (arith, sum_by-cons (λ y. one_or_none (eqb (number y) n)) x xs, ap one_or_none is)) in
-        (suc later.0, omega (arith, later.1), λ d. later.2 d)
+    first : (xs : List X) → 0 < length xs → (x : X) × Contains xs x
+    first [] some = absurd (omega arith)
+    first (x ∷ xs) some = (x, (0, some, refl))
 
 -- the first comes before each
 first_before : (run : ℤ × ℕ) (runs : List (ℤ × ℕ)) (place : ℕ) (d : ℤ × ℕ) → AllPairs RunsBefore (run ∷ runs) → place < length (run ∷ runs) → RunsBefore run (get_or (run ∷ runs) place d)
@@ -60,59 +59,49 @@ first_before run runs (suc place) d order within = order 0 (suc place) d (omega 
 
 -- the runs are those of all events that are left, each at its time, in their order
 pub record AreRuns (times : ℕ → ℤ) (done : List Bool) (runs : List (ℤ × ℕ)) : Type 0 where
-  pub at : All (λ run. run.0 ≡ times run.1) runs
-  pub once : RunsEachOnce done runs
+  pub each : All (λ run. IsLeft done run.1 × (run.0 ≡ times run.1)) runs
+  pub once : (event : ℕ) → IsLeft done event → count_by (λ run. eqb run.1 event) runs ≡ 1
   pub order : AllPairs RunsBefore runs
 
 module _ (times : ℕ → ℤ) (done : List Bool) (run : ℤ × ℕ) (runs : List (ℤ × ℕ)) (are : AreRuns times done (run ∷ runs)) where
-  head_at : run.0 ≡ times run.1
-  head_at = are.at 0 run (omega arith)
-
-  head_is_left : IsLeft done run.1
-  head_is_left =
-      elim (left_told done run.1) [
-        | inl left ↦ left
-        | inr not_left ↦ absurd (omega (arith, are.once.others run.1 not_left, sum_by-cons (runs_at run.1) run runs, ap one_or_none (eq-eqb run.1 run.1 refl)))
-      ]
+  head_is : IsLeft done run.1 × (run.0 ≡ times run.1)
+  head_is = are.each 0 run (omega arith)
 
   head_comes_first : (other : ℕ) → IsLeft done other → ComesFirst run.0 run.1 (times other) other
   head_comes_first other left =
-      let (place, below, is) = stands (λ (r : ℤ × ℕ). r.1) (run ∷ runs) other (omega (arith, are.once.left other left)) in
-      let seen = get_or (run ∷ runs) place run in
-      let before : RunsBefore run seen = first_before run runs place run are.order below in
-      let at : seen.0 ≡ times seen.1 = are.at place run below in
-      subst (λ n. ComesFirst run.0 run.1 (times n) n) (is run) (subst (λ time. ComesFirst run.0 run.1 time seen.1) at before)
+      let (seen, has, is) = stands (λ (r : ℤ × ℕ). r.1) (run ∷ runs) other (omega (arith, are.once other left)) in
+      let (place, below, at) = has in
+      let before : RunsBefore run seen = subst (RunsBefore run) at (first_before run runs place seen are.order below) in
+      let (seen_left, seen_at) = All-contains (λ (r : ℤ × ℕ). IsLeft done r.1 × (r.0 ≡ times r.1)) (run ∷ runs) seen are.each has in
+      rw is at (subst (λ time. ComesFirst run.0 run.1 time seen.1) seen_at before)
 
   -- the others are those of the events that are left once that of the first is done
   others_left : AreRuns times (slice_set done run.1 true) runs
   others_left = record {
-    at = All-tail (λ (r : ℤ × ℕ). r.0 ≡ times r.1) run runs are.at;
-    once = record {
-      left = λ event still.
-          let (differs, was_left) = left_before done run.1 event head_is_left still in
-          omega (arith, are.once.left event was_left, sum_by-cons (runs_at event) run runs, ap one_or_none (ne_eqb run.1 event (λ same. differs (sym same))));
-      others = λ event not_left.
-          elim (cases_eq run.1 event) [
-            | inl same ↦ omega (arith, are.once.left event (subst (IsLeft done) same head_is_left), sum_by-cons (runs_at event) run runs, ap one_or_none (eq-eqb run.1 event same))
-            | inr differs ↦
-                omega (arith, are.once.others event (λ was_left. not_left (left_after done run.1 event was_left (λ same. differs (sym same)))), sum_by-cons (runs_at event) run runs, ap one_or_none (ne_eqb run.1 event differs))
-          ];
-    };
+    each = λ k d below.
+        let (left, at) = are.each (suc k) d (omega arith) in
+        let other = (get_or runs k d).1 in
+        let counted = sum_by-cons (runs_at run.1) run runs in
+        let most = get_or-le-sum_by (runs_at run.1) runs k d below in
+        let once = are.once run.1 head_is.0 in
+        (left_after done run.1 other left (λ same. omega (arith, counted, most, once, ap one_or_none (eq-eqb run.1 run.1 refl), ap one_or_none (eq-eqb other run.1 same))), at);
+    once = λ event still.
+        let (differs, was_left) = left_before done run.1 event head_is.0 still in
+        omega (arith, are.once event was_left, sum_by-cons (runs_at event) run runs, ap one_or_none (ne_eqb run.1 event (λ same. differs (sym same))));
     order = λ i j d before below. are.order (suc i) (suc j) d (omega arith) (omega arith);
   }
 
 -- the soonest times in their order are a rehearsal
 pub soonest_is_rehearsal : (runs : List (ℤ × ℕ)) (bounds : List Difference) (done : List Bool) (now : ℤ) (times : ℕ → ℤ) → AreSoonest bounds done now times
     → AreRuns times done runs → IsRehearsal bounds done now runs
-soonest_is_rehearsal [] bounds done now times soonest are = λ event left. absurd (omega (arith, are.once.left event left))
+soonest_is_rehearsal [] bounds done now times soonest are = λ event left. absurd (omega (arith, are.once event left))
 soonest_is_rehearsal (run ∷ runs) bounds done now times soonest are =
-    let at = head_at times done run runs are in
-    let left = head_is_left times done run runs are in
+    let (left, at) = head_is times done run runs are in
     let first = head_comes_first times done run runs are in
     let sooner : (other : ℕ) → IsLeft done other → times run.1 ≤ℤ times other = λ other is_left. let (before, less) = first other is_left in omega (arith, ints) in
     let stay = soonest_stay bounds done now times soonest run.1 left sooner in
     let fixed : AreSoonest (bounds ++ fixed_at run.0 run.1 ∷ []) (slice_set done run.1 true) run.0 times =
-    subst (λ time. AreSoonest (bounds ++ fixed_at time run.1 ∷ []) (slice_set done run.1 true) time times) (sym at) stay in (
+    rw at stay in (
       soonest_is_first bounds done now times soonest run.0 run.1 left at first,
       soonest_is_rehearsal runs (bounds ++ fixed_at run.0 run.1 ∷ []) (slice_set done run.1 true) run.0 times fixed (others_left times done run runs are),
     )
@@ -138,7 +127,7 @@ above_schedule bounds floors done now times are schedule waits by_horizon = reco
       let after = waits floor.to left in
       let before = by_horizon floor.to left in
       let met : Meets times (floor_at now floor.to) = (omega (arith, ints), omega (arith, ints)) in
-      subst (Meets times) (sym is) met);
+      rw is met);
 }
 
 -- the first of all events that are left
@@ -252,22 +241,14 @@ module _ (times : ℕ → ℤ) (done : List Bool) where
       → AreRunsBelow times done (number + 1) (runs ++ (time, event) ∷ [])
   run_pushed number event time runs is at left are = record {
     at = All-push (λ (run : ℤ × ℕ). IsLeft done run.1 × (run.0 ≡ times run.1)) runs (time, event) are.at (left, at ∙ ap times (sym is));
-    once = λ other below is_left.
-        elim (cases_eq event other) [
-          | inl same ↦ omega (arith, are.others other (omega arith), sum_by_push (runs_at other) runs (time, event), ap one_or_none (eq-eqb event other same))
-          | inr differs ↦ omega (arith, are.once other (omega arith) is_left, sum_by_push (runs_at other) runs (time, event), ap one_or_none (ne_eqb event other differs))
-        ];
+    once = λ other below is_left. search (rules, cases_eq, sum_by_push, eq-eqb, ne_eqb);
     others = λ other past. omega (arith, are.others other (omega arith), sum_by_push (runs_at other) runs (time, event), ap one_or_none (ne_eqb event other (λ same. absurd (omega arith))));
   }
 
   pub run_kept : (number event : ℕ) (runs : List (ℤ × ℕ)) → event ≡ number → ¬ IsLeft done event → AreRunsBelow times done number runs → AreRunsBelow times done (number + 1) runs
   run_kept number event runs is not_left are = record {
     at = are.at;
-    once = λ other below left.
-        elim (cases_lt other number) [
-          | inl before ↦ are.once other before left
-          | inr here ↦ let same : other ≡ event = omega arith in absurd (not_left (subst (IsLeft done) same left))
-        ];
+    once = λ other below left. search (rules, cases_lt);
     others = λ other past. are.others other (omega arith);
   }
 
@@ -297,18 +278,8 @@ module _ (times : ℕ → ℤ) (done : List Bool) where
   -- the runs of all events, once they are sorted
   pub runs_sorted : (limit : ℕ) (before after : List (ℤ × ℕ)) → length done ≤ limit → AreRunsBelow times done limit before → IsPermutation before after → IsSorted by_turn after → AreRuns times done after
   runs_sorted limit before after all are moved sorted =
-      let each : All (λ (run : ℤ × ℕ). IsLeft done run.1 × (run.0 ≡ times run.1)) after =
-      All-permutation (λ (run : ℤ × ℕ). IsLeft done run.1 × (run.0 ≡ times run.1)) before after moved are.at in
       record {
-        at = λ k d below. (each k d below).1;
-        once = record {
-          left = λ event left. sum_by-IsPermutation (runs_at event) before after moved ∙ are.once event (omega (arith, all, left_within done event left)) left;
-          others = λ event not_left.
-              elim (cases_eq (count_by (λ (run : ℤ × ℕ). eqb run.1 event) after) 0) [
-                | inl none ↦ none
-                | inr some ↦ (let (place, below, is) = stands (λ (run : ℤ × ℕ). run.1) after event (omega arith) in
-                    absurd (not_left (subst (IsLeft done) (is (pos 0, 0)) (each place (pos 0, 0) below).0)))
-              ];
-        };
+        each = All-permutation (λ (run : ℤ × ℕ). IsLeft done run.1 × (run.0 ≡ times run.1)) before after moved are.at;
+        once = λ event left. sum_by-IsPermutation (runs_at event) before after moved ∙ are.once event (omega (arith, all, left_within done event left)) left;
         order = sorted_in_order after sorted;
       }

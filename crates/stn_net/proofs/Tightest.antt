@@ -1,5 +1,5 @@
-use Rattle.std.{proofs.{lemmas.Int.ints, Common.{◌≡◌, ℕ, ℤ, ◌≤◌, ◌+ℤ◌, ◌-ℤ◌, ◌≤ℤ◌, neg_ℤ, List, get_or, arith}}, specs.Prelude.All}
-use Rattle.stn_net.specs.{Difference.{Difference, NamesEvents}, Schedule.IsSchedule, Matrix.{Table.{Table, far_of}, Tightest.{IsTightest, IsExact}, Closed.IsClosed}}
+use Rattle.std.{proofs.{lemmas.Int.ints, Common.{◌≡◌, ℕ, ℤ, ◌≤◌, ◌-ℤ◌, ◌≤ℤ◌, List, get_or, arith}}, specs.Prelude.All}
+use Rattle.stn_net.specs.{Difference.{Difference, NamesEvents}, Schedule.IsSchedule, Matrix.{Table.{Table, far_of}, Tightest.{IsTightest, IsExact}, Closed.IsShortest, Way.IsImplied}}
 
 -- two tightest differences of the same events are equal
 pub tightest_unique : (bounds : List Difference) (x y : ℕ) (most other : ℤ) → IsTightest bounds x y most → IsTightest bounds x y other → most ≡ other
@@ -37,56 +37,60 @@ exact_same_entries bounds table other e f p =
 -- no schedule goes beyond an entry, and no side of a bound is tighter than the entries
 pub record IsTight (bounds : List Difference) (events : ℕ) (far : ℕ → ℕ → ℤ) : Type 0 where
   pub sound : (time : ℕ → ℤ) → IsSchedule bounds time → (x y : ℕ) → x ≤ events → y ≤ events → (time y -ℤ time x) ≤ℤ far x y
-  pub upper : All (λ b. far b.from b.to ≤ℤ b.hi) bounds
-  pub lower : All (λ b. b.lo ≤ℤ neg_ℤ (far b.to b.from)) bounds
+  pub implied : All (IsImplied far) bounds
 
 -- the entries of an exact table are no looser than any of the bounds
 pub tight_from_exact : (bounds : List Difference) (table : Table) → IsExact bounds table → IsTight bounds table.events (far_of table)
 tight_from_exact bounds table p = record {
   sound = λ time s x y xs ys. (p.far x y xs ys).bound time s;
-  upper = λ k d h.
+  implied = λ k d h.
       let b = get_or bounds k d in
       let named = p.named k d h in
-      let best = (p.far b.from b.to named.from named.to).attained in
-      let met = best.1.met k d h in
-      omega (arith, ints);
-  lower = λ k d h.
-      let b = get_or bounds k d in
-      let named = p.named k d h in
-      let best = (p.far b.to b.from named.to named.from).attained in
-      let met = best.1.met k d h in
+      let forth = (p.far b.from b.to named.from named.to).attained in
+      let back = (p.far b.to b.from named.to named.from).attained in
+      let met_forth = forth.1.met k d h in
+      let met_back = back.1.met k d h in
+      record { upper = omega (arith, ints); lower = omega (arith, ints) };
+}
+
+-- and the shortest
+pub shortest_from_exact : (bounds : List Difference) (table : Table) → IsExact bounds table → IsShortest table.events (far_of table)
+shortest_from_exact bounds table p = record {
+  itself = λ x xs. (let attains = (p.far x x xs xs).attained.2 in omega (arith, ints));
+  triangle = λ x y z xs ys zs.
+      let whole = (p.far x z xs zs).attained in
+      let first = (p.far x y xs ys).bound whole.0 whole.1 in
+      let second = (p.far y z ys zs).bound whole.0 whole.1 in
       omega (arith, ints);
 }
 
--- a row of a tight table in which no difference is more than the two by way of a third event, shifted so that the origin is at 0, is a schedule
-pub row_of_triangles : (bounds : List Difference) (events : ℕ) (far : ℕ → ℕ → ℤ) → All (NamesEvents events) bounds
-    → ((x y z : ℕ) → x ≤ events → y ≤ events → z ≤ events → far x z ≤ℤ (far x y +ℤ far y z)) → IsTight bounds events far
+-- a row of the shortest differences, if they are tight, is a schedule, shifted so that the origin is at 0
+pub row_is_schedule : (bounds : List Difference) (events : ℕ) (far : ℕ → ℕ → ℤ) → All (NamesEvents events) bounds → IsShortest events far → IsTight bounds events far
     → (x : ℕ) → x ≤ events → IsSchedule bounds (λ z. far x z -ℤ far x 0)
-row_of_triangles bounds events far named triangle tight x xs = record {
+row_is_schedule bounds events far named shortest tight x xs = record {
   origin = omega (arith, ints);
   met = λ k d h.
       let b = get_or bounds k d in
       let ends = named k d h in
-      let upper = tight.upper k d h in
-      let lower = tight.lower k d h in
-      let onward = triangle x b.from b.to xs ends.from ends.to in
-      let back = triangle x b.to b.from xs ends.to ends.from in
+      let implied = tight.implied k d h in
+      let onward = shortest.triangle x b.from b.to xs ends.from ends.to in
+      let back = shortest.triangle x b.to b.from xs ends.to ends.from in
       (omega (arith, ints), omega (arith, ints));
 }
 
-pub row_is_schedule : (bounds : List Difference) (events : ℕ) (far : ℕ → ℕ → ℤ) → All (NamesEvents events) bounds → IsClosed events far → IsTight bounds events far
-    → (x : ℕ) → x ≤ events → IsSchedule bounds (λ z. far x z -ℤ far x 0)
-row_is_schedule bounds events far named closed tight = row_of_triangles bounds events far named closed.triangle tight
+-- the rows of an exact table, for one
+pub exact_row : (bounds : List Difference) (table : Table) (x : ℕ) → IsExact bounds table → x ≤ table.events → IsSchedule bounds (λ z. far_of table x z -ℤ far_of table x 0)
+exact_row bounds table x p xs = row_is_schedule bounds table.events (far_of table) p.named (shortest_from_exact bounds table p) (tight_from_exact bounds table p) x xs
 
--- a closed and tight table is exact: each row is a schedule that attains its entries
-pub exact_from_tight : (bounds : List Difference) (table : Table) → All (NamesEvents table.events) bounds → IsClosed table.events (far_of table) → IsTight bounds table.events (far_of table) → IsExact bounds table
-exact_from_tight bounds table named closed tight =
-    let row : (x : ℕ) → x ≤ table.events → IsSchedule bounds (λ z. far_of table x z -ℤ far_of table x 0) = row_is_schedule bounds table.events (far_of table) named closed tight in
+-- a tight table of the shortest differences is exact: each row is a schedule that attains its entries
+pub exact_from_tight : (bounds : List Difference) (table : Table) → All (NamesEvents table.events) bounds → IsShortest table.events (far_of table) → IsTight bounds table.events (far_of table) → IsExact bounds table
+exact_from_tight bounds table named shortest tight =
+    let row : (x : ℕ) → x ≤ table.events → IsSchedule bounds (λ z. far_of table x z -ℤ far_of table x 0) = row_is_schedule bounds table.events (far_of table) named shortest tight in
     record {
       named = named;
       possible = ((λ z. far_of table 0 z -ℤ far_of table 0 0), row 0 (omega arith));
       far = λ x y xs ys.
-          let itself = closed.itself x xs in
+          let itself = shortest.itself x xs in
           record {
             bound = λ time s. tight.sound time s x y xs ys;
             attained = ((λ z. far_of table x z -ℤ far_of table x 0), row x xs, omega (arith, ints));

@@ -1,5 +1,5 @@
 -- What can be told, and the least number of which it holds.
-use Rattle.std.proofs.{Common.{rules, ◌≡◌, ◌⊎◌, inl, inr, ℕ, ℤ, zero, suc, ◌<◌, ◌<ℤ◌, Bool, true, false, refl, sym, subst, arith}, lemmas.{Bool.{cases_lt, false≢true}, Int.{ints, by_lt_z}}}
+use Rattle.std.proofs.{Common.{rules, ◌≡◌, ◌⊎◌, inl, inr, ℕ, ℤ, zero, suc, ◌<◌, ◌<ℤ◌, Bool, true, false, refl, sym, arith}, lemmas.{Bool.{cases_lt, false≢true}, Int.{ints, by_lt_z}}}
 
 -- it holds, or it doesn't
 abbrev pub Told : Type 0 → Type 0
@@ -38,7 +38,7 @@ least_below P told (suc n) =
         | inl holds ↦ inl (n, holds, none)
         | inr fails ↦ inr (λ k below. elim (cases_lt k n) [
           | inl before ↦ none k before
-          | inr past ↦ (let e : n ≡ k = omega arith in subst (λ j. ¬ P j) e fails)
+          | inr past ↦ (let e : n ≡ k = omega arith in rw e at fails)
         ])
       ]
     ]

@@ -1,4 +1,4 @@
-use Rattle.std.{proofs.Common.{◌≢◌, ℕ, ℤ, true, Bool, List, [], ◌∷◌, ◌++◌, refl, subst, append_assoc, append-nil}, specs.Prelude.slice_set}
+use Rattle.std.{proofs.Common.{◌≢◌, ℕ, ℤ, true, Bool, List, [], ◌∷◌, ◌++◌, refl, append_assoc, append-nil}, specs.Prelude.slice_set}
 use Rattle.stn_net.{specs.{Difference.Difference, Schedule.HasSchedule, Matrix.{Table.Table, Tightest.IsExact}, declared.windows.answers.Next.{Next, TheVariants.{Run, AllDone, Overdue}}, Windows.{Dispatch.{IsFirstReady, IsNext}, Rehearsal.{fixed_at, IsRehearsal}}}, proofs.Rehearsals.{ready_can_be_fixed, none_overdue_after}}
 
 -- a rehearsal has come so far: the table is exact for the bounds and those fixed since, the answer comes next there and is no overdue
@@ -31,7 +31,7 @@ under_way_further bounds done now runs table other finished time event answer un
       time = time;
       exact = exact;
       next = then;
-      in_time = λ late same. none_overdue_after under.fixed finished time event late first.ready (subst (IsNext (under.fixed ++ fixed_at time event ∷ []) (slice_set finished event true) time) same then);
+      in_time = λ late same. none_overdue_after under.fixed finished time event late first.ready (rw same at then);
       goes_on = λ more rehearsal. rw append_assoc (under.goes_on ((time, event) ∷ more) (first, rehearsal));
     }
 
@@ -39,5 +39,5 @@ under_way_further bounds done now runs table other finished time event answer un
 pub rehearsal_at_end : (bounds : List Difference) (done : List Bool) (now : ℤ) (runs : List (ℤ × ℕ)) (table : Table) (finished : List Bool) (answer : Next)
     → IsUnderWay bounds done now runs table finished answer → ((time : ℤ) (event : ℕ) → answer ≢ Run time event) → IsRehearsal bounds done now runs
 rehearsal_at_end bounds done now runs table finished (Run time event) under none = absurd (none time event refl)
-rehearsal_at_end bounds done now runs table finished AllDone under none = subst (IsRehearsal bounds done now) (append-nil runs) (under.goes_on [] under.next)
+rehearsal_at_end bounds done now runs table finished AllDone under none = rw (append-nil runs) at (under.goes_on [] under.next)
 rehearsal_at_end bounds done now runs table finished (Overdue event) under none = absurd (under.in_time event refl)

@@ -1,6 +1,6 @@
-use Rattle.std.{proofs.{lemmas.{Grind.common_steps, Int.ints, Bool.cases_eq, List.Elements.All-nil}, Common.{◌≡◌, ◌≢◌, ℕ, zero, suc, ℤ, pos, ◌≤◌, ◌≤ℤ◌, neg_ℤ, ◌⊎◌, inl, inr, [], ◌∷◌, ap, arith}}, specs.Prelude.All}
+use Rattle.std.{proofs.{lemmas.{Grind.common_steps, Int.ints, Bool.cases_eq, List.Elements.All-nil}, Common.{◌≡◌, ◌≢◌, ℕ, zero, suc, ℤ, pos, ◌≤◌, ◌≤ℤ◌, ◌⊎◌, inl, inr, [], ◌∷◌, ap, arith}}, specs.Prelude.All}
 use Rattle.stn_time.specs.Time.{horizon}
-use Rattle.stn_net.{specs.{Difference.{Difference, NamesEvents}, Horizon.{horizon_bound, horizon_bounds}, Schedule.IsSchedule, Matrix.{Table.{Table, far_of}, Tightest.IsExact, Closed.{IsClosed, IsWidest}}}, proofs.{Tightest.{IsTight, exact_from_tight}, Closure.{schedule_before, schedule_last}}}
+use Rattle.stn_net.{specs.{Difference.{Difference, NamesEvents}, Horizon.{horizon_bound, horizon_bounds}, Schedule.IsSchedule, Matrix.{Table.{Table, far_of}, Tightest.IsExact, Closed.{IsClosed, IsWidest}, Way.IsImplied}}, proofs.{Tightest.{IsTight, exact_from_tight}, Closure.{schedule_before, schedule_last}}}
 
 -- the widest difference of two events is 0 or the horizon
 widest_cases : (events : ℕ) (far : ℕ → ℕ → ℤ) → IsWidest events far → (x y : ℕ) → x ≤ events → y ≤ events → (far x y ≡ pos 0) ⊎ (far x y ≡ horizon)
@@ -11,7 +11,7 @@ widest_most events far widest x y xs ys = elim (widest_cases events far widest x
 
 -- the widest differences are closed
 pub widest-closed : (events : ℕ) (far : ℕ → ℕ → ℤ) → IsWidest events far → IsClosed events far
-widest-closed events far widest = grind (arith, common_steps, widest_most)
+widest-closed events far widest = record { shortest = grind (arith, common_steps, widest_most); most = widest_most events far widest }
 
 -- what holds of each horizon bound holds of all of them
 pub horizon_each : (P : Difference → Type 0) (events : ℕ) → ((event : ℕ) → event ≢ 0 → event ≤ events → P (horizon_bound event)) → All P (horizon_bounds events)
@@ -45,8 +45,8 @@ widest-tight events far widest = record {
           | inr differ ↦ (let here = widest.others x y xs ys apart differ in omega (arith, ints))
         ]
       ];
-  upper = horizon_each (λ b. far b.from b.to ≤ℤ b.hi) events (λ event apart within. widest_most events far widest 0 event (omega arith) within);
-  lower = horizon_each (λ b. b.lo ≤ℤ neg_ℤ (far b.to b.from)) events (λ event apart within. let here = widest.origin event within in omega (arith, ints));
+  implied = horizon_each (IsImplied far) events (λ event apart within. (let here = widest.origin event within in
+      record { upper = widest_most events far widest 0 event (omega arith) within; lower = omega (arith, ints) }));
 }
 
 -- the horizon bounds name their events
@@ -55,4 +55,4 @@ horizon_named events = horizon_each (NamesEvents events) events (λ event apart 
 
 -- a table of the widest differences is exact for the horizon bounds
 pub exact_widest : (table : Table) → IsWidest table.events (far_of table) → IsExact (horizon_bounds table.events) table
-exact_widest table widest = exact_from_tight (horizon_bounds table.events) table (horizon_named table.events) (widest-closed table.events (far_of table) widest) (widest-tight table.events (far_of table) widest)
+exact_widest table widest = exact_from_tight (horizon_bounds table.events) table (horizon_named table.events) (widest-closed table.events (far_of table) widest).shortest (widest-tight table.events (far_of table) widest)

@@ -14,7 +14,8 @@ pub fn ready<A: Allocator>(matrix: &Matrix<A>, done: &[bool], event: Event, time
     requires beside { event ≢ 0 }
     ensures { (bounds : List Difference) → IsExact bounds matrix.now → (IsTrue result ↔ IsReady bounds done.now event time) }
 {
-    first_past(matrix, done, time).is_none() && can_lead(matrix, done, event, time)
+    first_before(matrix, done, Event::origin(), time).is_none()
+        && can_lead(matrix, done, event, time)
 }
 
 /// The first and the last time from now on at which an event may run, by the rule of `ready`: it may run at each whole
@@ -71,7 +72,7 @@ pub fn next<A: Allocator>(matrix: &Matrix<A>, done: &[bool], now: Ms) -> Next
     ensures next { (bounds : List Difference) → IsExact bounds matrix.now → IsNext bounds done.now now result }
     ensures left { NamesLeft done.now result }
 {
-    if let Some(event) = first_past(matrix, done, now) {
+    if let Some(event) = first_before(matrix, done, Event::origin(), now) {
         return Next::Overdue(event);
     }
     match first_run(matrix, done, now) {
@@ -80,15 +81,21 @@ pub fn next<A: Allocator>(matrix: &Matrix<A>, done: &[bool], now: Ms) -> Next
     }
 }
 
-// The least event that is left and whose latest time comes before now.
-fn first_past<A: Allocator>(matrix: &Matrix<A>, done: &[bool], now: Ms) -> Option<Event>
-    requires { length done.now ≡ matrix.now.events + 1 }
-    ensures past { IfSome result (IsFirstPast (far_of matrix.now 0) done.now now) }
-    ensures none { IfNone result (NonePast (far_of matrix.now 0) done.now now) }
+// The least event that is left and comes less than so long after an event in each schedule.
+fn first_before<A: Allocator>(
+    matrix: &Matrix<A>,
+    done: &[bool],
+    from: Event,
+    limit: Ms,
+) -> Option<Event>
+    requires one_each { length done.now ≡ matrix.now.events + 1 }
+    requires from { from ≤ matrix.now.events }
+    ensures past { IfSome result (IsFirstPast (far_of matrix.now from) done.now limit) }
+    ensures none { IfNone result (NonePast (far_of matrix.now from) done.now limit) }
 {
     for number in 1..matrix.events() + 1 {
         let event = Event::new(number).unwrap();
-        if is_left(done, event) && matrix.far(Event::origin(), event) < now {
+        if is_left(done, event) && matrix.far(from, event) < limit {
             return Some(event);
         }
     }
@@ -139,13 +146,8 @@ fn leads<A: Allocator>(matrix: &Matrix<A>, done: &[bool], event: Event) -> bool
     requires within { event ≤ matrix.now.events }
     ensures { IsTrue result ↔ MayLead (far_of matrix.now) done.now event }
 {
-    for number in 1..matrix.events() + 1 {
-        let other = Event::new(number).unwrap();
-        if is_left(done, other) && matrix.far(event, other).get() < 0 {
-            return false;
-        }
-    }
-    true
+    let zero = Ms::new(0).unwrap();
+    first_before(matrix, done, event, zero).is_none()
 }
 
 /// Whether the event is not the origin and is not done.

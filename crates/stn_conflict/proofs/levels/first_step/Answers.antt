@@ -1,5 +1,5 @@
-use Rattle.std.{proofs.{Common.{rules, subst, sym, ◌∙◌}, lemmas.Bool.false≢true}}
-use Rattle.stn_conflict.{specs.{declared.outgoing.Look.Look, Relaxation.IsRow, Named.IsLevelStep, Search.{across, IsFirstStepTo}}, proofs.{Steps.{first_in_row, none_in_row, passed_more}}}
+use Rattle.std.proofs.{Common.{rules, sym, ◌∙◌}, lemmas.Bool.false≢true}
+use Rattle.stn_conflict.{specs.{declared.outgoing.Look.Look, Relaxation.IsRow, Named.IsLevelStep, Search.across}, proofs.Steps.{first_in_row, none_in_row, passed_more}}
 use Rattle.stn_conflict.proofs.levels.first_step.Goals as goal
 
 pub returns-then-is_step : goal.returns-then-is_step
@@ -9,11 +9,11 @@ returns-then-is_step g c =
     let looks = c.row-look-items.result.now in
     let index = c.loop-look.look-index in
     let place = c.from.ensures ∙ c.number.ensures.value in
-    let is : IsRow searched c.args.event looks = subst (λ x. IsRow searched x looks) place c.row-look-items.ensures in
+    let is : IsRow searched c.args.event looks = rw place at c.row-look-items.ensures in
     let look : Look = c.look-item.result in
     let into = c.across-into.ensures in
-    let step : IsLevelStep searched.bounds start (across look.link) = subst (IsLevelStep searched.bounds start) into (c.is_step.ensures.0 c.if-is_step.true) in
-    subst (IsFirstStepTo searched.bounds start c.args.event) (sym into) (first_in_row searched start c.args.event index looks c.requires.whole is look c.loop-look-test.true (sym c.look-item.is) c.loop-look.invariant step)
+    let step : IsLevelStep searched.bounds start (across look.link) = rw into at (c.is_step.ensures.0 c.if-is_step.true) in
+    rw into (first_in_row searched start c.args.event index looks c.requires.whole is look c.loop-look-test.true (sym c.look-item.is) c.loop-look.invariant step)
 
 pub is_step-requires-clause-there : goal.is_step-requires-clause-there
 is_step-requires-clause-there g c = search rules
@@ -23,12 +23,12 @@ loop-look-preserved g c =
     let searched = c.args.graph.now in
     let into = c.across-into.ensures in
     passed_more searched.bounds c.args.start c.loop-look.look-index c.row-look-items.result.now c.look-item.result c.loop-look-test.true (sym c.look-item.is)
-    (λ step. false≢true (sym c.if-is_step.false ∙ c.is_step.ensures.1 (subst (IsLevelStep searched.bounds c.args.start) (sym into) step))) c.loop-look.invariant
+    (λ step. false≢true (sym c.if-is_step.false ∙ c.is_step.ensures.1 (rw into step))) c.loop-look.invariant
 
 pub returns : goal.returns
 returns g c =
     let searched = c.args.graph.now in
     let looks = c.row-look-items.result.now in
     let place = c.from.ensures ∙ c.number.ensures.value in
-    let is : IsRow searched c.args.event looks = subst (λ x. IsRow searched x looks) place c.row-look-items.ensures in
+    let is : IsRow searched c.args.event looks = rw place at c.row-look-items.ensures in
     none_in_row searched c.args.start c.args.event c.loop-look.look-index looks c.requires.whole is c.loop-look-test.false c.loop-look.invariant

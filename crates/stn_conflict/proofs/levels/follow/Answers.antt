@@ -1,5 +1,5 @@
-use Rattle.std.proofs.{Common.{rules, ◌≡◌, ℕ, Some, ◌<◌, ◌∷◌, ◌++◌, [], None, length, take, refl, sym, subst, ap, ◌+◌, ◌∙◌, arith}, lemmas.{Bool.false≢true, List.{get_or_read, take_more, take_all}}}
-use Rattle.stn_conflict.{specs.{declared.levels.Walk.Walk, Arcs.arc_of, Relaxation.IsLook, Search.{event_at, level_at, LeadsOn}}, proofs.{Tightness.link_among, levels.follow.{Given.Over, Goals.{After-from-event, After-look-item, then-leads_on+in_ok-push, else-leads_on}}, Walks.{IsFollowing, reached_at, level_low, following_begins, following_reaches, following_passes, following_ends}}}
+use Rattle.std.proofs.{Common.{rules, ◌≡◌, ℕ, Some, ◌<◌, ◌∷◌, ◌++◌, [], None, length, take, refl, sym, ap, ◌+◌, ◌∙◌, arith}, lemmas.{Bool.false≢true, List.{get_or_read, take_more, take_all}}}
+use Rattle.stn_conflict.{specs.{declared.levels.Walk.Walk, Arcs.arc_of, Relaxation.IsLook, Search.{event_at, level_at, LeadsOn}}, proofs.{Tightness.link_among, levels.follow.{Given.Over, Goals.{After-from-event, After-look-item, then-leads_on+in_ok-push, else-leads_on}}, Walks.{reached_at, level_low, following_begins, following_reaches, following_passes, following_ends}}}
 use Rattle.stn_conflict.proofs.levels.follow.Goals as goal
 
 -- the event at the place
@@ -81,5 +81,4 @@ loop-look-preserved g c =
 pub returns : goal.returns
 returns g c =
     following_ends c.args.graph.now c.args.start (length c.args.far.now) c.args.place c.unwrap-level.result c.from-event.result c.row-look-items.result.now c.loop-look.walk c.requires.whole c.row-look-items.ensures
-    (subst (λ l. IsFollowing c.args.graph.now.bounds c.args.start (length c.args.far.now) c.args.place c.unwrap-level.result c.from-event.result l c.loop-look.walk)
-    (take_all c.loop-look.look-index c.row-look-items.result.now c.loop-look-test.false) c.loop-look.invariant)
+    (rw (take_all c.loop-look.look-index c.row-look-items.result.now c.loop-look-test.false) at c.loop-look.invariant)

@@ -1,6 +1,6 @@
-use Rattle.std.proofs.Common.{rules, ◌≡◌, ◌∙◌, ℕ, suc, List, Option, Some, length, eqb-true, refl, ap, arith}
+use Rattle.std.proofs.Common.{rules, ◌≡◌, ◌∙◌, ℕ, List, Option, Some, length, eqb-true, refl, sym, ap, arith}
 use Rattle.stn_net.specs.Difference.{Difference}
-use Rattle.stn_conflict.{specs.{declared.links.Link.Link, Arcs.arc_of, Search.level_at}, proofs.{Tightness.link_among, LevelTable.some_same, Steps.{step_from_entries, entries_from_step}, levels.is_step.{Given.Over, Goals.After-from-2}}}
+use Rattle.stn_conflict.{specs.{declared.links.Link.Link, Arcs.arc_of, Search.level_at}, proofs.{Tightness.link_among, Steps.step_told, levels.is_step.{Given.Over, Goals.After-from-2}}}
 use Rattle.stn_conflict.proofs.levels.is_step.Goals as goal
 
 -- the events whose levels are read are those of the link's ends, and have levels
@@ -26,19 +26,16 @@ unwrap-end-requires g c =
 
 pub returns-then-begin-end : goal.returns-then-begin-end
 returns-then-begin-end g c =
+    let levels = level_at c.args.levels.now in
     let e = ends g (goal.at.returns-then-begin-end g c).After-from-2 in
-    let next : c.unwrap-end.result ≡ suc c.unwrap-begin.result = omega (arith, c.if-begin-end.true) in (
-      λ t. step_from_entries c.args.graph.now.bounds c.args.start (length c.args.far.now) (level_at c.args.levels.now) c.args.link _ _ c.requires.levels.levels e.begin_is e.end_is
-          (c.is_tight.ensures.0 t) (c.unwrap-begin.result, c.unwrap-begin.ensures, c.unwrap-end.ensures ∙ ap Some next),
-      λ step. c.is_tight.ensures.1 step.tight,
-    )
+    let told = step_told c.args.graph.now.bounds c.args.start (length c.args.far.now) levels c.args.link c.unwrap-begin.result c.unwrap-end.result c.requires.levels.levels
+    (ap levels (sym e.begin_is) ∙ c.unwrap-begin.ensures) (ap levels (sym e.end_is) ∙ c.unwrap-end.ensures) in
+    (λ t. told.1 (c.is_tight.ensures.0 t, omega (arith, c.if-begin-end.true)), λ step. c.is_tight.ensures.1 step.tight)
 
 pub returns-else-begin-end : goal.returns-else-begin-end
 returns-else-begin-end g c =
+    let levels = level_at c.args.levels.now in
     let e = ends g (goal.at.returns-else-begin-end g c).After-from-2 in
-    let test = c.if-begin-end.false in (
-      λ t. absurd (omega (arith, test, eqb-true _ _ t)),
-      λ step.
-          let (k, low, high) = entries_from_step c.args.graph.now.bounds c.args.start (length c.args.far.now) (level_at c.args.levels.now) c.args.link _ _ c.requires.levels.levels e.begin_is e.end_is step in
-          absurd (omega (arith, test, some_same _ k c.unwrap-begin.result low c.unwrap-begin.ensures, some_same _ (suc k) c.unwrap-end.result high c.unwrap-end.ensures)),
-    )
+    let told = step_told c.args.graph.now.bounds c.args.start (length c.args.far.now) levels c.args.link c.unwrap-begin.result c.unwrap-end.result c.requires.levels.levels
+    (ap levels (sym e.begin_is) ∙ c.unwrap-begin.ensures) (ap levels (sym e.end_is) ∙ c.unwrap-end.ensures) in
+    (λ t. absurd (omega (arith, c.if-begin-end.false, eqb-true _ _ t)), λ step. absurd (omega (arith, c.if-begin-end.false, (told.0 step).1)))

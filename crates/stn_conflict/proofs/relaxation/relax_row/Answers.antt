@@ -1,6 +1,6 @@
-use Rattle.std.{proofs.{Common.{rules, ◌≡◌, inl, inr, ℕ, false, ◌+◌, ◌<◌, length, refl, sym, subst, ◌∙◌, arith}, lemmas.{Int.ints, Bool.cases_lt, List.{get_or_default, get_or_read}, Result.IfOk-from_err}}, specs.Prelude.{pos, ◌≤ℤ◌, slice_index_or}}
+use Rattle.std.{proofs.{Common.{rules, ◌≡◌, inl, inr, ℕ, false, ◌+◌, ◌<◌, refl, subst, ◌∙◌, arith}, lemmas.{Bool.cases_lt, List.{get_or_default, get_or_read}, Result.IfOk-from_err}}, specs.Prelude.{◌≤ℤ◌, slice_index_or}}
 use Rattle.stn_net.specs.Schedule.{times_of}
-use Rattle.stn_conflict.{specs.{declared.outgoing.Look.Look, Relaxation.{IsLook, IsRelaxedOf, is_fresh}}, proofs.{Tightness.link_among, Lowering.{freshens_on, lowers_on, still_relaxed}, Trying.{begun_on, tried, tried_refused}, relaxation.relax_row.{Given.Over, Goals.After-relax}}}
+use Rattle.stn_conflict.{specs.{declared.outgoing.Look.Look, Relaxation.{IsLook, IsRelaxedOf, is_fresh}}, proofs.{Lowering.{freshens_on, lowers_on, still_relaxed}, Trying.{begun_on, tried, tried_refused}, relaxation.relax_row.{Given.Over, Goals.After-relax}}}
 use Rattle.stn_conflict.proofs.relaxation.relax_row.Goals as goal
 
 pub relax-requires : goal.relax-requires
@@ -33,7 +33,7 @@ loop-look-preserved g c =
       | inr past ↦
           let here : k ≡ index = omega arith in
           let same : c.look-item.result ≡ look = c.look-item.is ∙ get_or_default looks index c.look-item.result look c.loop-look-test.true ∙ subst (λ n. slice_index_or looks n look ≡ look) here at in
-          subst (λ (l : Look). IsRelaxedOf bounds new fresh l.link) same t.relaxed
+          rw same at t.relaxed
     ] in
     record {
       begun = begun_on _ _ _ h.begun ok.tables t.own;

@@ -1,6 +1,5 @@
-use Rattle.std.proofs.{Common.{rules, ◌≡◌, ◌+◌, ◌-◌, ◌/◌, ◌∙◌, length, take, ap, refl, sym, subst, arith}, lemmas.Bool.false≢true}
-use Rattle.stn_net.specs.Schedule.{HasSchedule}
-use Rattle.stn_conflict.proofs.Relaxing.{estimates_of_more, network_before}
+use Rattle.std.proofs.{Common.{rules, ◌≡◌, ◌+◌, ◌-◌, ◌/◌, ◌∙◌, length, take, ap, refl, sym, arith}, lemmas.{Bool.false≢true, List.Elements.All-take}}
+use Rattle.stn_conflict.{specs.Relaxation.NamesAmong, proofs.{Relaxing.{among_events, estimates_more, network_before}, Tightness.schedule_earlier}}
 use Rattle.stn_conflict.proofs.search.first_between.Goals as goal
 
 pub settle-requires : goal.settle-requires
@@ -15,7 +14,9 @@ settle-requires g c =
       search = record {
         tables = record { few = h.tables.few; far = ap length items ∙ h.long; by = h.tables.by; among = h.tables.among; fresh = h.tables.fresh };
         from = refl;
-        estimates = rw items (estimates_of_more c.args.graph.now.bounds c.args.graph.now.events c.loop-high.low middle c.loop-high.search.start c.loop-high.known (omega arith) h.long c.requires.named h.known);
+        estimates = rw items (estimates_more (take c.loop-high.low graph.bounds) (take middle graph.bounds) c.loop-high.search.start c.loop-high.known
+            (All-take (NamesAmong (length c.loop-high.known)) middle graph.bounds (among_events graph.bounds graph.events (length c.loop-high.known) h.long c.requires.named))
+            (λ time. schedule_earlier graph.bounds c.loop-high.low middle time (omega arith)) h.known);
       };
     })
 

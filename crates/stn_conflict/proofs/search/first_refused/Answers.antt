@@ -1,5 +1,5 @@
-use Rattle.std.proofs.{Common.{◌≡◌, ◌+◌, ◌∙◌, length, take, refl, sym, subst, arith}, lemmas.Bool.false≢true}
-use Rattle.stn_conflict.{specs.Relaxation.HasTables, proofs.Relaxing.{network_known, network_before}}
+use Rattle.std.proofs.{Common.{◌≡◌, ◌+◌, ◌∙◌, length, take, refl, sym, arith}, lemmas.Bool.false≢true}
+use Rattle.stn_conflict.proofs.Relaxing.{network_known, network_before}
 use Rattle.stn_conflict.proofs.search.first_refused.Goals as goal
 
 pub settle-requires : goal.settle-requires
@@ -9,7 +9,7 @@ settle-requires g c =
       kept = c.requires.kept;
       network = network_known graph.events graph.bounds c.requires.begins c.requires.named;
       search = record {
-        tables = subst (λ n. HasTables n c.begin.new.self) c.requires.tables.far c.begin.ensures.tables;
+        tables = rw c.requires.tables.far at c.begin.ensures.tables;
         from = refl;
         estimates = rw c.begin.ensures.start (c.begin.ensures.estimates graph.bounds graph.events c.requires.tables.far (network_known graph.events graph.bounds c.requires.begins c.requires.named));
       };

@@ -1,4 +1,4 @@
-use Rattle.std.{proofs.{Common.{rules, ◌≡◌, ◌∷◌, [], arith, ap, length, ◌∙◌}, lemmas.{Int.ints, List.{length-take, reverse-append, length-reverse, get_or_read}}}, specs.Prelude.{pos, reverse}}
+use Rattle.std.{proofs.{Common.{rules, ◌≡◌, ◌∷◌, [], arith, ap, length, ◌∙◌}, lemmas.{Int.ints, List.{reverse-append, length-reverse, get_or_read}}}, specs.Prelude.{pos, reverse}}
 use Rattle.stn_net.specs.Schedule.{times_of}
 use Rattle.stn_conflict.{specs.{declared.links.Link.Link, Arcs.arc_of, Culprit.IsCulprit}, proofs.{CycleSums.cycle_of_way, Tightness.link_among, Relaxing.{among_events, network_before}}}
 use Rattle.stn_conflict.proofs.search.named.Goals as goal
@@ -37,8 +37,8 @@ returns g c =
     let back = c.get-2.ensures.value ∙ read in
     let reversed = c.reverse.ensures.items ∙ ap reverse c.in_ok-push.ensures.items ∙ reverse-append links (link ∷ []) in
     let culprit : IsCulprit bounds link = record { there = first.there; before = first.before; refused = first.refused; side = side.ensures.side } in
-    rw reversed (cycle_of_way bounds c.args.graph.now.events link (reverse links) _ (times_of far (arc_of bounds link).from) _ culprit arc.ordered
-    (exact.tightest (arc_of bounds link).to exact.start_named) (exact.tightest (arc_of bounds link).from below) (omega (arith, ints))
-    (rw (c.before-before.ensures, arc.to, arc.from) at c.in_ok-links.ensures.way)
+    rw reversed (cycle_of_way bounds link (reverse links) _ (times_of far (arc_of bounds link).from) arc.ordered
+    (exact.tightest (arc_of bounds link).to exact.start_named) (exact.tightest (arc_of bounds link).from below)
+    (culprit, rw (c.before-before.ensures, arc.to, arc.from) at c.in_ok-links.ensures.way) c.args.graph.now.events _ (omega (arith, ints))
     (omega (arith, length-reverse links, c.in_ok-links.ensures.short, ap length c.deref.ensures.value, side.ensures.tables.far))
     (omega (arith, ints)))

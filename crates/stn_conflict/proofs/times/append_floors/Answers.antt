@@ -1,4 +1,4 @@
-use Rattle.std.proofs.{Common.{◌≡◌, List, [], ◌∷◌, ◌++◌, ap, sym, subst, ◌∙◌, append_assoc, arith, rules}, lemmas.{Bool.false≢true, List.Elements.All-push}}
+use Rattle.std.proofs.{Common.{◌≡◌, List, [], ◌∷◌, ◌++◌, ap, ◌∙◌, append_assoc, arith, rules}, lemmas.{Bool.false≢true, List.Elements.All-push}}
 use Rattle.stn_net.{specs.{Difference.{Difference, NamesEvents}, Windows.{Dispatch.IsLeft, Leading.floor_at}}, proofs.Soonest.{floor_pushed, floor_kept}}
 use Rattle.stn_conflict.proofs.times.append_floors.Goals.{then-is_left+in_ok-push, else-is_left}
 use Rattle.stn_conflict.proofs.times.append_floors.Goals as goal
@@ -19,10 +19,10 @@ loop-number-preserved g c =
           ∙ ap (λ (xs : List Difference). xs ++ floor_at now number ∷ []) so_far ∙ append_assoc c.args.out.now.items floors (floor_at now number ∷ []) in (
             floors ++ floor_at now number ∷ [],
             new,
-            floor_pushed done now number floors (subst (IsLeft done) is (c.is_left.ensures.0 w.if-is_left.true)) are,
+            floor_pushed done now number floors (rw is at (c.is_left.ensures.0 w.if-is_left.true)) are,
             All-push (NamesEvents c.args.events) floors (floor_at now number) named (record { from = omega arith; to = omega arith }),
           )
       | else-is_left w ↦
-          let not_left : ¬ IsLeft done number = λ left. let yes = c.is_left.ensures.1 (subst (IsLeft done) (sym is) left) in let not = w.if-is_left.false in false≢true (cc) in
+          let not_left : ¬ IsLeft done number = λ left. let yes = c.is_left.ensures.1 (rw is left) in let not = w.if-is_left.false in false≢true (cc) in
           (floors, ap (λ v. v.items) w.out-is ∙ so_far, floor_kept done now number floors not_left are, named)
     ]

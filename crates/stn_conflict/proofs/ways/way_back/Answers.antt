@@ -1,5 +1,5 @@
-use Rattle.std.{proofs.{Common.{rules, ◌≡◌, ℕ, suc, Some, length, sym, subst, arith, ap, ◌∙◌}, lemmas.{List.length_push, Option.{MatchOption-at_some, MatchOption-at_none}}}, specs.Prelude.{reverse, unwrap_or}}
-use Rattle.stn_conflict.{specs.{Arcs.{arc_of, IsChain}, Search.{level_at, HasNoStep, IsFirstStepTo}}, proofs.{Tightness.link_among, OneCycle.level_of_start, LevelTable.some_same, Steps.{lower_by_one, at_start, chain_before_way}, ways.way_back.Given.Over}}
+use Rattle.std.{proofs.{Common.{rules, ◌≡◌, ℕ, suc, Some, length, sym, arith, ap, ◌∙◌}, lemmas.{List.length_push, Option.MatchOption-at_none}}, specs.Prelude.unwrap_or}
+use Rattle.stn_conflict.{specs.{Arcs.arc_of, Search.{level_at, HasNoStep, IsFirstStepTo}}, proofs.{Tightness.link_among, OneCycle.level_of_start, LevelTable.some_same, Steps.{lower_by_one, at_start, chain_before_way}, ways.way_back.Given.Over}}
 use Rattle.stn_conflict.proofs.ways.way_back.Goals as goal
 
 -- the link that is taken is the first step to the event
@@ -52,7 +52,7 @@ returns g c =
     let at = (c.in_ok-levels.ensures.levels.level c.args.start 0).1 (level_of_start bounds c.args.start) in
     record {
       way = record {
-        chain = subst (λ z. IsChain bounds (reverse c.loop-link.links.items) z c.args.end) ended h.chain;
+        chain = rw ended at h.chain;
         first = h.first;
       };
       short = omega (arith, h.short 0 (ap (level_at levels) ended ∙ at));

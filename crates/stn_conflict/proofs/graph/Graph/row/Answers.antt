@@ -1,9 +1,12 @@
-use Rattle.std.{proofs.Common.{rules, ◌≡◌, ◌++◌, ◌<◌, length, take, ap, sym, subst, ◌∙◌, arith}, specs.List.Sorted.IsNonDecreasingBy}
-use Rattle.stn_conflict.{specs.Relaxation.{row_of, IsCutAt, IsRow, Searched}, proofs.Rows.{row_cut, row_is}}
+use Rattle.std.proofs.Common.{rules, ◌≡◌, ◌++◌, ◌<◌, length, ap, sym, ◌∙◌, arith}
+use Rattle.stn_conflict.{specs.Relaxation.{row_of, IsCutAt, Searched}, proofs.Rows.{row_before, row_is}}
 use Rattle.stn_conflict.proofs.graph.Graph.row.Goals as goal
 
 pub looks_before-requires : goal.looks_before-requires
-looks_before-requires g c = search (rules, row_is)
+looks_before-requires g c =
+    let first = c.self.invariant.stand.first.stand in
+    let ordered = (first.row c.args.event (omega (arith, c.requires, ap (λ (s : Searched). s.events) c.self.view_is))).ordered in
+    search (rules, row_is)
 
 pub returns : goal.returns
 returns g c =
@@ -14,6 +17,6 @@ returns g c =
     let read = row_is rows c.args.event c.index-row.result.now there c.index-row.ensures in
     let tested : row ≡ c.deref-2.result.now = read ∙ sym c.deref-2.ensures.value in
     let sliced : row ≡ c.deref.result.now = read ∙ sym c.deref.ensures.value in
-    let cut : IsCutAt row s.end c.looks_before.result = subst (λ l. IsCutAt l s.end c.looks_before.result) (sym tested) c.looks_before.ensures in
-    let is = row_cut s.events s.end c.args.event c.looks_before.result (s.base.now ++ s.extra.now) s.rows.now c.self.invariant cut in
-    subst (λ v. IsRow v c.args.event (take c.looks_before.result c.deref.result.now)) c.self.view_is (rw sliced at is)
+    let cut : IsCutAt row s.end c.looks_before.result = rw tested c.looks_before.ensures in
+    let is = row_before s.events s.end c.args.event c.looks_before.result (s.base.now ++ s.extra.now) s.rows.now c.self.invariant (omega (arith, there, c.self.invariant.stand.first.stand.long)) cut in
+    rw c.self.view_is at (rw sliced at is)

@@ -16,4 +16,4 @@ returns-clause-found g c =
     let at : c.from.result ≡ c.args.to = c.from.ensures ∙ c.number.ensures.value in
     let is : c.index.result.now ≡ times_of c.find.new.self.far.items c.args.to =
     c.index.ensures ∙ ap (λ k. get_or c.find.new.self.far.items k c.index.result.now) at ∙ get_or_default c.find.new.self.far.items c.args.to c.index.result.now (pos 0) there in
-    subst (λ l. IsTightest l c.args.from c.args.to c.index.result.now) whole (subst (λ m. IsTightest c.new-graph.result.bounds c.args.from c.args.to m) (sym is) (exact.tightest c.args.to there))
+    rw whole at (subst (λ m. IsTightest c.new-graph.result.bounds c.args.from c.args.to m) (sym is) (exact.tightest c.args.to there))

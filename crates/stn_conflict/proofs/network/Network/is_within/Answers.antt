@@ -1,13 +1,12 @@
-use Rattle.std.proofs.{Common.{subst, to_z, of_z, w64, ◌≤ℤ◌, arith}, lemmas.Int.ints}
+use Rattle.std.proofs.{Common.{to_z, of_z, w64, ◌≤ℤ◌, arith}, lemmas.Int.ints}
 use Rattle.stn_net.specs.Matrix.Tightest.{IsTightest}
-use Rattle.stn_conflict.specs.Listing.{ListedBounds}
 use Rattle.stn_conflict.proofs.network.Network.is_within.Goals as goal
 
 pub returns-in-Some-2-clause-told : goal.returns-in-Some-2-clause-told
 returns-in-Some-2-clause-told g c =
     let bounds = c.args.self.now.bounds in
     let tightest : IsTightest c.args.self.now.bounds c.args.from c.args.to c.in-Some-2.far =
-    subst (λ (l : ListedBounds). IsTightest l.bounds c.args.from c.args.to c.in-Some-2.far) c.latest_apart.ensures.same (rw c.in-Some-2.is at c.in_ok-far.ensures.found) in
+    rw c.latest_apart.ensures.same at (rw c.in-Some-2.is at c.in_ok-far.ensures.found) in
     let (other, other_is, other_at) = tightest.attained in
     record {
       possible = (other, other_is);

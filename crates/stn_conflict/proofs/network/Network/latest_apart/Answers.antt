@@ -1,53 +1,31 @@
-use Rattle.std.proofs.{Common.{◌≡◌, ◌+◌, pos, true, get_or, length, replicate, refl, rules, ap, subst, ◌∙◌, arith}, lemmas.{Int.ints, List.{get_or_default, length-replicate}}}
+use Rattle.std.proofs.{Common.{◌≡◌, ◌+◌, pos, true, get_or, length, replicate, rules, ap, ◌∙◌, arith}, lemmas.{Int.ints, List.get_or_default}}
 use Rattle.stn_net.specs.Schedule.{times_of}
-use Rattle.stn_conflict.{specs.{declared.arcs.Direction.TheVariants.Forward, Listing.ListedBounds, Relaxation.{AreDistances, AreFirstRows, IsSearch}}, proofs.Relaxing.{all_fresh, among_events, distances_relaxed, distances_taken}}
+use Rattle.stn_conflict.{specs.{Listing.ListedBounds, Relaxation.AreDistances}, proofs.{Relaxing.distances_taken, Searches.{pending_all, pending_none}}}
 use Rattle.stn_conflict.proofs.network.Network.latest_apart.Goals as goal
 
 pub invariant_of-self-then-not-branch : goal.invariant_of-self-then-not-branch
 invariant_of-self-then-not-branch g c =
     let is = c.self.inside in
     let old = c.self.invariant in
-    let whole = c.deref.ensures.value in
-    let late = subst (λ l. IsSearch l 0 (is.events + 1) c.extend.new.latest) whole c.extend.ensures.late in
-    let counted : c.extend.new.latest.fresh.len ≡ is.events + 1 = search rules ∙ late.tables.fresh in
+    let e = rw c.deref.ensures.value at c.extend.ensures in
+    let counted : c.extend.new.latest.fresh.len ≡ is.events + 1 = search rules ∙ e.late.tables.fresh in
     let filled : c.fill.new.self.items ≡ replicate (is.events + 1) true = rw counted at (c.fill.ensures.items (λ _ e. e)) in
-    record {
-      few = old.few;
-      network = old.network;
-      first = subst (λ l. AreFirstRows Forward is.events l (is.events + 1) c.extend.new.rows) whole c.extend.ensures.rows;
-      pending = record {
-        late = record {
-          tables = record { few = late.tables.few; far = late.tables.far; by = late.tables.by; among = late.tables.among; fresh = ap length filled ∙ length-replicate (is.events + 1) true };
-          from = late.from;
-          estimates = late.estimates;
-        };
-        relaxed = all_fresh is.events is.bounds.items c.extend.new.latest.far.items c.fill.new.self.items (is.events + 1) filled (among_events is.bounds.items is.events (is.events + 1) refl old.network.named);
-      };
-      tables = old.tables;
-    }
+    record { few = old.few; network = old.network; first = e.rows; pending = pending_all is.events is.bounds.items c.extend.new.latest e.late c.fill.new.self old.network filled; tables = old.tables }
 
 pub invariant_of-self-2 : goal.invariant_of-self-2
 invariant_of-self-2 g c =
     let is = c.self.inside in
     let old = c.self.invariant in
-    let whole = c.deref.ensures.value in
-    let exact : AreDistances is.bounds.items 0 c.extend.new.latest.far.items =
-    subst (λ l. AreDistances l 0 c.extend.new.latest.far.items) whole (c.in_ok-extend.ensures.distances c.if-not-branch.false) in
-    let met = distances_relaxed is.bounds.items 0 c.extend.new.latest.far.items exact in
-    record {
-      few = old.few;
-      network = old.network;
-      first = subst (λ l. AreFirstRows Forward is.events l (is.events + 1) c.extend.new.rows) whole c.extend.ensures.rows;
-      pending = record { late = subst (λ l. IsSearch l 0 (is.events + 1) c.extend.new.latest) whole c.extend.ensures.late; relaxed = λ link there listed stale. met link there };
-      tables = old.tables;
-    }
+    let e = rw c.deref.ensures.value at c.extend.ensures in
+    let exact = rw c.deref.ensures.value at (c.in_ok-extend.ensures.distances c.if-not-branch.false) in
+    record { few = old.few; network = old.network; first = e.rows; pending = pending_none is.events is.bounds.items c.extend.new.latest e.late exact; tables = old.tables }
 
 pub returns-clause-taken : goal.returns-clause-taken
 returns-clause-taken g c =
     let far = c.extend.new.latest.far.items in
     let bounds = c.args.self.now.bounds in
     let whole : c.deref.result.now ≡ bounds = c.deref.ensures.value ∙ ap (λ (l : ListedBounds). l.bounds) c.self.view_is in
-    let exact : AreDistances bounds 0 far = subst (λ l. AreDistances l 0 far) whole (c.in_ok-extend.ensures.distances c.if-not-branch.false) in
+    let exact : AreDistances bounds 0 far = rw whole at (c.in_ok-extend.ensures.distances c.if-not-branch.false) in
     let taken = distances_taken bounds 0 far c.args.from c.args.to exact in
     let long : length far ≡ c.self.inside.events + 1 = c.extend.ensures.late.tables.far in
     let events = ap (λ (l : ListedBounds). l.events) c.self.view_is in

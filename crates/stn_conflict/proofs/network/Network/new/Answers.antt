@@ -1,5 +1,5 @@
-use Rattle.std.proofs.{Common.{◌≡◌, ◌+◌, ◌++◌, true, length, replicate, refl, rules, subst, ap, ◌∙◌, arith}, lemmas.List.length-replicate}
-use Rattle.stn_conflict.{specs.Relaxation.{AreEstimates, IsNetwork}, proofs.Relaxing.{network_of, all_fresh, among_events}}
+use Rattle.std.proofs.Common.{◌≡◌, ◌+◌, ◌++◌, true, length, replicate, rules, ap, ◌∙◌}
+use Rattle.stn_conflict.{specs.Relaxation.{AreEstimates, IsNetwork}, proofs.{Relaxing.network_of, Searches.pending_all}}
 use Rattle.stn_conflict.proofs.network.Network.new.Goals as goal
 
 pub invariant_of-result : goal.invariant_of-result
@@ -14,19 +14,12 @@ invariant_of-result g c =
     let counted : c.begin.new.self.fresh.len ≡ c.args.events + 1 = search rules ∙ tables.fresh ∙ long in
     let filled : c.fill.new.self.items ≡ replicate (c.args.events + 1) true = rw counted at (c.fill.ensures.items (λ _ e. e)) in
     let estimates : AreEstimates c.extend_from_slice.new.self.items 0 c.begin.new.self.far.items =
-    subst (λ s. AreEstimates c.extend_from_slice.new.self.items s c.begin.new.self.far.items) c.origin.ensures (c.begin.ensures.estimates c.extend_from_slice.new.self.items c.args.events long network) in
+    rw c.origin.ensures at (c.begin.ensures.estimates c.extend_from_slice.new.self.items c.args.events long network) in
     record {
       few = c.requires.few;
       network = network;
       first = rw c.from.ensures at (c.in_ok-rows.ensures c.extend_from_slice.new.self.items);
-      pending = record {
-        late = record {
-          tables = record { few = omega arith; far = tables.far ∙ long; by = tables.by ∙ long; among = rw long at tables.among; fresh = ap length filled ∙ length-replicate (c.args.events + 1) true };
-          from = c.begin.ensures.start ∙ c.origin.ensures;
-          estimates = estimates;
-        };
-        relaxed = all_fresh c.args.events c.extend_from_slice.new.self.items c.begin.new.self.far.items c.fill.new.self.items (c.args.events + 1) filled
-            (among_events c.extend_from_slice.new.self.items c.args.events (c.args.events + 1) refl network.named);
-      };
+      pending = pending_all c.args.events c.extend_from_slice.new.self.items c.begin.new.self
+          (record { tables = rw long at tables; from = c.begin.ensures.start ∙ c.origin.ensures; estimates = estimates }) c.fill.new.self network filled;
       tables = rw (← c.from-3.ensures) c.in_ok-search.ensures;
     }

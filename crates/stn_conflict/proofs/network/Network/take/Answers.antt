@@ -1,6 +1,6 @@
 use Rattle.std.proofs.{Common.{◌≡◌, ◌+◌, [], ◌∷◌, ◌++◌, refl, sym, subst, ap, length, take, ◌∙◌, arith}, Math.Seq.take-append_seam, lemmas.Bool.true≢false}
 use Rattle.stn_net.specs.{Difference.NamesEvents, Schedule.HasSchedule}
-use Rattle.stn_conflict.{specs.{declared.arcs.Direction.TheVariants.Forward, Listing.ListedBounds, Relaxation.{AreDistances, AreFirstRows, HasTables, IsSearch}}, proofs.{Relaxing.{distances_relaxed, network_more}, Rows.{first_own, rows_longer}, Searches.tables_of, network.Network.take.{Given.Over, Goals.After-deref}}}
+use Rattle.stn_conflict.{specs.{declared.arcs.Direction.TheVariants.Forward, Listing.ListedBounds, Relaxation.{AreFirstRows, HasTables}}, proofs.{Relaxing.network_more, Rows.{first_own, rows_longer}, Searches.{pending_none, tables_of}, network.Network.take.{Given.Over, Goals.After-deref}}}
 use Rattle.stn_conflict.proofs.network.Network.take.Goals as goal
 
 -- the bound is about the events
@@ -38,19 +38,13 @@ invariant_of-self-in-Ok-true g c =
     let is = c.self.inside in
     let old = c.self.invariant in
     let place = (goal.at.invariant_of-self-in-Ok-true g c).After-deref in
-    let bounds = c.push.new.self.items in
-    let whole : c.deref.result.now ≡ bounds = c.deref.ensures.value in
-    let exact : AreDistances bounds 0 c.extend-fits.new.latest.far.items =
-    subst (λ l. AreDistances l 0 c.extend-fits.new.latest.far.items) whole (c.in-Ok-true.ensures.distances c.in-Ok-true.field-0-test) in
-    let met = distances_relaxed bounds 0 c.extend-fits.new.latest.far.items exact in
+    let e = rw c.deref.ensures.value at c.extend-fits.ensures in
+    let exact = rw c.deref.ensures.value at (c.in-Ok-true.ensures.distances c.in-Ok-true.field-0-test) in
     record {
       few = old.few;
       network = rw c.in_ok-push.ensures.items (network_more is.events is.bounds.items c.args.bound old.network (named g place));
-      first = subst (λ l. AreFirstRows Forward is.events l (is.events + 1) c.extend-fits.new.rows) whole c.extend-fits.ensures.rows;
-      pending = record {
-        late = subst (λ l. IsSearch l 0 (is.events + 1) c.extend-fits.new.latest) whole c.extend-fits.ensures.late;
-        relaxed = λ link there listed stale. met link there;
-      };
+      first = e.rows;
+      pending = pending_none is.events c.push.new.self.items c.extend-fits.new.latest e.late exact;
       tables = rw old.pending.late.tables.far at c.copy_from.ensures.tables;
     }
 
@@ -65,7 +59,7 @@ invariant_of-self-2 g c =
     let back : c.truncate.new.self.items ≡ is.bounds.items =
     c.truncate.ensures.items ∙ ap (take c.len-count.result) c.in_ok-push.ensures.items ∙ ap (λ n. take n (is.bounds.items ++ c.args.bound ∷ [])) count ∙ take-append_seam is.bounds.items (c.args.bound ∷ []) in
     let rows : AreFirstRows Forward is.events (is.bounds.items ++ c.args.bound ∷ []) (is.events + 1) c.extend-fits.new.rows =
-    subst (λ l. AreFirstRows Forward is.events l (is.events + 1) c.extend-fits.new.rows) (longer g place) c.extend-fits.ensures.rows in
+    rw (longer g place) at c.extend-fits.ensures.rows in
     let kept : HasTables (is.events + 1) saved = rw old.pending.late.tables.far at c.copy_from.ensures.tables in
     rw back (record {
       few = old.few;

@@ -1,10 +1,15 @@
-use Rattle.std.proofs.{Common.{rules, ◌≡◌, inl, inr, ◌*◌, ◌<◌, length, set, take, sym, subst, ap, ◌∙◌, arith}, lemmas.{Bool.cases_eq, List.length-set}}
-use Rattle.std.specs.List.Sorted.{IsNonDecreasingBy}
-use Rattle.stn_conflict.{specs.Relaxation.{row_of, IsCutAt}, proofs.Rows.{AreCut, replaced_here, replaced_other, row_is, rows_cut}}
+use Rattle.std.proofs.{Common.{rules, ◌≡◌, inl, inr, ◌*◌, ◌<◌, length, set, take, sym, ap, ◌∙◌, arith}, lemmas.{Bool.cases_eq, List.length-set}}
+use Rattle.stn_conflict.{specs.Relaxation.{row_of, IsCutAt}, proofs.Rows.{replaced_here, replaced_other, row_is, rows_cut}}
 use Rattle.stn_conflict.proofs.outgoing.Rows.cut.Goals as goal
 
 pub looks_before-kept-requires : goal.looks_before-kept-requires
-looks_before-kept-requires g c = search (rules, row_is)
+looks_before-kept-requires g c =
+    let h = c.loop-event.invariant in
+    let there : c.loop-event.event < length c.loop-event.self.outgoing.items = omega (arith, c.loop-event-test.true, c.len-event-end.ensures, h.long) in
+    let first = c.requires.1.stand in
+    let ordered = (first.row c.loop-event.event (omega (arith, there, h.long))).ordered in
+    let same = h.rest c.loop-event.event (omega arith) in
+    search (rules, row_is)
 
 pub loop-event-preserved : goal.loop-event-preserved
 loop-event-preserved g c =
@@ -17,7 +22,7 @@ loop-event-preserved g c =
     let there : event < length rows = omega (arith, c.loop-event-test.true, c.len-event-end.ensures, h.long) in
     let was : row_of rows event ≡ row_of initial event = h.rest event (omega arith) in
     let read : c.deref.result.now ≡ row_of initial event = c.deref.ensures.value ∙ sym (row_is rows event c.index.result.now there c.index.ensures) ∙ was in
-    let at : IsCutAt (row_of initial event) c.args.place kept = subst (λ l. IsCutAt l c.args.place kept) read c.looks_before-kept.ensures in
+    let at : IsCutAt (row_of initial event) c.args.place kept = rw read at c.looks_before-kept.ensures in
     let here : row_of (set rows event new) event ≡ take kept (row_of initial event) =
     replaced_here rows event new there ∙ c.truncate.ensures.items ∙ ap (take kept) (sym (row_is rows event c.index_mut.result.now there c.index_mut.ensures.value) ∙ was) in
     record {
@@ -26,7 +31,7 @@ loop-event-preserved g c =
       long = length-set rows event new ∙ h.long;
       added = h.added;
       cut = λ x below. elim (cases_eq x event) [
-        | inl same ↦ subst (λ z. AreCut (row_of initial z) c.args.place (row_of (set rows event new) z)) (sym same) (kept, at, here)
+        | inl same ↦ rw same (kept, at, here)
         | inr apart ↦ (let (n, front, is) = h.cut x (omega arith) in (n, front, replaced_other rows event new x apart ∙ is))
       ];
       rest = λ x past. replaced_other rows event new x (λ same. omega arith) ∙ h.rest x (omega arith);

@@ -1,5 +1,4 @@
-use Rattle.std.proofs.{Common.{◌≡◌, ◌+◌, ◌<◌, length, ap, sym, subst, arith}, lemmas.{Int.ints, List.get_or_read}}
-use Rattle.std.specs.Prelude.{slice_index_or}
+use Rattle.std.{proofs.{Common.{◌≡◌, ◌<◌, length, ap, arith}, lemmas.{Int.ints, List.get_or_read}}, specs.Prelude.slice_index_or}
 use Rattle.stn_conflict.proofs.Relaxing.{back_over}
 use Rattle.stn_conflict.proofs.relaxation.Search.comes_back.Goals as goal
 
@@ -19,7 +18,7 @@ loop-preserved g c =
     let below : c.loop.here < length c.args.self.now.by.items = omega (arith, c.loop.invariant.here, c.requires.tables.by) in
     let is : c.index-from.result.now ≡ slice_index_or c.args.self.now.by.items c.loop.here 0 = get_or_read c.args.self.now.by.items _ _ below c.index-from.ensures 0 in
     record {
-      here = subst (λ n. n < c.args.graph.now.events + 1) (sym is) (c.requires.tables.among c.loop.here 0 below);
+      here = rw is (c.requires.tables.among c.loop.here 0 below);
       least = omega (arith, ints);
       most = omega (arith, ints);
       kept = λ times met.

@@ -1,5 +1,4 @@
-use Rattle.std.proofs.Common.{refl, subst}
-use Rattle.stn_conflict.specs.Relaxation.{HasTables}
+use Rattle.std.proofs.Common.{refl}
 use Rattle.stn_conflict.proofs.relaxation.Search.find.Goals as goal
 
 pub settle-requires : goal.settle-requires
@@ -7,7 +6,7 @@ settle-requires g c = record {
   network = c.requires.network;
   kept = c.requires.kept;
   search = record {
-    tables = subst (λ n. HasTables n c.begin.new.self) c.requires.tables.far c.begin.ensures.tables;
+    tables = rw c.requires.tables.far at c.begin.ensures.tables;
     from = refl;
     estimates = rw c.begin.ensures.start (c.begin.ensures.estimates c.args.graph.now.bounds c.args.graph.now.events c.requires.tables.far c.requires.network);
   };

@@ -1,5 +1,6 @@
-use Rattle.std.proofs.{Common.{◌≡◌, true, set, ◌∙◌, arith}, lemmas.List.length-set}
-use Rattle.stn_conflict.proofs.Relaxing.{estimates_push, relaxed_push}
+use Rattle.std.proofs.{Common.{◌≡◌, true, [], ◌∷◌, ◌++◌, length, set, ◌∙◌, arith}, lemmas.List.{length-set, Elements.All-push}}
+use Rattle.stn_net.proofs.Closure.{schedule_before}
+use Rattle.stn_conflict.{specs.Relaxation.NamesAmong, proofs.Relaxing.{estimates_more, relaxed_push}}
 use Rattle.stn_conflict.proofs.relaxation.Search.freshen.Goals as goal
 
 pub returns : goal.returns
@@ -13,7 +14,8 @@ returns g c = λ events bounds named old.
       late = record {
         tables = record { few = t.few; far = t.far; by = t.by; among = t.among; fresh = length-set (set self.fresh.items bound.from true) bound.to true ∙ length-set self.fresh.items bound.from true ∙ t.fresh };
         from = old.late.from;
-        estimates = estimates_push events 0 bounds bound self.far.items t.far named old.late.estimates;
+        estimates = estimates_more bounds (bounds ++ bound ∷ []) 0 self.far.items (All-push (NamesAmong (length self.far.items)) bounds bound old.late.estimates.named (omega (arith, t.far, named.from), omega (arith, t.far, named.to)))
+            (schedule_before bounds (bound ∷ [])) old.late.estimates;
       };
       relaxed = relaxed_push events bounds bound self.far.items self.fresh.items (omega (arith, t.fresh, named.from)) (omega (arith, t.fresh, named.to)) old.relaxed;
     })

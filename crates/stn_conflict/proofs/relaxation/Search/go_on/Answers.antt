@@ -1,4 +1,4 @@
-use Rattle.std.proofs.Common.{sym, ◌∙◌}
+use Rattle.std.proofs.Common.{rules, sym, ◌∙◌}
 use Rattle.stn_conflict.proofs.Searches.{begun_of, found_all, found_none, still_search}
 use Rattle.stn_conflict.proofs.relaxation.Search.go_on.Goals as goal
 
@@ -15,9 +15,6 @@ returns g c =
     let value = c.is_ok.ensures.value in
     record {
       search = still_search graph old new c.requires.search e.begun e.start e.lowers;
-      possible = (
-        (λ fits. (found_all graph old new c.requires.search e.begun e.start e.lowers result e.refused e.met (sym value ∙ fits)).0),
-        (λ has. value ∙ found_none graph old new c.requires.search e.begun e.start e.lowers result e.refused e.met has),
-      );
+      possible = search (rules, found_all, found_none);
       distances = λ fits. (found_all graph old new c.requires.search e.begun e.start e.lowers result e.refused e.met (sym value ∙ fits)).1;
     }

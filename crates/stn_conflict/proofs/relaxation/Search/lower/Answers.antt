@@ -1,4 +1,4 @@
-use Rattle.std.{proofs.{Common.{rules, ◌≡◌, inl, inr, ℕ, List, Bool, ◌+◌, ◌<◌, length, set, sym, ap, subst, ◌∙◌, arith}, lemmas.{Int.ints, Bool.cases_eq, List.{get_or_read, length-set, Elements.All-set}}}, specs.Prelude.{All, ℤ, pos, ◌<ℤ◌}}
+use Rattle.std.{proofs.{Common.{rules, ◌≡◌, inl, inr, ℕ, List, Bool, ◌+◌, ◌<◌, length, sym, ap, ◌∙◌, arith}, lemmas.{Int.ints, Bool.cases_eq, List.{get_or_read, length-set, Elements.All-set}}}, specs.Prelude.{ℤ, ◌<ℤ◌}}
 use Rattle.stn_net.specs.Schedule.{times_of}
 use Rattle.stn_conflict.{specs.Relaxation.{AreRelaxed}, proofs.{Trying.begun_on, Lowering.{fallen_other, falls, floor_kept, relaxed_elsewhere}, Searches.unrefused, relaxation.Search.lower.{Given.Over, Goals.After-index_mut}}}
 use Rattle.stn_conflict.proofs.relaxation.Search.lower.Goals as goal
@@ -25,8 +25,7 @@ relax_until_met-requires-clause-begun g c =
       few = rw t.far t.few;
       far = length-set self.far.items _ _;
       by = length-set self.by.items _ _ ∙ t.by ∙ sym t.far;
-      among = subst (λ n. All (λ x. x < n) (set self.by.items c.from-place.result c.from.result)) (sym t.far)
-          (All-set (λ x. x < c.args.graph.now.events + 1) self.by.items c.from-place.result c.from.result (rw start begun.start_named) t.among);
+      among = rw t.far (All-set (λ x. x < c.args.graph.now.events + 1) self.by.items c.from-place.result c.from.result (rw start begun.start_named) t.among);
       fresh = length-set self.fresh.items _ _ ∙ t.fresh ∙ sym t.far;
     }) (elim (cases_eq self.start c.from-place.result) [
       | inl same ↦

@@ -1,4 +1,4 @@
-use Rattle.std.proofs.{Common.{sym, ◌∙◌, refl}, lemmas.List.with_items_is}
+use Rattle.std.proofs.{Common.{rules, refl}, lemmas.List.with_items_is}
 use Rattle.stn_conflict.proofs.relaxation.Search.relax_from.Goals as goal
 
 pub relax_row-requires : goal.relax_row-requires
@@ -13,9 +13,5 @@ returns g c =
     record {
       start = refl;
       sweeps = refl;
-      relaxes = rw (
-        with_items_is old.far _ (is.far ∙ sym was.far ∙ sym old.far.ok.0),
-        with_items_is old.by _ (is.by ∙ sym was.by ∙ sym old.by.ok.0),
-        with_items_is old.fresh _ (is.fresh ∙ sym was.fresh ∙ sym old.fresh.ok.0),
-      ) e;
+      relaxes = search (rules, with_items_is);
     }

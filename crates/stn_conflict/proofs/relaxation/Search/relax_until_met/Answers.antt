@@ -1,10 +1,19 @@
-use Rattle.std.{proofs.{Common.{rules, ◌≡◌, ◌+◌, ◌<◌, length, refl, ap, sym, subst, ◌∙◌, arith}, lemmas.Int.ints}, specs.Prelude.{pos, All}}
+use Rattle.std.{proofs.{Common.{◌≡◌, ◌+◌, ◌<◌, length, refl, ap, sym, ◌∙◌, arith}, lemmas.Int.ints}, specs.Prelude.{pos, ◌<ℤ◌, All}}
 use Rattle.stn_net.specs.{Schedule.times_of}
-use Rattle.stn_conflict.{specs.Relaxation.{Lowers, NamesAmong}, proofs.{Lowering.{fallen_fresh, lowers_none, lowers_on}, Relaxing.all_met, Sweeps.{above, above_most, fewer_above, some_highest}, relaxation.Search.relax_until_met.{Given.Over, Goals.{After-sweep, then-self-count-via-then-self-count, then-self-count-via-else-self-count+then-goes_round}}}}
+use Rattle.stn_conflict.{specs.Relaxation.{Lowers, NamesAmong}, proofs.{Lowering.{fallen_fresh, lowers_none, lowers_on}, Relaxing.all_met, Sweeps.{above, above_least, above_most, fewer_above, some_highest}, relaxation.Search.relax_until_met.{Given.Over, Goals.{After-sweep, then-self-count-via-then-self-count, then-self-count-via-else-self-count+then-goes_round}}}}
 use Rattle.stn_conflict.proofs.relaxation.Search.relax_until_met.Goals as goal
 
 pub loop-event-init : goal.loop-event-init
-loop-event-init g c = search (rules, above_most, ints)
+loop-event-init g c = record {
+  begun = c.requires.begun;
+  start = refl;
+  lowers = lowers_none c.args.graph.now.bounds c.args.self.now.start c.args.self.now.far.items;
+  relaxed = c.requires.relaxed;
+  few = omega arith;
+  counted = λ x below now top highest.
+      let less = above_most (c.args.graph.now.events + 1) c.args.self.now.start top c.args.self.now.far.items c.requires.begun.start_named (omega (arith, ints, c.requires.begun.own, highest.floor.own)) in
+      omega (arith, ints);
+}
 
 -- the sweep lowers the estimates as one from the same start
 next : (g : Over) (c : After-sweep g) → Lowers c.args.graph.now.bounds c.args.self.now.start c.loop-event.self.far.items c.sweep.new.self.far.items
@@ -35,8 +44,8 @@ loop-event-preserved g c =
       counted = λ x below now top highest.
           let fewer = fewer_above c.args.graph.now.whole c.args.graph.now.events bounds start first mid far fresh top e.begun.kept e.begun.network highest h.lowers step named own ok.relaxed
           (λ y within. ok.stale y (omega arith)) x (fallen_fresh bounds start mid far fresh x step (omega arith) (ok.stale x below) now) in
-          let less : above (c.args.graph.now.events + 1) top far < above (c.args.graph.now.events + 1) top mid = subst (λ n. above n top far < above n top mid) long fewer in
-          omega (arith, h.counted c.in-Some.event (omega (arith, there, h.begun.tables.fresh)) was top highest, e.sweeps);
+          let less : above (c.args.graph.now.events + 1) top far <ℤ above (c.args.graph.now.events + 1) top mid = rw long at fewer in
+          omega (arith, ints, h.counted c.in-Some.event (omega (arith, there, h.begun.tables.fresh)) was top highest, e.sweeps);
     }
 
 pub returns-in_err-sweep-clause-lowers : goal.returns-in_err-sweep-clause-lowers
@@ -57,7 +66,7 @@ returns-then-self-count-clause-refused g c = λ e low floor.
       | then-self-count-via-then-self-count w ↦
           let all : c.loop-event.self.sweeps ≡ c.args.graph.now.events + 1 = w.if-self-count.true ∙ c.count.ensures in
           some_highest c.args.graph.now.bounds c.args.self.now.start c.args.self.now.far.items low floor
-          (λ top highest. omega (arith, h.counted c.in-Some.event (omega (arith, there, h.begun.tables.fresh)) was top highest, all))
+          (λ top highest. omega (arith, ints, h.counted c.in-Some.event (omega (arith, there, h.begun.tables.fresh)) was top highest, all, above_least (c.args.graph.now.events + 1) top c.loop-event.self.far.items))
       | then-self-count-via-else-self-count+then-goes_round w ↦ w.goes_round.ensures w.if-goes_round.true low floor.met
     ]
 

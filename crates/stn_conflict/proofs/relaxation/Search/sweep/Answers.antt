@@ -1,5 +1,5 @@
-use Rattle.std.proofs.{Common.{◌≡◌, ◌<◌, true, length, refl, sym, subst, ◌∙◌, arith}, lemmas.{List.get_or_read, Bool.false≢true}}
-use Rattle.stn_conflict.{specs.Relaxation.{IsFloor, Lowers}, proofs.{Lowering.{AreSwept, all_swept, lowers_on, row_relaxed, swept_more, swept_over, turn_of}, relaxation.Search.sweep.Goals.{then-onward, else-onward, then-index+in_ok-relax_from, else-index}}}
+use Rattle.std.proofs.{Common.{◌≡◌, ◌<◌, true, length, refl, sym, ◌∙◌, arith}, lemmas.{List.get_or_read, Bool.false≢true}}
+use Rattle.stn_conflict.{specs.Relaxation.Lowers, proofs.{Lowering.{all_swept, lowers_on, row_relaxed, swept_more, swept_over, turn_of}, relaxation.Search.sweep.Goals.{then-onward, else-onward, then-index+in_ok-relax_from, else-index}}}
 use Rattle.stn_conflict.proofs.relaxation.Search.sweep.Goals as goal
 
 pub loop-index-preserved : goal.loop-index-preserved
@@ -28,7 +28,7 @@ loop-index-preserved g c =
           let far = w.relax_from.new.self.far.items in
           let e = w.relax_from.ensures.relaxes in
           let ok = w.in_ok-relax_from.ensures.relaxes in
-          let step : Lowers bounds start mid far = subst (λ s. Lowers bounds s mid far) h.start e.lowers in
+          let step : Lowers bounds start mid far = rw h.start at e.lowers in
           rw w.self-is (record {
             begun = rw w.relax_from.ensures.start e.begun;
             start = w.relax_from.ensures.start ∙ h.start;
@@ -64,7 +64,7 @@ returns g c =
       refused = λ e. absurd (false≢true e);
       relaxed = h.relaxed;
       stale = λ x below same. all_swept c.args.onward count c.args.self.now.far.items far fresh
-          (subst (λ n. AreSwept c.args.onward count n c.args.self.now.far.items far fresh) all h.swept) x (omega (arith, c.count-count.ensures)) same;
+          (rw all at h.swept) x (omega (arith, c.count-count.ensures)) same;
     }
 
 pub returns-in_err-relax_from-clause-lowers : goal.returns-in_err-relax_from-clause-lowers
@@ -73,10 +73,10 @@ returns-in_err-relax_from-clause-lowers g c =
     let mid = c.loop-index.self.far.items in
     let far = c.relax_from.new.self.far.items in
     lowers_on bounds c.args.self.now.start c.args.self.now.far.items mid far c.loop-index.invariant.lowers
-    (subst (λ s. Lowers bounds s mid far) c.loop-index.invariant.start c.relax_from.ensures.relaxes.lowers)
+    (rw c.loop-index.invariant.start at c.relax_from.ensures.relaxes.lowers)
 
 pub returns-in_err-relax_from-clause-refused : goal.returns-in_err-relax_from-clause-refused
 returns-in_err-relax_from-clause-refused g c = λ e low floor.
     let start = c.loop-index.invariant.start in
     c.in_err-relax_from.ensures.relaxes.refused refl low
-    (subst (λ s. IsFloor c.args.graph.now.bounds s c.loop-index.self.far.items low) (sym start) (c.loop-index.invariant.lowers.floors low floor))
+    (rw start (c.loop-index.invariant.lowers.floors low floor))

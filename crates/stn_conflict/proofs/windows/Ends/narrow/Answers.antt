@@ -1,6 +1,6 @@
-use Rattle.std.proofs.{Common.{◌+◌, append-nil, refl, sym, ap, ◌∙◌, arith}}
-use Rattle.stn_net.specs.{Schedule.times_of}
-use Rattle.stn_conflict.{proofs.{Narrowing.{ends_floor, ends_narrowed, ends_own, ends_relaxed}, Relaxing.among_events, Turned.{named_facing, network_facing}}}
+use Rattle.std.proofs.Common.{◌+◌, append-nil, refl, sym, ap, ◌∙◌, arith}
+use Rattle.stn_net.specs.Schedule.{times_of}
+use Rattle.stn_conflict.proofs.{Narrowing.{can_take, ends_narrowed, given_relaxed, old_own, some_floor}, Relaxing.among_events, Turned.{faced_ends, named_facing}}
 use Rattle.stn_conflict.proofs.windows.Ends.narrow.Goals as goal
 
 -- the graph is that of the given bounds
@@ -10,28 +10,29 @@ lower-requires-clause-begun g c =
     let direction = self.rows.direction in
     let given = c.args.given.now in
     let (bounds, taken, single, are, possible) = c.requires.ends in
+    let can = can_take direction c.args.events given bounds c.args.bound.now self taken single are c.requires.single c.requires.named c.requires.network possible in
     rw (c.new-graph.ensures, append-nil c.args.given.now) (record {
       tables = are.tables;
-      network = network_facing direction c.args.events given c.requires.network;
+      network = can.network;
       kept = omega (arith, are.rows_are.first.choice);
       named = named_facing direction (c.args.events + 1) given (among_events given c.args.events (c.args.events + 1) refl c.requires.network.named);
       start_named = omega (arith, are.start);
-      own = ap (times_of self.search.far.items) are.start ∙ ends_own direction c.args.events given bounds c.args.bound.now self taken single are c.requires.single c.requires.named c.requires.network possible;
+      own = ap (times_of self.search.far.items) are.start ∙ old_own _ _ _ _ _ can;
     })
 
 pub lower-requires-clause-met : goal.lower-requires-clause-met
 lower-requires-clause-met g c =
-    let self = c.args.self.now in
     let (bounds, taken, single, are, possible) = c.requires.ends in
-    rw (c.new-graph.ensures, append-nil c.args.given.now)
-    (ends_relaxed self.rows.direction c.args.events c.args.given.now bounds c.args.bound.now self taken single are c.requires.single c.requires.named c.requires.network possible)
+    let can = can_take _ c.args.events c.args.given.now bounds c.args.bound.now c.args.self.now taken single are c.requires.single c.requires.named c.requires.network possible in
+    rw (c.new-graph.ensures, append-nil c.args.given.now) (given_relaxed _ _ _ _ _ can)
 
 pub lower-requires-clause-floor : goal.lower-requires-clause-floor
 lower-requires-clause-floor g c =
-    let self = c.args.self.now in
     let (bounds, taken, single, are, possible) = c.requires.ends in
+    let can = can_take _ c.args.events c.args.given.now bounds c.args.bound.now c.args.self.now taken single are c.requires.single c.requires.named c.requires.network possible in
+    let (low, floor, under) = some_floor _ _ _ _ _ can in
     rw (c.new-graph.ensures, append-nil c.args.given.now, are.start, c.to.ensures.value, c.side_of-most.ensures.weight)
-    (ends_floor self.rows.direction c.args.events c.args.given.now bounds c.args.bound.now self taken single are c.requires.single c.requires.named c.requires.network possible)
+    (low, floor, rw (faced_ends c.args.self.now.rows.direction c.args.bound.now).1 at under)
 
 pub returns : goal.returns
 returns g c = λ bounds taken single are possible.

@@ -1,5 +1,5 @@
 use Rattle.std.proofs.Common.{refl}
-use Rattle.stn_net.{specs.{Difference.NamesEvents, Matrix.{Table.{Table, far_of}, Tightest.IsExact, Way.HasRoom}}, proofs.{Closure.{IsTightened, tightened_implied, tightened_narrower, no_room}, matrix.Matrix.tighten.{Given.Over, Goals.{then-not-is_implied+else-not-has_room, else-not-is_implied}}}}
+use Rattle.stn_net.{specs.{Difference.NamesEvents, Matrix.{Table.Table, Tightest.IsExact}}, proofs.{Closure.{IsTightened, tightened_implied, tightened_narrower, room_from_schedule}, matrix.Matrix.tighten.{Given.Over, Goals.{then-not-is_implied+else-not-has_room, else-not-is_implied}}}}
 use Rattle.stn_net.proofs.matrix.Matrix.tighten.Goals as goal
 
 pub returns-then-not-has_room-clause-possible : goal.returns-then-not-has_room-clause-possible
@@ -8,10 +8,7 @@ returns-then-not-has_room-clause-possible g c = λ bounds exact.
     let table : Table = record { events = square.events; entries = square.entries; steps = c.self.inside.tightenings } in
     let named : NamesEvents table.events c.args.bound = rw (← c.self.view_is) at c.requires in
     let known : IsExact bounds table = rw (← c.self.view_is) at exact in
-    let none : ¬ HasRoom (far_of table) c.args.bound = λ room.
-    let true_is = c.has_room.ensures.1 room in
-    cc in
-    ((λ t. cc), (λ s. absurd (no_room bounds table c.args.bound named none known s)))
+    ((λ t. cc), (λ s. let true_is = c.has_room.ensures.1 (room_from_schedule bounds table c.args.bound named known s) in absurd (cc)))
 
 -- the fields after the bound was taken are a table that it tightened
 tightened : (g : Over) (c : goal.After-self-1 g) → IsTightened c.args.self.now (record { events = c.if-not-is_implied.self-inside.square.events; entries = c.if-not-is_implied.self-inside.square.entries; steps = c.saturating_add-self-inside.result }) c.args.bound

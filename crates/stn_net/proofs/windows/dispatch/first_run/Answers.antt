@@ -1,4 +1,4 @@
-use Rattle.std.proofs.{Common.{◌≡◌, ◌≤ℤ◌, ◌<ℤ◌, refl, sym, ◌∙◌, inl, inr, arith, rules}, lemmas.{Int.ints, Bool.{cases_lt, false≢true}}}
+use Rattle.std.proofs.{Common.{◌≡◌, ◌≤ℤ◌, ◌<ℤ◌, refl, sym, ◌∙◌, inl, arith, rules}, lemmas.{Int.ints, Bool.{cases_lt, false≢true}}}
 use Rattle.stn_net.{specs.{Matrix.Table.far_of, Windows.{Dispatch.IsLeft, Leading.{earliest, CanLead}}}, proofs.{Coming.{one_more_run, same_first, one_more_behind}, windows.dispatch.first_run.Goals.{then-is_left+else-le, else-le-via-then-le+else-leads, else-le-via-else-le, else-is_left}}}
 use Rattle.stn_net.proofs.windows.dispatch.first_run.Goals as goal
 
@@ -11,11 +11,7 @@ returns-then-leads g c =
     inl (record {
       at = refl;
       leads = record { left = c.is_left.ensures.0 c.if-is_left.true; come = omega (arith, ints); leads = c.leads.ensures.0 c.if-leads.true };
-      first = λ other can.
-          elim (cases_lt other c.loop-number.number) [
-            | inl before ↦ absurd (c.loop-number.invariant.none other before can)
-            | inr after ↦ omega arith
-          ];
+      first = λ other can. search (rules, cases_lt);
     })
 
 pub loop-number-preserved : goal.loop-number-preserved

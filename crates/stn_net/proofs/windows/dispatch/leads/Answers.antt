@@ -1,21 +1,9 @@
-use Rattle.std.proofs.{Common.{◌≡◌, arith, inl, inr}, lemmas.{Bool.{false≢true, cases_eq}, Int.ints}}
-use Rattle.stn_net.proofs.windows.dispatch.leads.Goals.{else-is_left-via-then-is_left+else-get-lt0, else-is_left-via-else-is_left}
+use Rattle.std.{proofs.Common.{rules, ◌≡◌}, specs.Prelude.pos}
+use Rattle.stn_net.{specs.Matrix.Table.far_of, proofs.Coming.past_told}
 use Rattle.stn_net.proofs.windows.dispatch.leads.Goals as goal
 
-pub loop-number-preserved : goal.loop-number-preserved
-loop-number-preserved g c = λ other before left. elim (cases_eq other c.loop-number.number) [
-  | inr ne ↦ c.loop-number.invariant other (omega arith) left
-  | inl e ↦ (let is : c.unwrap-other.result ≡ c.loop-number.number = rw c.unwrap-other.ensures at c.new.ensures.value in
-      elim c.else-is_left.branch [
-        | else-is_left-via-then-is_left+else-get-lt0 w ↦ rw (e, ← is) (omega (arith, ints, w.far.ensures.entry, w.get.ensures.value, w.if-get-lt0.false))
-        | else-is_left-via-else-is_left w ↦ absurd (let yes = c.is_left.ensures.1 (rw (e, ← is) at left) in let not = w.if-is_left.false in false≢true (cc))
-      ])
-]
-
-pub returns-then-get-lt0 : goal.returns-then-get-lt0
-returns-then-get-lt0 g c = (
-  λ no. absurd (false≢true no),
-  λ leads. absurd (
-      let first = leads c.unwrap-other.result (c.is_left.ensures.0 c.if-is_left.true) in
-      omega (arith, ints, c.far.ensures.entry, c.get.ensures.value, c.if-get-lt0.true)),
-)
+pub returns : goal.returns
+returns g c =
+    let zero : c.unwrap-zero.result ≡ pos 0 = search rules in
+    let (none, told) = past_told (far_of c.args.matrix.now c.args.event) c.args.done.now c.unwrap-zero.result c.first_before.result c.first_before.ensures.past c.first_before.ensures.none in
+    (λ yes. rw zero at (none (search rules)), λ leads. (let is = told (rw zero leads) in search rules))

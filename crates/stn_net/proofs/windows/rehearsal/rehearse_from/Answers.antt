@@ -1,5 +1,5 @@
-use Rattle.std.{proofs.{Common.{◌≡◌, true, [], ◌∷◌, ◌++◌, drop, length, subst, ◌∙◌, arith, rules}, lemmas.List.take_at}, specs.Prelude.slice_set}
-use Rattle.stn_net.proofs.UnderWay.{IsUnderWay, under_way_at_first, under_way_further, rehearsal_at_end}
+use Rattle.std.{proofs.{Common.{◌≡◌, true, [], ◌∷◌, ◌++◌, drop, length, ◌∙◌, arith, rules}, lemmas.List.take_at}, specs.Prelude.slice_set}
+use Rattle.stn_net.proofs.UnderWay.{under_way_at_first, under_way_further, rehearsal_at_end}
 use Rattle.stn_net.proofs.windows.rehearsal.rehearse_from.Goals as goal
 
 pub loop-answer-init : goal.loop-answer-init
@@ -30,7 +30,7 @@ loop-answer-preserved g c =
       under_way = λ bounds exact.
           let next = rw (given, set_is) at c.next-answer.ensures.next in
           let fix = c.fix.ensures.exact in
-          let under = subst (λ answer. IsUnderWay bounds c.args.done.now c.args.now c.loop-answer.runs.items c.loop-answer.tightened old answer) c.in-Run.is (h.under_way bounds exact) in
+          let under = rw c.in-Run.is at (h.under_way bounds exact) in
           rw (set_is, pushed)
           (under_way_further bounds c.args.done.now c.args.now c.loop-answer.runs.items c.loop-answer.tightened c.fix.new.matrix old c.in-Run.time event c.next-answer.result under fix next);
     })

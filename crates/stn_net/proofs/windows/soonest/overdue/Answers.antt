@@ -10,7 +10,7 @@ returns-then-lt c = λ bounds events long named latest.
     let before : c.index-latest-number.result <ℤ c.args.now = (let lt = sym c.lt.ensures ∙ c.if-lt.true in grind (arith, ints)) in
     let past : IsFirstPast (times_of c.args.latest.now) c.args.done.now c.args.now c.unwrap-event.result = record {
       left = c.is_left.ensures.0 c.if-is_left.true;
-      past = subst (λ n. times_of c.args.latest.now n <ℤ c.args.now) (sym is) (subst (λ time. time <ℤ c.args.now) at before);
+      past = rw is (subst (λ time. time <ℤ c.args.now) at before);
       first = λ other left late. elim (cases_lt other number) [
         | inl below ↦ absurd (omega (arith, ints, c.loop-number.invariant other below left))
         | inr after ↦ omega arith

@@ -22,7 +22,7 @@ shorten-requires-2-clause-round g c =
     let h = c.shorten.ensures.shorter b.from b.to c.requires.named.from c.requires.named.to in
     let same : entry c.shorten.new.self b.from b.to ≡ shorter old b.from b.to b.hi b.from b.to = rw (c.from.ensures.value, c.to.ensures.value, c.hi.ensures.value) at h in
     let ordered : b.lo ≤ℤ b.hi = rw c.hi.ensures.value at c.hi.ensures.ordered in
-    let round = lower_round c.args.self.now.events old b c.requires.closed c.requires.named ordered c.requires.room in
+    let round = lower_round c.args.self.now.events old b c.requires.closed.shortest c.requires.named ordered c.requires.room in
     rw (c.from-2.ensures.value, c.to-2.ensures.value, c.neg.ensures, c.lo.ensures.value) (rw same round)
 
 narrowed : (g : Over) (c : goal.After-shorten-2 g) → (x y : ℕ) → x ≤ c.args.self.now.events → y ≤ c.args.self.now.events

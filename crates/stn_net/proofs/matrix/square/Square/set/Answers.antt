@@ -1,5 +1,4 @@
-use Rattle.std.proofs.lemmas.Grind.{common_steps}
-use Rattle.std.proofs.Common.{arith}
+use Rattle.std.proofs.{lemmas.Grind.common_steps, Common.arith}
 use Rattle.stn_net.proofs.Entries.{written-set}
 use Rattle.stn_net.proofs.matrix.square.Square.set.Goals as goal
 

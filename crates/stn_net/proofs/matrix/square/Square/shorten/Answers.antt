@@ -3,7 +3,7 @@ use Rattle.stn_net.{specs.Matrix.{Table.{entry, entry_in}, Way.{AreRunsOf, IsRow
 use Rattle.stn_net.proofs.matrix.square.Square.shorten.Goals as goal
 
 pub loop-row-init : goal.loop-row-init
-loop-row-init g c = record { events = refl; shortened = record { here = λ x y x_before. absurd (omega (arith, x_before)); left = λ x y _ _ _. refl } }
+loop-row-init g c = record { events = refl; shortened = record { closed = c.requires.closed; from = c.requires.from; to = c.requires.to; round = c.requires.round; here = λ x y x_before. absurd (omega (arith, x_before)); left = λ x y _ _ _. refl } }
 
 pub overflow_add-through : goal.overflow_add-through
 overflow_add-through g c =
@@ -39,8 +39,7 @@ nearer g c =
     c.row-own.ensures.entries c.from-to.result (rw (to_is, c.loop-row.invariant.events) c.requires.to) ∙ ap (new c.loop-row.row) to_is in
     let through = to_z w64 (of_z w64 (to_z w64 (of_z w64 (slice_index_or c.row-own.result.now c.from-from.result (pos 0))) +ℤ to_z w64 (of_z w64 c.get-weight.result))) in
     let shorter : through <ℤ new c.loop-row.row arc.to = omega (arith, ints) in
-    rw to_is (nearer_row c.args.self.now.events (entry c.args.self.now) new arc.from arc.to arc.weight c.loop-row.row through c.loop-row.invariant.shortened
-    c.requires.closed c.requires.from c.requires.to c.requires.round row (way g c) shorter)
+    rw to_is (nearer_row c.args.self.now.events (entry c.args.self.now) new arc.from arc.to arc.weight c.loop-row.row through c.loop-row.invariant.shortened row (way g c) shorter)
 
 pub shorten_row-requires-clause-apart : goal.shorten_row-requires-clause-apart
 shorten_row-requires-clause-apart g c = (nearer g c).apart
@@ -54,7 +53,7 @@ shorten_row-requires-clause-left_out g c =
     let arc = c.args.arc in
     let to_is = c.from-to.ensures ∙ c.number-2.ensures.value in
     rw to_is (λ y ys. row_left_out c.args.self.now.events (entry c.args.self.now) (entry c.loop-row.self) arc.from arc.to arc.weight c.loop-row.row
-    c.arrange.new.columns _ c.loop-row.invariant.shortened c.requires.closed c.requires.from c.requires.to c.requires.round row (way g c) c.arrange.ensures.nearer y
+    c.arrange.new.columns _ c.loop-row.invariant.shortened row (way g c) c.arrange.ensures.nearer y
     (omega (arith, c.loop-row.invariant.events)))
 
 pub shorten_row-requires-clause-runs : goal.shorten_row-requires-clause-runs
@@ -66,7 +65,7 @@ shorten_row-requires-clause-runs g c =
     let through = to_z w64 (of_z w64 (to_z w64 (of_z w64 (slice_index_or c.row-own.result.now c.from-from.result (pos 0))) +ℤ to_z w64 (of_z w64 c.get-weight.result))) in
     rw to_is (subst (λ n. AreRunsOf (n + 1) (new c.loop-row.row) (new arc.to) through c.arrange.new.columns c.arrange.new.ends) (sym c.loop-row.invariant.events)
     (runs_of_row c.args.self.now.events (entry c.args.self.now) new arc.from arc.to arc.weight c.loop-row.row through c.arrange.new.columns c.arrange.new.ends
-    c.loop-row.invariant.shortened c.requires.closed c.requires.from c.requires.to c.requires.round row (way g c) c.arrange.ensures.nearer.within c.arrange.ensures.runs))
+    c.loop-row.invariant.shortened row (way g c) c.arrange.ensures.nearer.within c.arrange.ensures.runs))
 
 pub loop-row-preserved : goal.loop-row-preserved
 loop-row-preserved g c =
@@ -91,14 +90,13 @@ loop-row-preserved g c =
         shortened = (
             let turned = subst (λ n. IsRowShortened n new (entry w.shorten_row.new.self) row arc.to (new row arc.from +ℤ arc.weight)) c.loop-row.invariant.events
             (rw (to_is, through) at w.shorten_row.ensures.shortened) in
-            shortened_turn c.args.self.now.events old new (entry w.shorten_row.new.self) arc.from arc.to arc.weight row c.loop-row.invariant.shortened
-            c.requires.from c.requires.to c.requires.round rs turned);
+            shortened_turn c.args.self.now.events old new (entry w.shorten_row.new.self) arc.from arc.to arc.weight row c.loop-row.invariant.shortened rs turned);
       })
       | else-through-own w ↦ rw w.self-is (record {
         events = c.loop-row.invariant.events;
         shortened = (
             let longer : new row arc.to ≤ℤ (new row arc.from +ℤ arc.weight) = (let h = w.if-through-own.false in grind (arith, ints)) in
-            shortened_skip c.args.self.now.events old new arc.from arc.to arc.weight row c.loop-row.invariant.shortened c.requires.closed c.requires.from c.requires.to rs longer);
+            shortened_skip c.args.self.now.events old new arc.from arc.to arc.weight row c.loop-row.invariant.shortened rs longer);
       })
     ]
 
@@ -116,5 +114,5 @@ returns-then-entry-weight-clause-shorter g c = λ x y xs ys.
     let known : c.entry.result ≡ far arc.from arc.to = rw (from_is, to_is) at c.entry.ensures in
     let weight = c.get-weight.ensures.value in
     let longer : far arc.from arc.to ≤ℤ arc.weight = (let h = c.if-entry-weight.true in omega (arith, ints)) in
-    let triangle = c.requires.closed.triangle x arc.from arc.to xs c.requires.from c.requires.to in
+    let triangle = c.requires.closed.shortest.triangle x arc.from arc.to xs c.requires.from c.requires.to in
     sym (shorter-kept_row c.args.self.now.events far arc.from arc.to arc.weight c.requires.closed c.requires.to x y xs ys (omega (arith, ints, longer, triangle)))
