@@ -1,12 +1,11 @@
 -- When an amendment is refused, and what it leaves where it is not.
-use Rattle.std.{proofs.{Common.{rules, ◌≡◌, ◌≢◌, ℕ, ◌+◌, ◌≤◌, Bool, true, false, cond, not, ◌||◌, Option, Some, None, is_some, sym, refl, ap, ◌∙◌, arith, ltb}, lemmas.{Bool.{false≢true, false_from_ne_true, not-false, or_parts}, Option.same_Some}}, specs.Bool.Decides}
+use Rattle.std.{proofs.{Common.{rules, ◌≡◌, ◌≢◌, ℕ, ◌+◌, ◌-◌, ◌≤◌, Bool, true, false, cond, not, ◌||◌, Option, Some, None, is_some, sym, refl, ap, ◌∙◌, arith, ltb}, lemmas.Bool.{false≢true, false_from_ne_true, or_parts}}, specs.Bool.Decides}
 use Rattle.std.specs.FinMap as fin
 use Rattle.stn_net.specs.Difference.{Difference}
-use Rattle.stn_records.{specs.{Id.{SiteCounter, same_ids}, Record.same_records, Maps.{differ, AgreesAt}, ContentLaws.{records_decide, ids_decide}, Refusals.{clashes, is_too_much, amendment_refusal, replace_refusal}, Content.{most_known, Content, IsSound, plain, is_known, known_count, with_amendment}}, proofs.{OneItem.amendment_again, Replaced.replaced_by_entry, Limits.amended_count, Outcomes.known_by_replaced}}
+use Rattle.stn_records.{specs.{Id.{SiteCounter, same_ids}, Record.same_records, Maps.{differ, AgreesAt}, ContentLaws.{records_decide, ids_decide}, Refusals.{clashes, is_too_much, amendment_refusal, replace_refusal}, Content.{Content, IsSound, plain, is_known, known_count, with_amendment}}, proofs.{OneItem.amendment_again, Replaced.replaced_by_entry, Limits.amended_count, Outcomes.known_by_replaced}}
 
 agreed : {X : Type 0} (same : X → X → Bool) → ((x y : X) → Decides (same x y) (x ≡ y)) → (o : Option X) (x : X) → differ same o (Some x) ≡ false → (there : X) → o ≡ Some there → there ≡ x
-agreed same decides None x e there is = absurd (false≢true (ap is_some is))
-agreed same decides (Some y) x e there is = sym (same_Some _ _ is) ∙ (decides y x).0 (not-false _ e)
+agreed same decides o x e there is = search rules
 
 alike : {X : Type 0} (same : X → X → Bool) → ((x y : X) → Decides (same x y) (x ≡ y)) → (o : Option X) (x : X) → o ≡ Some x → differ same o (Some x) ≡ false
 alike same decides o x is = ap (λ p. differ same p (Some x)) is ∙ ap not ((decides x x).1 refl)
@@ -39,24 +38,21 @@ module _ (s : Content) (sound : IsSound s) (id old : SiteCounter) (bound : Diffe
   differs = apart id old (sound.amends id old entry).other
 
   none_clashes : clashes s id old bound ≡ false
-  none_clashes = (λ i. alike same_records records_decide (fin.get s.additions id) (plain bound) there i || alike same_ids ids_decide (fin.get s.replacements id) old entry i)
+  none_clashes = search rules
 
   fits : is_too_much s id old bound ≡ false
   fits = search (rules, amendment_again)
 
   pub amend_again : amendment_refusal s id old bound ≡ None
-  amend_again = skipped (same_ids id old) _ _ differs (skipped (clashes s id old bound) _ _ none_clashes (skipped (not (is_known s old)) _ _ (ap not (known_by_replaced s old (replaced_by_entry s id old entry))) (skipped (is_too_much s id old bound) _ _ fits refl)))
+  amend_again = search (rules, skipped, differs, none_clashes, replaced_by_entry, fits)
 
   pub replace_again : replace_refusal s id old bound ≡ None
-  replace_again = skipped (same_ids id old) _ _ differs (skipped (clashes s id old bound) _ _ none_clashes (skipped (is_too_much s id old bound) _ _ fits refl))
+  replace_again = search (rules, differs, none_clashes, fits)
 
 -- how many ids would be known
 module _ (s : Content) (id old : SiteCounter) (bound : Difference) (other : id ≢ old) (agrees : clashes s id old bound ≡ false) where
   more : known_count (with_amendment s id old bound) ≡ known_count s + cond (is_known s old) 0 1 + cond (is_known s id) 0 1
   more = amended_count s id old bound (no_clash s id old bound agrees).1 (apart id old other)
 
-  pub too_much_told : (known new : ℕ) → known ≡ known_count s → new ≡ cond (is_known s old) 0 1 + cond (is_known s id) 0 1 → ltb most_known (known + new) ≡ is_too_much s id old bound
-  too_much_told known new p q = search (rules, more)
-
-  pub few_enough : (new listed : ℕ) → new ≡ cond (is_known s old) 0 1 + cond (is_known s id) 0 1 → known_count s ≤ listed → listed + new ≤ most_known → false ≡ is_too_much s id old bound
-  few_enough new listed q few short = search (rules, more)
+  pub too_much_told : (one other : ℕ) → one ≡ cond (is_known s old) 0 1 → other ≡ cond (is_known s id) 0 1 → one ≤ 1 → other ≤ 1 → ltb (4096 - one - other) (known_count s) ≡ is_too_much s id old bound
+  too_much_told one other p q few fewer = search (rules, more)

@@ -1,5 +1,5 @@
 -- The greatest counter of a site, in a list in order and in a content, and the next one.
-use Rattle.std.{proofs.{Common.{rules, ◌≡◌, ℕ, zero, suc, ◌<◌, ◌≤◌, ◌-◌, ◌⊎◌, true, false, cond, max, List, [], ◌∷◌, length, get_or, take, Less, sym, refl, ap, ◌∙◌, arith, eqb, nat_le, ◌+◌, ◌↔◌, ◌++◌, Option, Some, None, ⊎_elim, Result, Ok, Err, IfOk, IsErr}, lemmas.{List.{length-take-le, get_or-take}, Bool.{false_from_ne_true, false≢true, eq-eqb, and_parts, or_cases, Decides.nat_tests}}}, specs.{List.Sorted.{IsNonDecreasingBy, IsPartitionPoint}, FinMap.is_sorted, Map.keys_of, Option.{SomeIff, ok_or}, Cmp.Equal-is, Set.is_member}}
+use Rattle.std.{proofs.{Common.{rules, ◌≡◌, ℕ, zero, suc, ◌<◌, ◌≤◌, ◌-◌, ◌⊎◌, true, false, cond, max, List, [], ◌∷◌, length, get_or, take, Less, sym, refl, ap, ◌∙◌, arith, eqb, nat_le, ◌+◌, ◌↔◌, ◌++◌, Option, Some, None, ⊎_elim, Result, IfOk, IsErr}, lemmas.{List.get_or-take, Bool.{false_from_ne_true, false≢true, eq-eqb, and_parts, or_cases, Decides.nat_tests}}}, specs.{List.Sorted.{IsNonDecreasingBy, IsPartitionPoint}, FinMap.is_sorted, Map.keys_of, Option.{SomeIff, ok_or}, Cmp.Equal-is, Set.is_member}}
 use Rattle.stn_records.{specs.{Id.{SiteCounter, id_cmp}, Sorted.IsEndOf, ContentLaws.{ids_total, ids_exact}, declared.record.Record.Record, Content.{greatest_counter, next_counter, Content, same_ids, known_ids, is_known, replaced_set}}, proofs.{Entries.above_at, KnownIds.known_member}}
 use Rattle.std.specs.FinMap as fin
 
@@ -48,12 +48,7 @@ module _ {X : Type 0} (site : ℕ) where
 
   -- the same, as the entry is read
   pub counter_of_last : (es : List (SiteCounter × X)) → is_sorted id_cmp es ≡ true → (end : ℕ) → IsEndOf es site end → (last : SiteCounter × X) → 0 < length (take end es) → last ≡ get_or (take end es) (length (take end es) - 1) last → cond (eqb last.0.site site) last.0.counter 0 ≡ greatest_counter site (keys_of es)
-  counter_of_last es h zero is last there read = absurd (omega arith)
-  counter_of_last es h (suc end) is last there read =
-      let within = is.in_range in
-      let long : length (take (suc end) es) ≡ suc end = length-take-le (suc end) es within in
-      let here : last ≡ get_or es end last = search (rules, get_or-take) in
-      search (rules, last_of_site)
+  counter_of_last es h end is last there read = search (rules, get_or-take, last_of_site)
 
   pub counter_of_none : (es : List (SiteCounter × X)) (end : ℕ) → IsEndOf es site end → length (take end es) ≤ 0 → 0 ≡ greatest_counter site (keys_of es)
   counter_of_none es end is none = search (rules, none_of_site)
@@ -94,5 +89,4 @@ next_cases {E} None err r m n e h is = search rules
 next_cases {E} (Some x) err r m n e h is = search rules
 
 pub new_cases : {E : Type 0} (s : Content) (site : ℕ) (r : Result ℕ E) → IfOk r (λ counter. counter ≡ next_counter s site) → IfOk r (λ counter. is_known s (record { site = site; counter = counter }) ≡ false)
-new_cases s site (Ok counter) e = next_is_new s site counter e
-new_cases s site (Err fault) e = tt
+new_cases s site r e = search (rules, next_is_new)

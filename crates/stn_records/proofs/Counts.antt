@@ -1,5 +1,5 @@
 -- The count of the ids of four lists in order, by the least first id.
-use Rattle.std.{proofs.{Common.{rules, ◌≡◌, suc, ◌+◌, ◌<◌, ◌≤◌, ◌⊎◌, Bool, true, false, cond, not, ◌&&◌, ◌||◌, List, [], ◌∷◌, ◌++◌, length, Option, Some, None, is_some, slice_get, Less, Equal, Greater, is_eq, is_lt, sym, refl, ap, subst, ◌∙◌, inl, inr, ⊎_elim, arith}, lemmas.{Bool.{false≢true, and_right, not_from_true, and_parts}, Option.same_Some}, Math.Bool.and-or_distrib_right}, specs.{Cmp.{Equal-is, tied_itself}, Set.{distinct_count, is_member}, FinMap.{is_sorted, Entries.below_all}, Map.keys_of}}
+use Rattle.std.{proofs.{lemmas.{Grind.common_steps, Bool.{false≢true, and_right, not_from_true, and_parts}, Option.same_Some}, Common.{rules, ◌≡◌, suc, ◌+◌, ◌⊎◌, Bool, true, false, cond, not, ◌&&◌, ◌||◌, List, [], ◌∷◌, ◌++◌, Option, Some, None, is_some, slice_get, Less, Equal, Greater, is_eq, is_lt, sym, refl, ap, subst, ◌∙◌, inl, inr, ⊎_elim, arith}, Math.Bool.and-or_distrib_right}, specs.{Cmp.{Equal-is, tied_itself}, Set.{distinct_count, is_member}, FinMap.{is_sorted, Entries.below_all}, Map.keys_of}}
 use Rattle.stn_records.{specs.{Id.{SiteCounter, id_cmp, lesser_of}, Sorted.{first_key, past_id}, Content.same_ids, ContentLaws.{ids_total, ids_exact, lesser_none}}, proofs.{Entries.{less_is, greater_back, below_less}, KnownIds.{same_count, one_more, member-append}}}
 
 -- the id is not above the first id
@@ -7,39 +7,19 @@ abbrev pub NotAbove : SiteCounter → Option SiteCounter → Type 0
 NotAbove id None = Unit {0}
 NotAbove id (Some x) = is_lt (id_cmp x id) ≡ false
 
-not_above_chain : (a x id : SiteCounter) → is_lt (id_cmp a x) ≡ false → is_lt (id_cmp x id) ≡ false → is_lt (id_cmp a id) ≡ false
-not_above_chain a x id p q = search rules
-
 self_not_above : (x : SiteCounter) → is_lt (id_cmp x x) ≡ false
 self_not_above x = ap is_lt (tied_itself ids_total x)
 
--- the lesser of two is above neither, and is one of them
-pub lesser_least : (f g : Option SiteCounter) (id : SiteCounter) → lesser_of f g ≡ Some id → NotAbove id f × NotAbove id g
-lesser_least None None id e = (tt, tt)
-lesser_least None (Some y) id e = (tt, subst (λ x. is_lt (id_cmp y x) ≡ false) (same_Some y id e) (self_not_above y))
-lesser_least (Some x) None id e = (subst (λ y. is_lt (id_cmp x y) ≡ false) (same_Some x id e) (self_not_above x), tt)
-lesser_least (Some x) (Some y) id e = search rules
-
+-- the lesser of two, where there are two, is one of them
 lesser_member : (f g : Option SiteCounter) (id : SiteCounter) → lesser_of f g ≡ Some id → (f ≡ Some id) ⊎ (g ≡ Some id)
-lesser_member None g id e = inr e
-lesser_member (Some x) None id e = inl e
-lesser_member (Some x) (Some y) id e = elim (is_lt (id_cmp y x)) as (λ b. cond b (Some y) (Some x) ≡ Some id → (Some x ≡ Some id) ⊎ (Some y ≡ Some id)) [ true ↦ inr | false ↦ inl ] e
+lesser_member f g id e = search rules
 
+-- and what is not above it is not above either
 not_above_within : (f g : Option SiteCounter) (id : SiteCounter) → NotAbove id (lesser_of f g) → NotAbove id f × NotAbove id g
-not_above_within f g id h = by (lesser_of f g) refl h
-  where
-    by : (o : Option SiteCounter) → lesser_of f g ≡ o → NotAbove id o → NotAbove id f × NotAbove id g
-    by None e h = let none = lesser_none f g e in (subst (NotAbove id) (sym none.0) tt, subst (NotAbove id) (sym none.1) tt)
-    by (Some x) e h = let least = lesser_least f g x e in (through f x least.0 h, through g x least.1 h)
-      where
-        through : (f : Option SiteCounter) (x : SiteCounter) → NotAbove x f → is_lt (id_cmp x id) ≡ false → NotAbove id f
-        through None x p q = tt
-        through (Some a) x p q = not_above_chain a x id p q
+not_above_within f g id h = grind (arith, common_steps)
 
 dropped : (m t : Bool) → (t ≡ true → m ≡ false) → m ≡ (m && not t)
-dropped true true f = f refl
-dropped true false f = refl
-dropped false t f = refl
+dropped m t f = search rules
 
 module _ {X : Type 0} where
   -- an id below each entry is no key
@@ -71,25 +51,16 @@ module _ {X : Type 0} where
       unchanged true false = refl
       unchanged false m = refl
 
-  -- past an id, the list is no longer, and shorter where it is the first
-  pub past_shorter : (id : SiteCounter) (es : List (SiteCounter × X)) → length (past_id id es) ≤ length es
-  past_shorter id [] = omega arith
-  past_shorter id (e ∷ es) = elim (is_eq (id_cmp e.0 id)) as (λ b. length (cond b es (e ∷ es)) ≤ suc (length es)) [ true ↦ omega arith | false ↦ omega arith ]
-
-  pub past_first : (id : SiteCounter) (es : List (SiteCounter × X)) → first_key es ≡ Some id → suc (length (past_id id es)) ≡ length es
-  past_first id [] e = absurd (false≢true (ap is_some e))
-  past_first id (e ∷ es) f = ap (λ r. suc (length (cond (is_eq r) es (e ∷ es)))) (ap (λ x. id_cmp e.0 x) (sym (same_Some e.0 id f)) ∙ tied_itself ids_total e.0)
-
+  -- the first id is a key
   first_member : (id : SiteCounter) (es : List (SiteCounter × X)) → first_key es ≡ Some id → is_member same_ids (keys_of es) id ≡ true
   first_member id [] e = absurd (false≢true (ap is_some e))
-  first_member id (e ∷ es) f = ap (λ x. same_ids id x || is_member same_ids (keys_of es) id) (same_Some e.0 id f) ∙ ap (λ r. is_eq r || is_member same_ids (keys_of es) id) (tied_itself ids_total id)
+  first_member id (e ∷ es) f = search rules
 
 without_both : (a b c d t : Bool) → (a ≡ (b && not t)) → (c ≡ (d && not t)) → (a || c) ≡ ((b || d) && not t)
 without_both a b c d t p q = (λ i. p i || q i) ∙ sym (and-or_distrib_right b d (not t))
 
 or_has : (a b : Bool) → (a ≡ true) ⊎ (b ≡ true) → (a || b) ≡ true
-or_has true b h = refl
-or_has false b h = ⊎_elim (λ e. absurd (false≢true e)) (λ e. e) h
+or_has a b h = search rules
 
 -- ids without one of them are one less
 less_one : (all left : List SiteCounter) (id : SiteCounter) → is_member same_ids all id ≡ true → ((q : SiteCounter) → is_member same_ids left q ≡ (is_member same_ids all q && not (same_ids q id))) → suc (distinct_count same_ids left) ≡ distinct_count same_ids all
@@ -110,33 +81,30 @@ less_one all left id there without =
 abbrev pub all_keys : {X Y : Type 0} → List (SiteCounter × X) → List (SiteCounter × Y) → List (SiteCounter × X) → List (SiteCounter × Y) → List SiteCounter
 all_keys a b c d = (keys_of a ++ keys_of b) ++ (keys_of c ++ keys_of d)
 
-module _ {X Y : Type 0} (a : List (SiteCounter × X)) (b : List (SiteCounter × Y)) (c : List (SiteCounter × X)) (d : List (SiteCounter × Y)) where
-  four_members : (q : SiteCounter) → is_member same_ids (all_keys a b c d) q ≡ ((is_member same_ids (keys_of a) q || is_member same_ids (keys_of b) q) || (is_member same_ids (keys_of c) q || is_member same_ids (keys_of d) q))
-  four_members q = member-append (keys_of a ++ keys_of b) (keys_of c ++ keys_of d) q ∙ (λ i. member-append (keys_of a) (keys_of b) q i || member-append (keys_of c) (keys_of d) q i)
+four_members : {X Y : Type 0} (a : List (SiteCounter × X)) (b : List (SiteCounter × Y)) (c : List (SiteCounter × X)) (d : List (SiteCounter × Y)) (q : SiteCounter)
+    → is_member same_ids (all_keys a b c d) q ≡ ((is_member same_ids (keys_of a) q || is_member same_ids (keys_of b) q) || (is_member same_ids (keys_of c) q || is_member same_ids (keys_of d) q))
+four_members a b c d q = search (rules, member-append)
 
+module _ {X Y : Type 0} (a : List (SiteCounter × X)) (b : List (SiteCounter × Y)) (c : List (SiteCounter × X)) (d : List (SiteCounter × Y)) where
   -- the least of the first ids
   abbrev pub least_first : Option SiteCounter
   least_first = lesser_of (lesser_of (first_key a) (first_key b)) (lesser_of (first_key c) (first_key d))
 
   -- where there is no first id, nothing is left
   pub none_left : least_first ≡ None → distinct_count same_ids (all_keys a b c d) ≡ 0
-  none_left e = by a b c d e
+  none_left e =
+      let both = lesser_none _ _ e in
+      let left = lesser_none _ _ both.0 in
+      let right = lesser_none _ _ both.1 in
+      ap (distinct_count same_ids) (λ i. (no_keys (keys_of a) left.0 i ++ no_keys (keys_of b) left.1 i) ++ (no_keys (keys_of c) right.0 i ++ no_keys (keys_of d) right.1 i))
     where
       no_keys : (ks : List SiteCounter) → slice_get ks 0 ≡ None → ks ≡ []
       no_keys [] e = refl
       no_keys (k ∷ ks) e = absurd (false≢true (ap is_some (sym e)))
 
-      by : (a : List (SiteCounter × X)) (b : List (SiteCounter × Y)) (c : List (SiteCounter × X)) (d : List (SiteCounter × Y)) → lesser_of (lesser_of (first_key a) (first_key b)) (lesser_of (first_key c) (first_key d)) ≡ None → distinct_count same_ids (all_keys a b c d) ≡ 0
-      by a b c d e =
-          let both = lesser_none _ _ e in
-          let left = lesser_none _ _ both.0 in
-          let right = lesser_none _ _ both.1 in
-          let empty : all_keys a b c d ≡ [] = λ i. (no_keys (keys_of a) left.0 i ++ no_keys (keys_of b) left.1 i) ++ (no_keys (keys_of c) right.0 i ++ no_keys (keys_of d) right.1 i) in
-          ap (distinct_count same_ids) empty
-
   module _ (id : SiteCounter) (least : least_first ≡ Some id) where
     among : is_member same_ids (all_keys a b c d) id ≡ true
-    among = four_members id ∙ or_has _ _ (⊎_elim
+    among = four_members a b c d id ∙ or_has _ _ (⊎_elim
         (λ l. inl (or_has _ _ (⊎_elim (λ x. inl (first_member id a x)) (λ x. inr (first_member id b x)) (lesser_member _ _ id l))))
         (λ r. inr (or_has _ _ (⊎_elim (λ x. inl (first_member id c x)) (λ x. inr (first_member id d x)) (lesser_member _ _ id r))))
         (lesser_member _ _ id least))
@@ -144,21 +112,12 @@ module _ {X Y : Type 0} (a : List (SiteCounter × X)) (b : List (SiteCounter × 
     -- one id is counted, and all lists go past it
     pub one_counted : is_sorted id_cmp a ≡ true → is_sorted id_cmp b ≡ true → is_sorted id_cmp c ≡ true → is_sorted id_cmp d ≡ true → suc (distinct_count same_ids (all_keys (past_id id a) (past_id id b) (past_id id c) (past_id id d))) ≡ distinct_count same_ids (all_keys a b c d)
     one_counted p q r s =
-        let two = lesser_least _ _ id least in
-        let left = not_above_within (first_key a) (first_key b) id two.0 in
-        let right = not_above_within (first_key c) (first_key d) id two.1 in
+        let all = subst (NotAbove id) (sym least) (self_not_above id) in
+        let two = not_above_within _ _ id all in
+        let left = not_above_within _ _ id two.0 in
+        let right = not_above_within _ _ id two.1 in
         less_one (all_keys a b c d) (all_keys (past_id id a) (past_id id b) (past_id id c) (past_id id d)) id among (λ k.
-        past_four k ∙ without_both _ _ _ _ (same_ids k id)
+        four_members (past_id id a) (past_id id b) (past_id id c) (past_id id d) k ∙ without_both _ _ _ _ (same_ids k id)
         (without_both _ _ _ _ (same_ids k id) (past_members id a p left.0 k) (past_members id b q left.1 k))
         (without_both _ _ _ _ (same_ids k id) (past_members id c r right.0 k) (past_members id d s right.1 k))
-        ∙ ap (λ m. m && not (same_ids k id)) (sym (four_members k)))
-      where
-        past_four : (k : SiteCounter) → is_member same_ids (all_keys (past_id id a) (past_id id b) (past_id id c) (past_id id d)) k ≡ ((is_member same_ids (keys_of (past_id id a)) k || is_member same_ids (keys_of (past_id id b)) k) || (is_member same_ids (keys_of (past_id id c)) k || is_member same_ids (keys_of (past_id id d)) k))
-        past_four k = member-append (keys_of (past_id id a) ++ keys_of (past_id id b)) (keys_of (past_id id c) ++ keys_of (past_id id d)) k ∙ (λ i. member-append (keys_of (past_id id a)) (keys_of (past_id id b)) k i || member-append (keys_of (past_id id c)) (keys_of (past_id id d)) k i)
-
-    -- so fewer entries are left
-    pub fewer_left : length (past_id id a) + length (past_id id b) + length (past_id id c) + length (past_id id d) < length a + length b + length c + length d
-    fewer_left = ⊎_elim
-        (λ l. ⊎_elim (λ x. let n = past_first id a x in omega (arith, past_shorter id b, past_shorter id c, past_shorter id d)) (λ x. let n = past_first id b x in omega (arith, past_shorter id a, past_shorter id c, past_shorter id d)) (lesser_member _ _ id l))
-        (λ r. ⊎_elim (λ x. let n = past_first id c x in omega (arith, past_shorter id a, past_shorter id b, past_shorter id d)) (λ x. let n = past_first id d x in omega (arith, past_shorter id a, past_shorter id b, past_shorter id c)) (lesser_member _ _ id r))
-        (lesser_member _ _ id least)
+        ∙ ap (λ m. m && not (same_ids k id)) (sym (four_members a b c d k)))

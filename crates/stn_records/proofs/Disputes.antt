@@ -1,6 +1,5 @@
 -- The first id in dispute of two lists, by their first entries.
-use Rattle.std.proofs.lemmas.Grind.{common_steps}
-use Rattle.std.{proofs.{Common.{rules, ◌≡◌, Bool, true, false, cond, List, [], ◌∷◌, Option, Some, None, find, Less, Equal, Greater, is_lt, is_eq, length, ◌⊎◌, ⊎_elim, arith, sym, refl, ap}, lemmas.Bool.{and_parts, and_from}}, specs.{FinMap.{FinMap, is_sorted, get-entries, Entries.below_all}, Map.keys_of}}
+use Rattle.std.{proofs.{lemmas.{Grind.common_steps, Bool.{and_parts, and_from}}, Common.{rules, ◌≡◌, Bool, true, false, cond, List, [], ◌∷◌, Option, Some, None, find, Less, Equal, Greater, is_lt, is_eq, length, ◌⊎◌, arith, sym, ap}}, specs.{FinMap.{FinMap, is_sorted, get-entries, Entries.below_all}, Map.keys_of}}
 use Rattle.std.specs.FinMap as fin
 use Rattle.stn_records.{specs.{Id.{SiteCounter, id_cmp}, Maps.{differ, dispute}, Sorted.dispute_of, ContentLaws.ids_total, MapLaws.none_found}, proofs.Entries.{less_is, greater_back, below_less, find_below, passed_over}}
 
@@ -19,8 +18,7 @@ module _ {X : Type 0} (equal : X → X → Bool) where
   found_first id e es t = ap (λ r. cond (is_eq r) (Some e.1) (fin.find id_cmp id es)) t
 
   no_difference : (o : Option X) → differ equal o None ≡ false
-  no_difference None = refl
-  no_difference (Some x) = refl
+  no_difference o = search rules
 
   -- the first id of ours comes first: theirs has no value of it
   pub ours_first : (x : SiteCounter × X) (xs : List (SiteCounter × X)) (y : SiteCounter × X) (ys : List (SiteCounter × X)) → is_sorted id_cmp (x ∷ xs) ≡ true → is_sorted id_cmp (y ∷ ys) ≡ true → id_cmp x.0 y.0 ≡ Less → dispute_of equal xs (y ∷ ys) ≡ dispute_of equal (x ∷ xs) (y ∷ ys)
@@ -43,9 +41,7 @@ module _ {X : Type 0} (equal : X → X → Bool) where
   no_more xs = none_found (in_dispute xs []) (keys_of xs) (λ k. no_difference (fin.find id_cmp k xs))
 
   pub ended : (xs ys : List (SiteCounter × X)) → (length xs ≡ 0) ⊎ (length ys ≡ 0) → None ≡ dispute_of equal xs ys
-  ended [] ys end = refl
-  ended (x ∷ xs) [] end = sym (no_more (x ∷ xs))
-  ended (x ∷ xs) (y ∷ ys) end = ⊎_elim (λ e. absurd (omega arith)) (λ e. absurd (omega arith)) end
+  ended xs ys end = grind (arith, common_steps, no_more)
 
 -- the dispute of two maps, as it is read from their entries
 pub disputed : {X : Type 0} (equal : X → X → Bool) (a b : FinMap id_cmp X) → dispute_of equal (fin.entries a) (fin.entries b) ≡ dispute equal a b

@@ -1,17 +1,14 @@
 -- Lists of entries whose keys rise: what is found in them, and in their merge.
-use Rattle.std.{proofs.{Common.{rules, ◌≡◌, ℕ, zero, suc, ◌+◌, ◌<◌, ◌≤◌, Bool, true, false, cond, T, List, [], ◌∷◌, ◌++◌, length, get_or, Option, Some, None, Ordering, Less, Equal, Greater, is_lt, is_eq, sym, refl, ap, ◌∙◌, ⊎_elim, arith, add-one, ◌⊎◌, append_assoc, append-nil}, lemmas.Bool.{false≢true, and_parts, and_from}}, specs.{Option.option_or, List.{insert, IsAllAdjacentAnswer, Sorted.IsSortedBy}, Prelude.{IsTrue, ◌↔◌}, Ordering.{eq_by_cmp, ordering_reverse}, Cmp.{IsTotalOrder, alike_right, Equal-is}, FinMap.{FinMap, is_sorted, put, Entries.{below_all, by_order}}}}
+use Rattle.std.{proofs.{lemmas.{Grind.common_steps, Bool.{false≢true, and_parts, and_from}}, Common.{rules, ◌≡◌, ℕ, zero, suc, ◌+◌, ◌<◌, ◌≤◌, Bool, true, false, cond, T, List, [], ◌∷◌, ◌++◌, length, get_or, Some, None, Ordering, Less, Equal, Greater, is_lt, is_eq, sym, refl, ap, ◌∙◌, arith, add-one, ◌⊎◌, append_assoc}}, specs.{List.{insert, IsAllAdjacentAnswer, Sorted.IsSortedBy}, Prelude.{IsTrue, ◌↔◌}, Ordering.ordering_reverse, Cmp.{IsTotalOrder, tied_back}, FinMap.{FinMap, IsAntisymmetric, is_sorted, put, entries-insert, Entries.{below_all, by_order}}}}
 use Rattle.std.specs.FinMap as fin
-use Rattle.stn_records.specs.{MapLaws.or_after, Sorted.{merge, merge_from}}
+use Rattle.stn_records.specs.{Maps.with_entries, Sorted.{merge, merge_from}}
 
 -- what the logic takes as true holds
 pub T_true : (b : Bool) → T b → b ≡ true
-T_true true h = refl
-T_true false h = absurd h
+T_true b h = search rules
 
 pub less_is : (r : Ordering) → is_lt r ≡ true → r ≡ Less
-less_is Less e = refl
-less_is Equal e = absurd (false≢true e)
-less_is Greater e = absurd (false≢true e)
+less_is r e = search rules
 
 -- the entries of a map are in order
 pub in_order : {K X : Type 0} {R : K → K → Ordering} (m : FinMap R X) → is_sorted R (fin.entries m) ≡ true
@@ -24,9 +21,6 @@ module _ {K : Type 0} {R : K → K → Ordering} (o : IsTotalOrder R) where
   pub less_back : (x y : K) → R x y ≡ Less → R y x ≡ Greater
   less_back x y e = o.antisymm y x ∙ ap ordering_reverse e
 
-  pub tied_less : (x y z : K) → R x y ≡ Equal → R y z ≡ Less → R x z ≡ Less
-  tied_less x y z e l = o.congr x y z e ∙ l
-
 module _ {K X : Type 0} {R : K → K → Ordering} (o : IsTotalOrder R) where
   pub below_less : (x y : K) (es : List (K × X)) → R x y ≡ Less → below_all R y es ≡ true → below_all R x es ≡ true
   below_less x y [] l h = refl
@@ -35,8 +29,7 @@ module _ {K X : Type 0} {R : K → K → Ordering} (o : IsTotalOrder R) where
       and_from _ _ (ap is_lt (o.trans x y e.0 l first)) (below_less x y es l (and_parts _ _ h).1)
 
   pub below_tied : (x y : K) (es : List (K × X)) → R x y ≡ Equal → below_all R y es ≡ true → below_all R x es ≡ true
-  below_tied x y [] t h = refl
-  below_tied x y (e ∷ es) t h = search rules
+  below_tied x y es t h = search rules
 
   -- nothing is found of a key below each
   pub find_below : (q : K) (es : List (K × X)) → below_all R q es ≡ true → fin.find R q es ≡ None
@@ -112,60 +105,38 @@ module _ {K X : Type 0} {R : K → K → Ordering} (o : IsTotalOrder R) where
       cc (put_gap es q x at (omega arith) (λ j d l. before (suc j) d (omega arith)) (λ j d l m. behind (suc j) d (omega arith) (omega arith)), less_back o e.0 q (before 0 e (omega arith)))
 
   -- ---- the merge
-  merge_from_below : (k : K) (x : K × X) (rest : List (K × X) → List (K × X)) → R k x.0 ≡ Less → ((ys : List (K × X)) → below_all R k ys ≡ true → below_all R k (rest ys) ≡ true) → (ys : List (K × X)) → below_all R k ys ≡ true → below_all R k (merge_from R x rest ys) ≡ true
-  merge_from_below k x rest l ih [] h = and_from _ _ (ap is_lt l) (ih [] refl)
-  merge_from_below k x rest l ih (y ∷ ys) h =
-      elim (R x.0 y.0) as (λ r. below_all R k (by_order r (x ∷ rest (y ∷ ys)) (x ∷ rest ys) (y ∷ merge_from R x rest ys)) ≡ true) [
-        | Less ↦ and_from _ _ (ap is_lt l) (ih (y ∷ ys) h)
-        | Equal ↦ and_from _ _ (ap is_lt l) (ih ys (and_parts _ _ h).1)
-        | Greater ↦ and_from _ _ (and_parts _ _ h).0 (merge_from_below k x rest l ih ys (and_parts _ _ h).1)
-      ]
+  ahead : (x e : K × X) (es : List (K × X)) → R x.0 e.0 ≡ Less → put R x.0 x.1 (e ∷ es) ≡ x ∷ e ∷ es
+  ahead x e es l = ap (λ r. by_order r (x ∷ e ∷ es) ((e.0, x.1) ∷ es) (e ∷ put R x.0 x.1 es)) l
 
-  merge_below : (k : K) (xs ys : List (K × X)) → below_all R k xs ≡ true → below_all R k ys ≡ true → below_all R k (merge R xs ys) ≡ true
-  merge_below k [] ys g h = h
-  merge_below k (x ∷ xs) ys g h = merge_from_below k x (merge R xs) (less_is _ (and_parts _ _ g).0) (λ zs. merge_below k xs zs (and_parts _ _ g).1) ys h
+  -- what stands before all of the first list comes first
+  merged_first : (xs : List (K × X)) (y : K × X) (ys : List (K × X)) → below_all R y.0 xs ≡ true → merge R xs (y ∷ ys) ≡ y ∷ merge R xs ys
+  merged_first [] y ys h = refl
+  merged_first (x ∷ xs) y ys h = search rules
 
-  merge_from_sorted : (x : K × X) (xs : List (K × X)) → below_all R x.0 xs ≡ true → ((ys : List (K × X)) → is_sorted R ys ≡ true → is_sorted R (merge R xs ys) ≡ true) → (ys : List (K × X)) → is_sorted R ys ≡ true → is_sorted R (merge_from R x (merge R xs) ys) ≡ true
-  merge_from_sorted x xs b ih [] h = and_from _ _ (merge_below x.0 xs [] b refl) (ih [] refl)
-  merge_from_sorted x xs b ih (y ∷ ys) h =
-      elim (R x.0 y.0) as (λ r. R x.0 y.0 ≡ r → is_sorted R (by_order r (x ∷ merge R xs (y ∷ ys)) (x ∷ merge R xs ys) (y ∷ merge_from R x (merge R xs) ys)) ≡ true) [
-        | Less ↦ λ t. and_from _ _ (merge_below x.0 xs (y ∷ ys) b (and_from _ _ (ap is_lt t) (below_less x.0 y.0 ys t (and_parts _ _ h).0))) (ih (y ∷ ys) h)
-        | Equal ↦ λ t. and_from _ _ (merge_below x.0 xs ys b (below_tied x.0 y.0 ys t (and_parts _ _ h).0)) (ih ys (and_parts _ _ h).1)
+  put_first : (x : K × X) (xs : List (K × X)) (y : K × X) (ys : List (K × X)) → below_all R x.0 xs ≡ true → R x.0 y.0 ≡ Less → put R x.0 x.1 (merge R xs (y ∷ ys)) ≡ x ∷ merge R xs (y ∷ ys)
+  put_first x [] y ys h l = ahead x y ys l
+  put_first x (a ∷ xs) y ys h l = search rules
+
+  -- to merge one entry more is to put it in
+  merged_more : IsAntisymmetric R → (x : K × X) (xs ys : List (K × X)) → below_all R x.0 xs ≡ true → merge R (x ∷ xs) ys ≡ put R x.0 x.1 (merge R xs ys)
+  merged_more exact x [] [] h = refl
+  merged_more exact x (a ∷ xs) [] h = sym (ahead x a (merge R xs []) (less_is _ (and_parts _ _ h).0))
+  merged_more exact x xs (y ∷ ys) h =
+      elim (R x.0 y.0) as (λ r. R x.0 y.0 ≡ r → by_order r (x ∷ merge R xs (y ∷ ys)) (x ∷ merge R xs ys) (y ∷ merge_from R x (merge R xs) ys) ≡ put R x.0 x.1 (merge R xs (y ∷ ys))) [
+        | Less ↦ λ t. sym (put_first x xs y ys h t)
+        | Equal ↦ λ t.
+            (λ i. (exact x.0 y.0 t i, x.1) ∷ merge R xs ys)
+            ∙ sym (ap (put R x.0 x.1) (merged_first xs y ys (below_tied y.0 x.0 xs (tied_back o x.0 y.0 t) h)) ∙ ap (λ r. by_order r (x ∷ y ∷ merge R xs ys) ((y.0, x.1) ∷ merge R xs ys) (y ∷ put R x.0 x.1 (merge R xs ys))) t)
         | Greater ↦ λ t.
-            let l = greater_back o x.0 y.0 t in
-            and_from _ _ (merge_from_below y.0 x (merge R xs) l (λ zs. merge_below y.0 xs zs (below_less y.0 x.0 xs l b)) ys (and_parts _ _ h).0) (merge_from_sorted x xs b ih ys (and_parts _ _ h).1)
+            ap (λ l. y ∷ l) (merged_more exact x xs ys h)
+            ∙ sym (ap (put R x.0 x.1) (merged_first xs y ys (below_less y.0 x.0 xs (greater_back o x.0 y.0 t) h)) ∙ ap (λ r. by_order r (x ∷ y ∷ merge R xs ys) ((y.0, x.1) ∷ merge R xs ys) (y ∷ put R x.0 x.1 (merge R xs ys))) t)
       ] refl
 
-  -- the merge is in order
-  pub sorted-merge : (xs ys : List (K × X)) → is_sorted R xs ≡ true → is_sorted R ys ≡ true → is_sorted R (merge R xs ys) ≡ true
-  sorted-merge [] ys g h = h
-  sorted-merge (x ∷ xs) ys g h = merge_from_sorted x xs (and_parts _ _ g).0 (λ zs. sorted-merge xs zs (and_parts _ _ g).1) ys h
-
-  skipped : (b : Bool) (p r : Option X) (v : X) → (b ≡ true → p ≡ None) → cond b (Some v) (option_or p r) ≡ option_or p (cond b (Some v) r)
-  skipped true p r v none = ap (λ u. option_or u (Some v)) (sym (none refl))
-  skipped false p r v none = refl
-
-  tied_pair : (b c : Bool) (u v : X) (p r : Option X) → b ≡ c → cond b (Some u) (option_or p r) ≡ option_or (cond b (Some u) p) (cond c (Some v) r)
-  tied_pair true c u v p r e = refl
-  tied_pair false c u v p r e = ap (λ d. option_or p (cond d (Some v) r)) e
-
-  find-merge_from : (q : K) (x : K × X) (xs : List (K × X)) (rest : List (K × X) → List (K × X)) → below_all R x.0 xs ≡ true → ((ys : List (K × X)) → is_sorted R ys ≡ true → fin.find R q (rest ys) ≡ option_or (fin.find R q xs) (fin.find R q ys)) → (ys : List (K × X)) → is_sorted R ys ≡ true → fin.find R q (merge_from R x rest ys) ≡ option_or (fin.find R q (x ∷ xs)) (fin.find R q ys)
-  find-merge_from q x xs rest b ih [] h = ap (cond (eq_by_cmp R q x.0) (Some x.1)) (ih [] refl) ∙ or_after (eq_by_cmp R q x.0) x.1 (fin.find R q xs) None
-  find-merge_from q x xs rest b ih (y ∷ ys) h =
-      elim (R x.0 y.0) as (λ r. R x.0 y.0 ≡ r → fin.find R q (by_order r (x ∷ rest (y ∷ ys)) (x ∷ rest ys) (y ∷ merge_from R x rest ys)) ≡ option_or (fin.find R q (x ∷ xs)) (fin.find R q (y ∷ ys))) [
-        | Less ↦ λ t. ap (cond (eq_by_cmp R q x.0) (Some x.1)) (ih (y ∷ ys) h) ∙ or_after (eq_by_cmp R q x.0) x.1 (fin.find R q xs) (fin.find R q (y ∷ ys))
-        | Equal ↦ λ t. ap (cond (eq_by_cmp R q x.0) (Some x.1)) (ih ys (and_parts _ _ h).1)
-            ∙ tied_pair (eq_by_cmp R q x.0) (eq_by_cmp R q y.0) x.1 y.1 (fin.find R q xs) (fin.find R q ys) (ap is_eq (alike_right o x.0 y.0 q t))
-        | Greater ↦ λ t. ap (cond (eq_by_cmp R q y.0) (Some y.1)) (find-merge_from q x xs rest b ih ys (and_parts _ _ h).1)
-            ∙ skipped (eq_by_cmp R q y.0) (fin.find R q (x ∷ xs)) (fin.find R q ys) y.1 (λ s.
-            let l : R q x.0 ≡ Less = tied_less o q y.0 x.0 ((Equal-is (R q y.0)).0 s) (greater_back o x.0 y.0 t) in
-            find_below q (x ∷ xs) (and_from _ _ (ap is_lt l) (below_less q x.0 xs l b)))
-      ] refl
-
-  -- what is found in the merge
-  pub find-merge : (q : K) (xs ys : List (K × X)) → is_sorted R xs ≡ true → is_sorted R ys ≡ true → fin.find R q (merge R xs ys) ≡ option_or (fin.find R q xs) (fin.find R q ys)
-  find-merge q [] ys g h = refl
-  find-merge q (x ∷ xs) ys g h = find-merge_from q x xs (merge R xs) (and_parts _ _ g).0 (λ zs. find-merge q xs zs (and_parts _ _ g).1) ys h
+  -- the merge with the entries of a map is the map with the entries put in
+  pub merge_entries : IsAntisymmetric R → (xs : List (K × X)) (m : FinMap R X) → is_sorted R xs ≡ true → merge R xs (fin.entries m) ≡ fin.entries (with_entries m xs)
+  merge_entries exact [] m h = refl
+  merge_entries exact (x ∷ xs) m h =
+      merged_more exact x xs (fin.entries m) (and_parts _ _ h).0 ∙ ap (put R x.0 x.1) (merge_entries exact xs m (and_parts _ _ h).1) ∙ sym (entries-insert o (with_entries m xs) x.0 x.1)
 
 -- a merge with nothing
 pub merge-nil : {K X : Type 0} (R : K → K → Ordering) (xs : List (K × X)) → merge R xs [] ≡ xs
@@ -174,9 +145,7 @@ merge-nil R (x ∷ xs) = ap (λ l. x ∷ l) (merge-nil R xs)
 
 -- where one list is at its end, the merge is the other
 rest_merged : {K X : Type 0} (R : K → K → Ordering) (xs ys : List (K × X)) → (length xs ≡ 0) ⊎ (length ys ≡ 0) → xs ++ ys ≡ merge R xs ys
-rest_merged R [] ys end = refl
-rest_merged R (x ∷ xs) [] end = append-nil (x ∷ xs) ∙ sym (merge-nil R (x ∷ xs))
-rest_merged R (x ∷ xs) (y ∷ ys) end = ⊎_elim (λ e. absurd (omega arith)) (λ e. absurd (omega arith)) end
+rest_merged R xs ys end = grind (arith, common_steps, merge-nil)
 
 -- the merge so far and what both lists have left are the merge
 pub merge_ends : {K X : Type 0} (R : K → K → Ordering) (all more last whole xs ys : List (K × X)) → (length xs ≡ 0) ⊎ (length ys ≡ 0) → all ++ merge R xs ys ≡ whole → more ≡ all ++ xs → last ≡ more ++ ys → last ≡ whole

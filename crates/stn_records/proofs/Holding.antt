@@ -1,7 +1,7 @@
 -- Whether all that one site holds is held by another.
-use Rattle.std.{proofs.{Common.{rules, ◌≡◌, ◌↔◌, Bool, true, false, cond, ◌&&◌, ◌≤◌, List, [], ◌∷◌, Option, Some, None, is_some, option_and_then, Less, Equal, Greater, is_lt, sym, refl, ap, subst, ◌∙◌, inl, inr, ⊎_elim}, lemmas.{Bool.{false≢true, and_from, and_parts, not-true, le-leb}, List.Sums.{AllPass-from_list_all, list_all-from_AllPass}, Option.{cond_some, same_Some}}}, specs.{Bool.Decides, Prelude.IsTrue, FinMap.{FinMap, is_sorted, get-entries, Entries.below_all}}}
+use Rattle.std.{proofs.{Common.{rules, ◌≡◌, ◌↔◌, Bool, true, false, cond, ◌&&◌, ◌≤◌, List, [], ◌∷◌, Option, Some, None, option_and_then, Less, Equal, Greater, is_lt, sym, refl, ap, subst, ◌∙◌, inl, inr, ⊎_elim}, lemmas.{Bool.{false≢true, and_from, and_parts, le-leb}, List.Sums.{AllPass-from_list_all, list_all-from_AllPass}, Option.cond_some}}, specs.{Bool.Decides, Prelude.IsTrue, FinMap.{FinMap, is_sorted, get-entries, Entries.below_all}}}
 use Rattle.std.specs.FinMap as fin
-use Rattle.stn_records.{specs.{Id.{SiteCounter, id_cmp}, Maps.HasEntries, Sorted.{is_there, has_entries}, Join.passing, JoinLaws.{first_step, join_is}, Content.{Content, addition, withdrawal, replacement, IsPart, most_known, is_limited, known_count, dispute_contents, join_contents, content_taken}, ContentLaws.{ids_total, ids_exact, contents_join, contents_dispute}}, proofs.{Entries.{less_is, greater_back, below_less, find_below, passed_over}, Gets.{entries_from_get, get_from_entries}}}
+use Rattle.stn_records.{specs.{Id.{SiteCounter, id_cmp}, Maps.HasEntries, Sorted.{is_there, has_entries}, Join.passing, JoinLaws.{first_step, join_is}, Content.{Content, addition, withdrawal, replacement, IsPart, most_known, is_limited, known_count, dispute_contents, join_contents, content_taken}, ContentLaws.{ids_total, ids_exact, contents_join}}, proofs.{Entries.{less_is, greater_back, below_less, find_below, passed_over}, Gets.{entries_from_get, get_from_entries}}}
 
 module _ {X : Type 0} (same : X → X → Bool) where
   -- an entry of ours before all of theirs is none of theirs
@@ -25,8 +25,7 @@ module _ {X : Type 0} (same : X → X → Bool) where
 
 module _ {X : Type 0} (same : X → X → Bool) (decides : (x y : X) → Decides (same x y) (x ≡ y)) where
   is_own : (o : Option X) (x : X) → (is_there same o x ≡ true) ↔ (o ≡ Some x)
-  is_own None x = (λ e. absurd (false≢true e), λ e. absurd (false≢true (ap is_some e)))
-  is_own (Some y) x = (λ e. ap Some ((decides y x).0 e), λ e. (decides y x).1 (same_Some y x e))
+  is_own o x = search rules
 
   -- each entry of theirs is one of ours exactly where the one map has the other's entries
   pub held : (a b : FinMap id_cmp X) → IsTrue (has_entries same (fin.entries a) (fin.entries b)) ↔ HasEntries a b
@@ -41,14 +40,10 @@ module _ {X : Type 0} (same : X → X → Bool) (decides : (x y : X) → Decides
 module _ (a b : Content) where
   -- what b holds is what a holds already
   pub joined_is : content_taken a b ≡ Some a → join_contents a b ≡ Some a
-  joined_is is = let first = first_step (passing is_limited) (join_contents a b) a is in first.1 ∙ ap Some (cond_some _ _ _ first.2).1
+  joined_is is = search rules
 
   pub held_agrees : content_taken a b ≡ Some a → dispute_contents a b ≡ None
-  held_agrees is = none_of (dispute_contents a b) (not-true _ (sym (contents_dispute a b) ∙ ap is_some (joined_is is)))
-    where
-      none_of : (o : Option SiteCounter) → is_some o ≡ false → o ≡ None
-      none_of None e = refl
-      none_of (Some x) e = absurd (false≢true (sym e))
+  held_agrees is = search rules
 
   -- all that b holds is held by a exactly where each part of it is
   pub told_part : IsPart b a ↔ (HasEntries a.tombstones b.tombstones × HasEntries a.additions b.additions × HasEntries a.replacements b.replacements)

@@ -1,5 +1,5 @@
 -- How many ids are known, each counted once.
-use Rattle.std.{proofs.{Common.{rules, ◌≡◌, suc, ◌≤◌, Bool, true, false, cond, ◌||◌, List, [], ◌∷◌, ◌++◌, length, Option, Some, None, is_some, sym, refl, ap, ◌∙◌, ⊎_elim}, lemmas.{Bool.{false≢true, or_left, or_right, or_cases}, Map.Made.length-le_from_is_member, List.Folds.list_any-append}}, specs.{FinMap.contains_key-keys, Cmp.{IsEquivalence, eq_by_cmp_equiv}, List.{IsDistinct, AllByRecursion}, Set.{distinct_count, unique_keys, is_member}}}
+use Rattle.std.{proofs.{Common.{rules, ◌≡◌, suc, ◌≤◌, Bool, true, false, cond, ◌||◌, List, [], ◌∷◌, ◌++◌, length, Option, Some, is_some, sym, refl, ap, ◌∙◌, ⊎_elim}, lemmas.{Bool.{false≢true, or_left, or_right, or_cases}, Map.Made.length-le_from_is_member, List.Folds.list_any-append}}, specs.{FinMap.contains_key-keys, Cmp.{IsEquivalence, eq_by_cmp_equiv}, List.{IsDistinct, AllByRecursion}, Set.{distinct_count, unique_keys, is_member}}}
 use Rattle.stn_records.{specs.{Content.{Content, Item, addition, HasItem, same_ids, known_ids, known_count, is_known, replaced_set, replaced_ids}, ContentLaws.ids_total, Id.SiteCounter}, proofs.Replaced.replaced_fewer}
 use Rattle.std.specs.FinMap as fin
 
@@ -37,7 +37,7 @@ distinct (x ∷ xs) = by (is_member same_ids xs x) refl (distinct xs)
 
 -- ids that are all among others are no more than those
 pub fewer : (xs ys : List SiteCounter) → ((q : SiteCounter) → is_member same_ids xs q ≡ true → is_member same_ids ys q ≡ true) → distinct_count same_ids xs ≤ distinct_count same_ids ys
-fewer xs ys h = length-le_from_is_member laws (unique_keys same_ids xs) (unique_keys same_ids ys) (distinct xs) (λ q m. member_unique ys q ∙ h q (sym (member_unique xs q) ∙ m))
+fewer xs ys h = search (rules, length-le_from_is_member, laws, distinct, member_unique)
 
 -- lists with the same ids have as many
 pub same_count : (xs ys : List SiteCounter) → ((q : SiteCounter) → is_member same_ids xs q ≡ is_member same_ids ys q) → distinct_count same_ids xs ≡ distinct_count same_ids ys
@@ -56,8 +56,7 @@ known_member s q = member-append (fin.keys s.additions) (replaced_ids s) q
     ∙ (λ i. sym (contains_key-keys s.additions q) i || sym (contains_key-keys (replaced_set s) q) i)
 
 pub there_is : {X : Type 0} (o : Option X) → is_some o ≡ true → (x : X) × (o ≡ Some x)
-there_is None e = absurd (false≢true e)
-there_is (Some x) e = (x, refl)
+there_is o e = search rules
 
 -- an item's id is known, and a known id has an item
 known_of_item : (s t : Content) → ((item : Item) → HasItem s item → HasItem t item) → (q : SiteCounter) → is_known s q ≡ true → is_known t q ≡ true
@@ -68,8 +67,8 @@ known_of_item s t h q k = ⊎_elim
 
 -- a content with fewer items knows no more ids
 pub known_fewer : (s t : Content) → ((item : Item) → HasItem s item → HasItem t item) → known_count s ≤ known_count t
-known_fewer s t h = fewer (known_ids s) (known_ids t) (λ q m. known_member t q ∙ known_of_item s t h q (sym (known_member s q) ∙ m))
+known_fewer s t h = search (rules, fewer, known_member, known_of_item)
 
 -- a map has at most as many keys as there are known ids
 pub keys_within : (xs ys : List SiteCounter) → IsDistinct same_ids xs → ((q : SiteCounter) → is_member same_ids xs q ≡ true → is_member same_ids ys q ≡ true) → length xs ≤ distinct_count same_ids ys
-keys_within xs ys d h = length-le_from_is_member laws xs (unique_keys same_ids ys) d (λ q m. member_unique ys q ∙ h q m)
+keys_within xs ys d h = search (rules, length-le_from_is_member, laws, member_unique)

@@ -1,7 +1,7 @@
 -- How many ids a content knows after a change, and how many two know together.
-use Rattle.std.{proofs.{Common.{rules, ◌≡◌, ◌+◌, ◌<◌, ◌≤◌, Bool, true, false, cond, ◌||◌, List, [], ◌∷◌, ◌++◌, length, Option, Some, None, is_some, is_eq, sym, refl, ap, ◌∙◌, arith, length-append}, lemmas.{Bool.{false≢true, and_parts, or_left, or_right}, Map.{Made.distinct_count-le, Entries.length-keys_of}}}, specs.{FinMap.{contains_key-keys, is_sorted, get-empty, get-insert, Entries.below_all}, Map.keys_of, Option.option_or, List.{IsDistinct, AllByRecursion}, Set.{distinct_count, unique_keys, is_member}}}
+use Rattle.std.{proofs.{Common.{rules, ◌≡◌, ◌+◌, ◌<◌, ◌≤◌, Bool, true, false, cond, ◌||◌, List, [], ◌∷◌, ◌++◌, length, Option, Some, None, is_some, is_eq, sym, refl, ap, ◌∙◌, arith, length-append}, lemmas.{Bool.{false≢true, and_parts, or_left, or_right}, Map.{Made.distinct_count-le, Entries.length-keys_of}}}, specs.{FinMap.{FinMap, contains_key-keys, is_sorted, get-empty, get-insert, Entries.below_all}, Map.keys_of, Option.option_or, List.{IsDistinct, AllByRecursion}, Set.{distinct_count, is_member}}}
 use Rattle.stn_net.specs.Difference.{Difference}
-use Rattle.stn_records.{specs.{Content.{most_known, Content, Item, addition, withdrawal, replacement, HasItem, same_ids, known_ids, known_count, known_in_either, is_known, is_replaced, replaced_set, replaced_ids, dispute_contents, joined_contents, part_of, plain, with_record, with_tombstone, with_amendment, no_content, AllAmend}, ContentLaws.{ids_total, ids_exact}, Id.{SiteCounter, id_cmp}, declared.record.Record.Record, MapLaws.get-union}, proofs.{Entries.{less_is, in_order}, Proper.retained_value, OneItem.gone, KnownIds.{fewer, same_count, one_more, member-append, known_member, known_fewer, keys_within, there_is}, Replaced.{or_swap, inserted_key, replaced_by_withdrawal, replaced_in_join, replaced_withdrawn, replaced_amended, replaced_of_nothing}}}
+use Rattle.stn_records.{specs.{Content.{most_known, Content, Item, addition, withdrawal, replacement, HasItem, same_ids, known_ids, known_count, known_in_either, is_known, is_replaced, replaced_set, dispute_contents, joined_contents, part_of, plain, with_record, with_tombstone, with_amendment, no_content, AllAmend}, ContentLaws.{ids_total, ids_exact}, Id.{SiteCounter, id_cmp}, declared.record.Record.Record, MapLaws.get-union}, proofs.{Entries.{less_is, in_order}, Proper.retained_value, OneItem.gone, KnownIds.{fewer, same_count, member-append, known_member, known_fewer, keys_within, there_is}, Replaced.{or_swap, inserted_key, replaced_by_withdrawal, replaced_in_join, replaced_withdrawn, replaced_amended, replaced_of_nothing}}}
 use Rattle.std.specs.FinMap as fin
 
 keys_apart : {X : Type 0} (x : SiteCounter) (es : List (SiteCounter × X)) → below_all id_cmp x es ≡ true → AllByRecursion (λ y. same_ids x y ≡ false) (keys_of es)
@@ -13,32 +13,24 @@ unfolding IsDistinct
 keys_distinct [] h = tt
 keys_distinct (e ∷ es) h = (keys_apart e.0 es (and_parts _ _ h).0, keys_distinct es (and_parts _ _ h).1)
 
--- there are at most as many additions and replaced ids as known ids
+-- a map whose keys are known has at most as many entries as there are known ids
+within : {X : Type 0} (m : FinMap id_cmp X) (s : Content) → ((q : SiteCounter) → fin.contains_key m q ≡ true → is_known s q ≡ true) → length (fin.entries m) ≤ known_count s
+within m s among =
+    let fewer = keys_within (fin.keys m) (known_ids s) (keys_distinct (fin.entries m) (in_order m)) (λ q k. known_member s q ∙ among q (contains_key-keys m q ∙ k)) in
+    omega (arith, length-keys_of (fin.entries m), fewer)
+
 pub additions_within : (s : Content) → length (fin.entries s.additions) ≤ known_count s
-additions_within s = search (rules, keys_within, keys_distinct, in_order, member-append, length-keys_of)
+additions_within s = within s.additions s (λ q k. or_left _ _ k)
 
 pub replaced_within : (s : Content) → length (fin.entries (replaced_set s)) ≤ known_count s
-replaced_within s = search (rules, keys_within, keys_distinct, in_order, member-append, length-keys_of)
+replaced_within s = within (replaced_set s) s (λ q k. or_right _ _ k)
 
--- and there are at most as many entries of amendments, since each belongs to a record
+-- an entry of an amendment belongs to a record
 pub replacements_within : (s : Content) → AllAmend s → length (fin.entries s.replacements) ≤ known_count s
-replacements_within s amends =
-    let within = keys_within (fin.keys s.replacements) (known_ids s) (keys_distinct (fin.entries s.replacements) (in_order s.replacements))
-    (λ q m. member-append (fin.keys s.additions) (replaced_ids s) q ∙ or_left _ _ (added q (contains_key-keys s.replacements q ∙ m))) in
-    omega (arith, length-keys_of (fin.entries s.replacements), within)
-  where
-    added : (q : SiteCounter) → fin.contains_key s.replacements q ≡ true → is_member same_ids (fin.keys s.additions) q ≡ true
-    added q there = let entry = there_is (fin.get s.replacements q) there in sym (contains_key-keys s.additions q) ∙ ap is_some (amends q entry.0 entry.1).added.1
+replacements_within s amends = search (rules, within, or_left)
 
--- and at most as many withdrawn ids
 pub tombstones_within : (s : Content) → length (fin.entries s.tombstones) ≤ known_count s
-tombstones_within s =
-    let within = keys_within (fin.keys s.tombstones) (known_ids s) (keys_distinct (fin.entries s.tombstones) (in_order s.tombstones))
-    (λ q m. member-append (fin.keys s.additions) (replaced_ids s) q ∙ or_right _ _ (sym (contains_key-keys (replaced_set s) q) ∙ withdrawn q (contains_key-keys s.tombstones q ∙ m))) in
-    omega (arith, length-keys_of (fin.entries s.tombstones), within)
-  where
-    withdrawn : (q : SiteCounter) → fin.contains_key s.tombstones q ≡ true → is_replaced s q ≡ true
-    withdrawn q there = replaced_by_withdrawal s q (gone (fin.get s.tombstones q) there)
+tombstones_within s = search (rules, within, replaced_by_withdrawal, gone)
 
 -- and no more ids are known than both parts have entries
 pub known_within : (s : Content) → known_count s ≤ length (fin.entries s.additions) + length (fin.entries (replaced_set s))
@@ -78,8 +70,7 @@ amended_member s id old bound agrees q =
 
 -- an id more counts where it is not among the others
 counted : (x : SiteCounter) (xs : List SiteCounter) (b : Bool) → is_member same_ids xs x ≡ b → distinct_count same_ids (x ∷ xs) ≡ distinct_count same_ids xs + cond b 0 1
-counted x xs true e = ap (λ m. length (cond m (unique_keys same_ids xs) (x ∷ unique_keys same_ids xs))) e ∙ omega arith
-counted x xs false e = one_more x xs e ∙ omega arith
+counted x xs b e = search rules
 
 -- how many ids are known with an amendment
 pub amended_count : (s : Content) (id old : SiteCounter) (bound : Difference) → ((z : SiteCounter) → fin.get s.replacements id ≡ Some z → z ≡ old) → same_ids id old ≡ false → known_count (with_amendment s id old bound) ≡ known_count s + cond (is_known s old) 0 1 + cond (is_known s id) 0 1
@@ -95,8 +86,7 @@ module _ (s t : Content) (id : SiteCounter) (more : (q : SiteCounter) → is_kno
   cons_count = same_count (id ∷ known_ids s) (known_ids t) (λ q. ap (λ m. same_ids q id || m) (known_member s q) ∙ sym (more q) ∙ sym (known_member t q))
 
   known_more : (b : Bool) → is_known s id ≡ b → (b ≡ false → known_count s < most_known) → known_count s ≤ most_known → known_count t ≤ most_known
-  known_more true k room most = search (rules, known_member, cons_count)
-  known_more false k room most = search (rules, cons_count)
+  known_more b k room most = search (rules, known_member, cons_count)
 
 pub record_limited : (s : Content) (id : SiteCounter) (r : Record) → (is_known s id ≡ false → known_count s < most_known) → known_count s ≤ most_known → known_count (with_record s id r) ≤ most_known
 record_limited s id r room most = known_more s (with_record s id r) id (with_member s id r) (is_known s id) refl room most

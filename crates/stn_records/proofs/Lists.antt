@@ -1,5 +1,5 @@
 -- Contents that are made of lists of entries.
-use Rattle.std.{proofs.{Common.{rules, ◌≡◌, ◌↔◌, ℕ, ◌<◌, length, Bool, true, false, not, ◌&&◌, eqb, List, get_or, Some, sym, refl, ap, ◌∙◌, All}, lemmas.{Bool.false≢true, List.Elements.All-same}}, specs.{Bool.Decides, FinMap.{get-entries, is_sorted, same_entries_map}, Cmp.tied_itself}}
+use Rattle.std.{proofs.{Common.{rules, ◌≡◌, ◌↔◌, ℕ, ◌<◌, length, Bool, true, not, ◌&&◌, eqb, List, get_or, Some, sym, ap, ◌∙◌, All}, lemmas.List.Elements.All-same}, specs.{FinMap.{get-entries, is_sorted, same_entries_map}, Cmp.tied_itself}}
 use Rattle.std.specs.FinMap as fin
 use Rattle.stn_records.{specs.{Id.{SiteCounter, id_cmp}, declared.record.{Record.Record, Mark.TheVariants.Plain}, Content.{RecordMap, Content, AllAmend, IsAmendment}, ContentLaws.{ids_total, ids_exact}}, proofs.{Gets.{entries_from_get, get_from_entries}, Entries.{in_order, find_at}}}
 
@@ -22,19 +22,12 @@ amends_of_entries s es is all id old e = get_from_entries ids_total ids_exact s.
 pub entries_of_amends : (s : Content) (es : List (SiteCounter × SiteCounter)) → es ≡ fin.entries s.replacements → AllAmend s → All (λ e. IsAmendment s.additions e.0 e.1) es
 entries_of_amends s es is amends = All-same (λ e. IsAmendment s.additions e.0 e.1) es (fin.entries s.replacements) is (entries_from_get ids_total ids_exact s.replacements (λ e. IsAmendment s.additions e.0 e.1) amends)
 
--- two ids are one where both their numbers are
-numbers_decide : (a b : SiteCounter) → Decides (eqb a.site b.site && eqb a.counter b.counter) (a ≡ b)
-numbers_decide a b = search rules
-
 -- whether an id of a Plain record and an old id make an amendment
 pub amendment_told : (m : RecordMap) (id old : SiteCounter) (held : Record) → fin.get m id ≡ Some held → held.mark ≡ Plain → (b : Bool) → b ≡ not (eqb id.site old.site && eqb id.counter old.counter) → (b ≡ true) ↔ IsAmendment m id old
 amendment_told m id old held there plain b is = (
   λ e. record {
     added = (held.bound, there ∙ ap Some (λ i. record { mark = plain i; bound = held.bound }));
-    other = λ same. false≢true (sym (ap not ((numbers_decide id old).1 same)) ∙ sym is ∙ e);
+    other = λ same. search rules;
   },
-  λ a. is ∙ elim (eqb id.site old.site && eqb id.counter old.counter) as (λ t. (eqb id.site old.site && eqb id.counter old.counter) ≡ t → not t ≡ true) [
-    | true ↦ λ t. absurd (a.other ((numbers_decide id old).0 t))
-    | false ↦ λ t. refl
-  ] refl,
+  λ a. let other = a.other in search rules,
 )

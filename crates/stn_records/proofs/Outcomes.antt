@@ -1,17 +1,16 @@
 -- What each call leaves.
-use Rattle.std.{proofs.{Common.{rules, ◌≡◌, ◌≢◌, ℕ, ◌+◌, ◌<◌, ◌≤◌, ◌↔◌, Bool, true, false, cond, List, length, Some, None, is_some, option_and_then, Equal, sym, refl, ap, subst, ◌∙◌, inl, inr, ⊎_elim, arith, Result, Ok, Err, OnOk, OnErr, IsTrue, le_trans, nat_le}, lemmas.Bool.{false≢true, cases_lt, leb-true, or_right}}, specs.{FinMap.{get-empty, get-retain_keys}, Set.is_member}}
+use Rattle.std.{proofs.{Common.{rules, ◌≡◌, ◌≢◌, ◌<◌, ◌≤◌, ◌↔◌, Bool, true, false, cond, List, Some, None, is_some, Equal, sym, refl, ap, subst, ◌∙◌, inl, inr, ⊎_elim, arith, Result, OnOk, OnErr, IsTrue, le_trans}, lemmas.Bool.{false≢true, cases_lt, or_right}}, specs.{FinMap.{get-empty, get-retain_keys}, Set.is_member}}
 use Rattle.std.specs.FinMap as fin
 use Rattle.stn_net.specs.Difference.{Difference}
-use Rattle.stn_records.{specs.{Id.{SiteCounter, id_cmp, same_ids}, Record.{IsProper, IsProperRecord}, declared.record.Record.Record, MapLaws.{get-union, either_value}, Join.passing, ContentLaws.{ids_total, ids_exact, contents_undisputed}, Content.{most_known, dispute_contents, content_taken, is_limited, IsSound, IsAmendment, AllAmend, part_of, RecordMap, Content, addition, known_count, known_in_either, is_known, is_replaced, replaced_set, joined_contents, no_content, plain, with_record, with_tombstone, with_amendment}}, proofs.{OneItem.{gone, inserted_value, inserted_here, kept_value}, Replaced.{items_back, replaced_by_withdrawal}, Proper.{empty_fits, insert_fits, union_fits, retain_fits, retained_value}, Limits.{known_within, together, record_limited, tombstone_limited, part_limited, empty_limited}}}
+use Rattle.stn_records.{specs.{Id.{SiteCounter, id_cmp, same_ids}, Record.{IsProper, IsProperRecord}, declared.record.Record.Record, MapLaws.{get-union, either_value}, ContentLaws.{ids_total, ids_exact}, Content.{most_known, dispute_contents, content_taken, IsSound, IsAmendment, AllAmend, part_of, RecordMap, Content, addition, known_count, known_in_either, is_known, is_replaced, joined_contents, no_content, plain, with_record, with_tombstone, with_amendment}}, proofs.{OneItem.{gone, inserted_value, inserted_here, kept_value}, Replaced.{items_back, replaced_by_withdrawal}, Proper.{empty_fits, insert_fits, union_fits, retain_fits, retained_value}, Limits.{together, record_limited, tombstone_limited, part_limited, empty_limited}}}
 
 -- what a call leaves that changes all or nothing
 pub left_by : {T E : Type 0} (result : Result T E) (P : Content → Type 0) (old new changed : Content) → OnOk result (new ≡ changed) → OnErr result (new ≡ old) → P old → P changed → P new
-left_by (Ok v) P old new changed is kept before after = subst P (sym is) after
-left_by (Err e) P old new changed is kept before after = subst P (sym kept) before
+left_by result P old new changed is kept before after = search rules
 
 -- an amendment stays one where a record is put in that is no other of its id
 amends_kept : (m : RecordMap) (id : SiteCounter) (r : Record) → ((z : Record) → fin.get m id ≡ Some z → z ≡ r) → (q old : SiteCounter) → IsAmendment m q old → IsAmendment (fin.insert m id r) q old
-amends_kept m id r agrees q old a = record { added = (a.added.0, kept_value m id r q (plain a.added.0) agrees a.added.1); other = a.other }
+amends_kept m id r agrees q old a = search (rules, kept_value)
 
 -- which changes leave a sound content
 pub empty_sound : IsSound no_content
@@ -25,7 +24,7 @@ record_sound s id r sound proper agrees room = record {
 }
 
 pub tombstone_sound : (s : Content) (id : SiteCounter) → IsSound s → (is_known s id ≡ false → known_count s < most_known) → IsSound (with_tombstone s id)
-tombstone_sound s id sound room = record { proper = sound.proper; amends = sound.amends; limited = tombstone_limited s id room sound.limited }
+tombstone_sound s id sound room = search (rules, tombstone_limited)
 
 pub amendment_sound : (s : Content) (id old : SiteCounter) (bound : Difference) → IsSound s → id ≢ old → ((z : Record) → fin.get s.additions id ≡ Some z → z ≡ plain bound) → ((z : SiteCounter) → fin.get s.replacements id ≡ Some z → z ≡ old) → known_count (with_amendment s id old bound) ≤ most_known → IsSound (with_amendment s id old bound)
 amendment_sound s id old bound sound apart agrees alike few = record {
@@ -85,11 +84,7 @@ no_room_needed s id known unknown = absurd (false≢true (sym unknown ∙ known)
 
 -- where not the most ids are known, there is room
 pub room_left : (s : Content) (full : Bool) → (IsTrue full ↔ (known_count s ≡ most_known)) → known_count s ≤ most_known → full ≡ false → known_count s < most_known
-room_left s full is most spare = ⊎_elim (λ few. few) (λ many. absurd (false≢true (sym spare ∙ is.1 (omega arith)))) (cases_lt (known_count s) most_known)
-
--- too few entries for the most ids
-pub not_full : (s : Content) (es : List (SiteCounter × Record)) (ts : List (SiteCounter × Unit {0})) → es ≡ fin.entries s.additions → ts ≡ fin.entries (replaced_set s) → length es + length ts < most_known → known_count s < most_known
-not_full s es ts p q few = omega (arith, known_within s, ap length p, ap length q)
+room_left s full is most spare = search rules
 
 -- where a test says that two contents don't know too much together
 pub not_too_much : (s t : Content) (b : Bool) → (IsTrue b ↔ (most_known < known_in_either s t)) → b ≡ false → known_in_either s t ≤ most_known
@@ -97,13 +92,7 @@ not_too_much s t b tells f = search rules
 
 -- a join that knows too much is refused
 pub too_many : (s t : Content) → dispute_contents s t ≡ None → most_known < known_in_either s t → content_taken s t ≡ None
-too_many s t none many =
-    let wide : most_known < known_count (joined_contents s t) = omega (arith, together s t none, many) in
-    ap (option_and_then (passing is_limited)) (contents_undisputed s t none)
-    ∙ ap (λ b. cond b (Some (joined_contents s t)) None) (lt-leb-false (known_count (joined_contents s t)) most_known wide)
-  where
-    lt-leb-false : (a b : ℕ) → b < a → nat_le a b ≡ false
-    lt-leb-false a b h = elim (nat_le a b) as (λ v. nat_le a b ≡ v → v ≡ false) [ true ↦ λ e. let w : a ≤ b = leb-true a b e in absurd (omega arith) | false ↦ λ e. refl ] refl
+too_many s t none many = search (rules, together)
 
 -- and one within the limit is what a take leaves
 pub taken_is : (s t all : Content) → dispute_contents s t ≡ None → known_in_either s t ≤ most_known → all ≡ joined_contents s t → content_taken s t ≡ Some all

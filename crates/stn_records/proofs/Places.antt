@@ -1,7 +1,7 @@
 -- What a search for an id finds, and what an edit at that place does.
-use Rattle.std.{proofs.{Common.{rules, ◌≡◌, ◌<◌, Bool, Equal, ℕ, zero, suc, is_eq, is_ok, true, false, cond, List, [], ◌∷◌, length, get_or, Option, Some, None, Result, Ok, Err, IfOk, IfErr, filter, sym, refl, ap, subst, ◌∙◌, arith, ◌||◌, All}, lemmas.{Float.T_from_true, List.{get_or_default, Sorted.{searchable_from_sorted, list_any-IsPermutation}, Elements.{All-same, filter_agree}}, Bool.{cases_lt, or_right}}}, specs.{List.{insert, Sorted.{IsSearchInRange, IsBinarySearchResult, IsSorted, IsPermutation}}, Cmp.tied_back, Prelude.IsTrue, Option.option_or, Set.is_member, FinMap.{FinMap, is_sorted, put, entries-from_sorted, get-from_sorted, get-entries, entries-insert, same_entries_map, same_map, get-retain_keys, empty_of_len, len-entries, Entries.{is_sorted-where_key, find-where_key}}}}
+use Rattle.std.{proofs.{lemmas.{Grind.common_steps, Float.T_from_true, List.{get_or_default, Sorted.{searchable_from_sorted, list_any-IsPermutation}, Elements.{All-same, filter_agree}}, Bool.cases_lt}, Common.{rules, ◌≡◌, ◌<◌, Bool, Equal, ℕ, suc, is_ok, true, false, cond, List, [], ◌∷◌, length, get_or, Option, Some, None, Result, Ok, Err, IfOk, IfErr, filter, sym, refl, ap, subst, ◌∙◌, arith, ◌||◌, All}}, specs.{List.{insert, Sorted.{IsSearchInRange, IsBinarySearchResult, IsSorted, IsPermutation}}, Cmp.tied_back, Prelude.IsTrue, Set.is_member, FinMap.{FinMap, is_sorted, put, entries-from_sorted, get-from_sorted, get-entries, entries-insert, same_entries_map, same_map, get-retain_keys, empty_of_len, len-entries, Entries.{is_sorted-where_key, find-where_key}}}}
 use Rattle.std.specs.FinMap as fin
-use Rattle.stn_records.{specs.{Id.{SiteCounter, id_cmp}, Sorted.{IsPlaceOf, IsGapFor, merge}, Maps.{union, AgreesAt, AllFit}, MapLaws.get-union, Content.same_ids, ContentLaws.{ids_total, ids_exact}}, proofs.{OneItem.again, Gets.get_from_entries, Entries.{T_true, in_order, less_back, greater_back, neighbours_rise, find_at, find_gap, put_gap, sorted-merge, find-merge}}}
+use Rattle.stn_records.{specs.{Id.{SiteCounter, id_cmp}, Sorted.{IsPlaceOf, IsGapFor, merge}, Maps.{union, AgreesAt, AllFit}, Content.same_ids, ContentLaws.{ids_total, ids_exact}}, proofs.{OneItem.again, Gets.get_from_entries, Entries.{T_true, in_order, less_back, greater_back, neighbours_rise, find_at, find_gap, put_gap, merge_entries}}}
 
 alike : (p : SiteCounter → Bool) (q x : SiteCounter) → id_cmp q x ≡ Equal → p x ≡ p q
 alike p q x t = ap p (sym (ids_exact q x t))
@@ -46,14 +46,12 @@ module _ {X : Type 0} where
   listed_fits Fits es seen read sorted all = get_from_entries ids_total ids_exact (fin.from_sorted {R = id_cmp} es) (λ e. Fits e.1) (All-same (λ e. Fits e.1) (fin.entries (fin.from_sorted {R = id_cmp} es)) seen (map_of_sorted es sorted ∙ sym read) all)
 
   same_listed : (es : List (SiteCounter × X)) (m : FinMap id_cmp X) → is_sorted id_cmp es ≡ true → ((id : SiteCounter) → fin.find id_cmp id es ≡ fin.get m id) → es ≡ fin.entries m
-  same_listed es m sorted found = sym (map_of_sorted es sorted) ∙ ap fin.entries (same_map ids_total ids_exact _ m (λ id. get-from_sorted id_cmp es id (T_from_true _ sorted) ∙ found id))
+  same_listed es m sorted found =
+      cc (map_of_sorted es sorted, same_map ids_total ids_exact _ m (λ id. get-from_sorted id_cmp es id (T_from_true _ sorted) ∙ found id))
 
   -- the merge of two maps' entries is the entries of the union
-  pub merge_entries : (a b : FinMap id_cmp X) → merge id_cmp (fin.entries a) (fin.entries b) ≡ fin.entries (union a b)
-  merge_entries a b = same_listed _ (union a b) (sorted-merge ids_total (fin.entries a) (fin.entries b) (in_order a) (in_order b)) (λ id.
-      find-merge ids_total id (fin.entries a) (fin.entries b) (in_order a) (in_order b)
-      ∙ (λ i. option_or (sym (get-entries a id) i) (sym (get-entries b id) i))
-      ∙ sym (get-union ids_total ids_exact a b id))
+  pub union_entries : (a b : FinMap id_cmp X) → merge id_cmp (fin.entries a) (fin.entries b) ≡ fin.entries (union a b)
+  union_entries a b = merge_entries ids_total ids_exact (fin.entries a) b (in_order a)
 
   -- and those with wanted ids are the entries that the map retains
   pub wanted_entries : (p : SiteCounter → Bool) (m : FinMap id_cmp X) → filter (λ e. p e.0) (fin.entries m) ≡ fin.entries (fin.retain_keys m p)
@@ -97,13 +95,11 @@ nothing_listed X = sym (map_of_sorted [] refl) ∙ ap fin.entries (nothing_sorte
 
 -- an id at a place is a member, and one that is at none is not
 member_at : (ids : List SiteCounter) (id : SiteCounter) (at : ℕ) → at < length ids → id_cmp (get_or ids at id) id ≡ Equal → is_member same_ids ids id ≡ true
-member_at [] id at within e = absurd (omega arith)
-member_at (x ∷ ids) id zero within e = ap (λ r. is_eq r || is_member same_ids ids id) (tied_back ids_total x id e)
-member_at (x ∷ ids) id (suc at) within e = or_right (same_ids id x) _ (member_at ids id at (omega arith) e)
+member_at ids id at within e = grind (arith, common_steps)
 
 no_member : (ids : List SiteCounter) (id : SiteCounter) → ((k : ℕ) → k < length ids → same_ids id (get_or ids k id) ≡ false) → is_member same_ids ids id ≡ false
 no_member [] id apart = refl
-no_member (x ∷ ids) id apart = ap (λ b. b || is_member same_ids ids id) (apart 0 (omega arith)) ∙ no_member ids id (λ k l. apart (suc k) (omega arith))
+no_member (x ∷ ids) id apart = cc (apart 0 (omega arith), no_member ids id (λ k l. apart (suc k) (omega arith)))
 
 -- a binary search of ids in order finds exactly a member
 pub id_searched : (ids : List SiteCounter) (id : SiteCounter) → IsSorted id_cmp ids → (r : Result ℕ ℕ) → IsSearchInRange r (length ids) → IsBinarySearchResult (λ x. id_cmp x id) ids r → is_ok r ≡ is_member same_ids ids id

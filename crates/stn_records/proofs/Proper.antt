@@ -1,11 +1,10 @@
 -- Which changes of a map keep its values fit.
-use Rattle.std.{proofs.{Common.{◌≡◌, Bool, true, false, cond, Option, Some, None, is_some, sym, ap, subst, ◌∙◌, ⊎_elim}, lemmas.Bool.false≢true}, specs.FinMap.{FinMap, get-empty, get-retain_keys}}
+use Rattle.std.{proofs.{Common.{rules, ◌≡◌, Bool, cond, Option, Some, None, is_some, sym, ap, subst, ◌∙◌, ⊎_elim}, lemmas.Bool.false≢true}, specs.FinMap.{FinMap, get-empty, get-retain_keys}}
 use Rattle.std.specs.FinMap as fin
 use Rattle.stn_records.{specs.{Id.{SiteCounter, id_cmp}, Maps.{union, AllFit}, MapLaws.{get-union, either_value}, ContentLaws.{ids_total, ids_exact}}, proofs.OneItem.inserted_value}
 
 retained : {X : Type 0} (b : Bool) (o : Option X) (x : X) → cond b o None ≡ Some x → o ≡ Some x
-retained true o x e = e
-retained false o x e = absurd (false≢true (ap is_some e))
+retained b o x e = search rules
 
 pub retained_value : {X : Type 0} (m : FinMap id_cmp X) (p : SiteCounter → Bool) (id : SiteCounter) (x : X) → fin.get (fin.retain_keys m p) id ≡ Some x → fin.get m id ≡ Some x
 retained_value m p id x e = retained (p id) (fin.get m id) x (sym (get-retain_keys m p id (λ k t. ap p (sym (ids_exact id k t)))) ∙ e)

@@ -14,7 +14,7 @@ inserted_key m id q = ap is_some (get-insert ids_total m id tt q) ∙ by (same_i
 pub with_ids_member : (m : IdSet) (ids : List SiteCounter) (q : SiteCounter) → fin.contains_key (with_ids m ids) q ≡ (is_member same_ids ids q || fin.contains_key m q)
 with_ids_member m [] q = refl
 with_ids_member m (id ∷ ids) q =
-    inserted_key (with_ids m ids) id q ∙ (ap (λ b. same_ids q id || b) (with_ids_member m ids q) ∙ sym (or_assoc (same_ids q id) (is_member same_ids ids q) (fin.contains_key m q)))
+    cc (inserted_key (with_ids m ids) id q, with_ids_member m ids q, or_assoc (same_ids q id) (is_member same_ids ids q) (fin.contains_key m q))
 
 value_entry : (es : List (SiteCounter × SiteCounter)) (P : SiteCounter → SiteCounter → Type 0) (q : SiteCounter) → All (λ e. P e.0 e.1) es
     → is_member same_ids (map (λ e. e.1) es) q ≡ true → (other : SiteCounter) × P other q
@@ -39,7 +39,7 @@ replaced_cases s id e = ⊎_elim
     (or_cases _ _ (sym (with_ids_member s.tombstones (fin.values s.replacements) id) ∙ e))
 
 pub replaced_by_withdrawal : (s : Content) (id : SiteCounter) → HasItem s (withdrawal id) → is_replaced s id ≡ true
-replaced_by_withdrawal s id there = with_ids_member s.tombstones (fin.values s.replacements) id ∙ or_right _ _ (ap is_some there)
+replaced_by_withdrawal s id there = search (rules, with_ids_member)
 
 pub replaced_by_entry : (s : Content) (id old : SiteCounter) → HasItem s (replacement id old) → is_replaced s old ≡ true
 replaced_by_entry s id old there =
@@ -93,12 +93,10 @@ module _ (s t : Content) (none : dispute_contents s t ≡ None) where
       (or_cases _ _ e))
 
   pub replaced_joined : union (replaced_set s) (replaced_set t) ≡ replaced_set (joined_contents s t)
-  replaced_joined = same_sets _ _ (λ q. union_key (replaced_set s) (replaced_set t) q ∙ sym (replaced_in_join q))
+  replaced_joined = search (rules, same_sets, union_key, replaced_in_join)
 
 pub or_swap : (a b c : Bool) → (a || (b || c)) ≡ (b || (a || c))
-or_swap true true c = refl
-or_swap true false c = refl
-or_swap false b c = refl
+or_swap a b c = search rules
 
 -- to put in an id before or after others is the same
 pub put_before : (t : IdSet) (ids : List SiteCounter) (id : SiteCounter) → fin.insert (with_ids t ids) id tt ≡ with_ids (fin.insert t id tt) ids
@@ -137,7 +135,7 @@ replaced_of_nothing t = cc (nothing_listed SiteCounter)
 
 -- the set of replaced ids that is kept beside the three parts stays theirs
 pub kept_by_nothing : (t w : IdSet) (r : ReplacementMap) → t ≡ fin.empty → r ≡ fin.empty → w ≡ fin.empty → w ≡ with_ids t (fin.values r)
-kept_by_nothing t w r p q is = is ∙ sym (replaced_of_nothing fin.empty) ∙ (λ i. with_ids (sym p i) (fin.values (sym q i)))
+kept_by_nothing t w r p q is = search (rules, replaced_of_nothing)
 
 pub kept_by_withdrawal : (t w new more : IdSet) (r : ReplacementMap) (id : SiteCounter) → w ≡ with_ids t (fin.values r) → new ≡ fin.insert t id tt → more ≡ fin.insert w id tt → more ≡ with_ids new (fin.values r)
 kept_by_withdrawal t w new more r id kept p q = cc (put_before t (fin.values r) id)
@@ -147,5 +145,4 @@ kept_by_amendment s w more new id old bound kept none p q =
     cc (replaced_amended s id old bound (λ z e. absurd (false≢true (ap is_some (sym none ∙ e)))))
 
 pub kept_by_union : (s t : Content) (w v tombstones all : IdSet) (replacements : ReplacementMap) → w ≡ replaced_set s → v ≡ replaced_set t → dispute_contents s t ≡ None → tombstones ≡ union s.tombstones t.tombstones → replacements ≡ union s.replacements t.replacements → all ≡ union w v → all ≡ with_ids tombstones (fin.values replacements)
-kept_by_union s t w v tombstones all replacements ours theirs none p q is =
-    is ∙ (λ i. union (ours i) (theirs i)) ∙ replaced_joined s t none ∙ (λ i. with_ids (sym p i) (fin.values (sym q i)))
+kept_by_union s t w v tombstones all replacements ours theirs none p q is = search (rules, replaced_joined)

@@ -1,36 +1,26 @@
 -- For proofs alone: no public clause cites these words. They stand here since the laws of the trait `Join` name them.
 -- The joins of maps of records, of sets of ids and of contents are the unions of their items.
-use Rattle.std.{specs.{Prelude.{◌≡◌, ℕ, Bool, true, false, cond, not, ◌↔◌, ◌⊎◌, Option, Some, None, option_and_then, is_some, refl}, Bool.Decides, Cmp.{IsTotalOrder, nat_cmp_total, Equal-is, tied_itself}, Ordering.{nat_cmp, is_eq, is_lt}, FinMap.{FinMap, IsAntisymmetric}}, proofs.{Common.{sym, ap, subst, ◌∙◌}, lemmas.{Bool.{false≢true, Decides.{Decides-eqb, Decides-int_eq, Decides-and, Decides-like}}, Cmp.{on_total, then_total}, Map.Lookups.{exact_pairs, exact_unsigned}}}}
-use Rattle.std.specs.FinMap as map
+use Rattle.std.{specs.{Prelude.{◌≡◌, Bool, true, false, cond, not, ◌↔◌, ◌⊎◌, Option, Some, None, is_some, refl}, Bool.Decides, Cmp.IsTotalOrder, FinMap.{FinMap, IsAntisymmetric}}, proofs.Common.{rules, ap}}
 use Rattle.stn_net.specs.Difference.{Difference}
-use Rattle.stn_records.specs.{Id.{SiteCounter, id_cmp, same_ids, lesser_of}, Record.{same_marks, same_bounds, same_records}, declared.record.{Mark.{Mark, TheVariants.{Plain, Done}}, Record.Record}, Join.IsJoin, JoinLaws.{commutes, regroups, repeats}, Maps.same_units, MapLaws.{map_join, join_undisputed, undisputed, disputes, chosen}, Content.{RecordMap, IdSet, ReplacementMap, Content, Item, addition, withdrawal, replacement, HasItem, dispute_contents, join_contents, joined_contents}}
+use Rattle.stn_records.specs.{Id.{SiteCounter, id_cmp, same_ids, lesser_of}, Record.{same_marks, same_bounds, same_records}, declared.record.{Mark.Mark, Record.Record}, Join.IsJoin, JoinLaws.repeats, Maps.same_units, MapLaws.{map_join, join_undisputed, undisputed, disputes, chosen}, Content.{RecordMap, IdSet, ReplacementMap, Content, Item, addition, withdrawal, replacement, HasItem, dispute_contents, join_contents, joined_contents}}
 use Rattle.stn_records.specs.Maps as maps
 
 -- ids that compare alike are one
 pub ids_exact : IsAntisymmetric id_cmp
-ids_exact a b h = ap (λ (p : ℕ × ℕ). record { site = p.0; counter = p.1 }) (exact_pairs nat_cmp nat_cmp exact_unsigned exact_unsigned (a.site, a.counter) (b.site, b.counter) h)
+ids_exact a b h = search rules
 
 pub ids_total : IsTotalOrder id_cmp
-ids_total = then_total (on_total (λ (i : SiteCounter). i.site) nat_cmp_total) (on_total (λ (i : SiteCounter). i.counter) nat_cmp_total)
+ids_total = search rules
 
 marks_decide : (m n : Mark) → Decides (same_marks m n) (m ≡ n)
-marks_decide Plain Plain = (λ _. refl, λ _. refl)
-marks_decide Plain Done = (λ e. cc, λ e. cc)
-marks_decide Done Plain = (λ e. cc, λ e. cc)
-marks_decide Done Done = (λ _. refl, λ _. refl)
+marks_decide m n = search rules
 
 bounds_decide : (a b : Difference) → Decides (same_bounds a b) (a ≡ b)
-bounds_decide a b = Decides-like _
-    (λ p. λ i. record { from = p.0.0.0 i; to = p.0.0.1 i; lo = p.0.1 i; hi = p.1 i })
-    (λ e. (((ap (λ (d : Difference). d.from) e, ap (λ (d : Difference). d.to) e), ap (λ (d : Difference). d.lo) e), ap (λ (d : Difference). d.hi) e))
-    (Decides-and _ _ (Decides-and _ _ (Decides-and _ _ (Decides-eqb a.from b.from) (Decides-eqb a.to b.to)) (Decides-int_eq a.lo b.lo)) (Decides-int_eq a.hi b.hi))
+bounds_decide a b = search rules
 
 -- the test of two records tells whether they are equal
 pub records_decide : (r s : Record) → Decides (same_records r s) (r ≡ s)
-records_decide r s = Decides-like _
-    (λ p. λ i. record { mark = p.0 i; bound = p.1 i })
-    (λ e. (ap (λ (d : Record). d.mark) e, ap (λ (d : Record). d.bound) e))
-    (Decides-and _ _ (marks_decide r.mark s.mark) (bounds_decide r.bound s.bound))
+records_decide r s = search (rules, bounds_decide)
 
 -- a set has no two values
 pub units_decide : (a b : Unit {0}) → Decides (same_units a b) (a ≡ b)
@@ -38,21 +28,12 @@ units_decide a b = (λ _. refl, λ _. refl)
 
 -- the test of two ids tells whether they are equal
 pub ids_decide : (a b : SiteCounter) → Decides (same_ids a b) (a ≡ b)
-ids_decide a b = (λ e. ids_exact a b ((Equal-is (id_cmp a b)).0 e), λ e. subst (λ c. same_ids a c ≡ true) e (ap is_eq (tied_itself ids_total a)))
+ids_decide a b = search rules
 
 -- the join of two maps from ids is the union of their entries, whatever the values are
 module _ {X : Type 0} (same : X → X → Bool) (decides : (x y : X) → Decides (same x y) (x ≡ y)) where
   pub maps_join : IsJoin {C = FinMap id_cmp X} {I = SiteCounter × X} (maps.HasEntry {R = id_cmp}) (maps.join same)
   maps_join = map_join ids_total ids_exact same decides
-
-  pub maps_commute : (a b : FinMap id_cmp X) → maps.join same a b ≡ maps.join same b a
-  maps_commute = commutes maps_join
-
-  pub maps_regroup : (a b c : FinMap id_cmp X) → option_and_then (λ ab. maps.join same ab c) (maps.join same a b) ≡ option_and_then (λ bc. maps.join same a bc) (maps.join same b c)
-  maps_regroup = regroups maps_join
-
-  pub maps_repeat : (a : FinMap id_cmp X) → maps.join same a a ≡ Some a
-  maps_repeat = repeats maps_join
 
   pub maps_dispute : (a b : FinMap id_cmp X) → is_some (maps.join same a b) ≡ not (is_some (maps.dispute same a b))
   maps_dispute = disputes ids_total ids_exact same decides
@@ -60,14 +41,9 @@ module _ {X : Type 0} (same : X → X → Bool) (decides : (x y : X) → Decides
   pub maps_undisputed : (a b : FinMap id_cmp X) → maps.dispute same a b ≡ None → maps.join same a b ≡ Some (maps.union a b)
   maps_undisputed = join_undisputed ids_total ids_exact same decides
 
-never : (o p : Option (Unit {0})) → maps.differ same_units o p ≡ false
-never None p = refl
-never (Some x) None = refl
-never (Some x) (Some y) = refl
-
 -- two sets are never in dispute
 pub sets_agree : (a b : IdSet) → maps.join same_units a b ≡ Some (maps.union a b)
-sets_agree a b = maps_undisputed same_units units_decide a b (undisputed ids_total ids_exact same_units units_decide a b (λ q. never (map.get a q) (map.get b q)))
+sets_agree a b = maps_undisputed same_units units_decide a b (undisputed ids_total ids_exact same_units units_decide a b (λ q. search rules))
 
 -- the joins of the three parts
 pub records_join : IsJoin {C = RecordMap} {I = SiteCounter × Record} (maps.HasEntry {R = id_cmp}) (maps.join same_records)
@@ -81,10 +57,7 @@ replacements_join = maps_join same_ids ids_decide
 
 -- where the lesser of two is none, neither is there
 pub lesser_none : (f g : Option SiteCounter) → lesser_of f g ≡ None → (f ≡ None) × (g ≡ None)
-lesser_none None None e = (refl, refl)
-lesser_none None (Some y) e = absurd (false≢true (ap is_some (sym e)))
-lesser_none (Some x) None e = absurd (false≢true (ap is_some (sym e)))
-lesser_none (Some x) (Some y) e = absurd (false≢true (elim (is_lt (id_cmp y x)) as (λ b. cond b (Some y) (Some x) ≡ None → false ≡ true) [ true ↦ λ n. ap is_some (sym n) | false ↦ λ n. ap is_some (sym n) ] e))
+lesser_none f g e = search rules
 
 -- where no id is in dispute, the join is the union of the three parts
 pub contents_undisputed : (a b : Content) → dispute_contents a b ≡ None → join_contents a b ≡ Some (joined_contents a b)
@@ -97,14 +70,7 @@ record IsJoined (a b c : Content) : Type 0 where
   replacements : maps.join same_ids a.replacements b.replacements ≡ Some c.replacements
 
 parts : (a b c : Content) → join_contents a b ≡ Some c → IsJoined a b c
-parts a b c e =
-    let is = chosen (dispute_contents a b) (joined_contents a b) c e in
-    let none = lesser_none (maps.dispute same_records a.additions b.additions) (maps.dispute same_ids a.replacements b.replacements) is.0 in
-    record {
-      additions = maps_undisputed same_records records_decide a.additions b.additions none.0 ∙ ap (λ (s : Content). Some s.additions) is.1;
-      tombstones = sets_agree a.tombstones b.tombstones ∙ ap (λ (s : Content). Some s.tombstones) is.1;
-      replacements = maps_undisputed same_ids ids_decide a.replacements b.replacements none.1 ∙ ap (λ (s : Content). Some s.replacements) is.1;
-    }
+parts a b c e = search (rules, lesser_none, sets_agree, ids_decide)
 
 -- parts that have joins are not in dispute
 undisputed_part : {X : Type 0} (same : X → X → Bool) (a b c : FinMap id_cmp X) → maps.join same a b ≡ Some c → maps.dispute same a b ≡ None
@@ -133,14 +99,8 @@ contents_join = record {
     item_union a b c all (withdrawal id) = ids_join.union a.tombstones b.tombstones c.tombstones all.tombstones (id, tt)
     item_union a b c all (replacement id old) = replacements_join.union a.replacements b.replacements c.replacements all.replacements (id, old)
 
-pub contents_commute : (a b : Content) → join_contents a b ≡ join_contents b a
-contents_commute = commutes contents_join
-
-pub contents_regroup : (a b c : Content) → option_and_then (λ ab. join_contents ab c) (join_contents a b) ≡ option_and_then (λ bc. join_contents a bc) (join_contents b c)
-contents_regroup = regroups contents_join
-
 pub contents_repeat : (a : Content) → join_contents a a ≡ Some a
 contents_repeat = repeats contents_join
 
 pub contents_dispute : (a b : Content) → is_some (join_contents a b) ≡ not (is_some (dispute_contents a b))
-contents_dispute a b = elim (is_some (dispute_contents a b)) as (λ t. is_some (cond t None (Some (joined_contents a b))) ≡ not t) [ true ↦ refl | false ↦ refl ]
+contents_dispute a b = search rules

@@ -1,19 +1,16 @@
 -- For proofs alone: no public clause cites these words. They stand here since the laws of the trait `Join` name them.
 -- The laws of a join that is the union of the items.
-use Rattle.std.{specs.{Prelude.{◌≡◌, ℕ, ◌<◌, Bool, true, false, cond, ◌⊎◌, ◌↔◌, List, [], ◌∷◌, ◌++◌, Option, Some, None, option_and_then, is_some, refl, length, All, Contains}, List.Sorted.IsPermutation}, proofs.{Common.{zero, suc, get_or, arith, sym, ap, subst, ◌∙◌, inl, inr, ⊎_elim}, lemmas.{Bool.false≢true, Option.same_Some, List.Sorted.{All-permutation, Contains-permutation, IsPermutation-sym}}}}
+use Rattle.std.{specs.{Prelude.{◌≡◌, ℕ, ◌<◌, Bool, true, false, cond, ◌⊎◌, ◌↔◌, List, [], ◌∷◌, ◌++◌, Option, Some, None, option_and_then, is_some, refl, length, All, Contains}, List.Sorted.IsPermutation}, proofs.{Common.{rules, zero, suc, get_or, arith, sym, ap, subst, ◌∙◌, inl, inr, ⊎_elim}, lemmas.{Bool.false≢true, Option.same_Some, List.Sorted.{All-permutation, Contains-permutation, IsPermutation-sym}}}}
 use Rattle.stn_time.proofs.Each.{All-left, All-right}
 use Rattle.stn_records.specs.Join.{join_all, HeldByOne, SameItems, GroupedTakes, alone, both, contents_taken, outcome_of, passing, join_within, IsJoin}
 
 -- two options that give the same values are equal
 pub same_options : {C : Type 0} (o p : Option C) → ((c : C) → o ≡ Some c → p ≡ Some c) → ((c : C) → p ≡ Some c → o ≡ Some c) → o ≡ p
-same_options None None f g = refl
-same_options None (Some c) f g = g c refl
-same_options (Some c) p f g = sym (f c refl)
+same_options o p f g = search rules
 
 -- a chain of two steps that gives a value gave one at the first
 pub first_step : {A B : Type 0} (f : A → Option B) (o : Option A) (b : B) → option_and_then f o ≡ Some b → (a : A) × (o ≡ Some a) × (f a ≡ Some b)
-first_step f None b e = cc
-first_step f (Some a) b e = (a, refl, e)
+first_step f o b e = search rules
 
 -- and where the first step gives a value, the chain gives what the second does
 pub both_steps : {A B : Type 0} (f : A → Option B) (o : Option A) (a : A) → o ≡ Some a → option_and_then f o ≡ f a
@@ -62,7 +59,7 @@ module _ {C I : Type 0} {Holds : C → I → Type 0} {join : C → C → Option 
   one_gathered a c g = j.same a c (λ i. (λ h. (g i).1 (inl h), λ h. ⊎_elim (λ x. x) absurd ((g i).0 h)))
 
   one_gathers : (a c : C) → a ≡ c → Gathers (a ∷ []) c
-  one_gathers a c e i = (λ h. inl (subst (λ x. Holds x i) (sym e) h), λ h. ⊎_elim (λ x. subst (λ y. Holds y i) e x) absurd h)
+  one_gathers a c e i = search rules
 
   -- what the join of a list has
   pub gathers : (a : C) (contents : List C) (c : C) → join_all join a contents ≡ Some c → Gathers (a ∷ contents) c

@@ -8,4 +8,3 @@ pub mod Content
 pub mod Refusals
 pub mod Sorted
 pub mod ContentLaws
-pub mod Failures

@@ -1,17 +1,15 @@
 -- For proofs alone: no public clause cites these words. They stand here since the laws of the trait `Join` name them.
 -- The join of two finite maps is the union of their entries.
-use Rattle.std.{specs.{Prelude.{◌≡◌, Bool, true, false, cond, not, ◌↔◌, ◌⊎◌, List, [], ◌∷◌, map, Option, Some, None, is_some, find, refl}, declared.cmp.Ordering.Ordering, Bool.Decides, Cmp.{IsTotalOrder, Equal-is}, Option.option_or, Ordering.eq_by_cmp, FinMap.{FinMap, IsAntisymmetric, get, entries, get-insert, get-entries, same_map}}, proofs.{Common.{sym, ap, subst, ◌∙◌, inl, inr, ⊎_elim}, lemmas.{Bool.false≢true, Option.same_Some}}}
+use Rattle.std.{specs.{Prelude.{◌≡◌, Bool, true, false, cond, not, ◌↔◌, ◌⊎◌, List, [], ◌∷◌, map, Option, Some, None, is_some, find, refl}, declared.cmp.Ordering.Ordering, Bool.Decides, Cmp.{IsTotalOrder, Equal-is}, Option.option_or, Ordering.eq_by_cmp, FinMap.{FinMap, IsAntisymmetric, get, entries, get-insert, get-entries, same_map}}, proofs.{Common.{rules, sym, ap, subst, ◌∙◌}, lemmas.Bool.false≢true}}
 use Rattle.std.specs.FinMap as fin
 use Rattle.stn_records.specs.{Join.IsJoin, JoinLaws.same_options, Maps.{differ, with_entries, union, dispute, join, HasEntry}}
 
 pub or_after : {X : Type 0} (b : Bool) (x : X) (o p : Option X) → cond b (Some x) (option_or o p) ≡ option_or (cond b (Some x) o) p
-or_after true x o p = refl
-or_after false x o p = refl
+or_after b x o p = search rules
 
 -- a value of either is one of the first, or of the second where the two agree
 pub either_value : {X : Type 0} (o p : Option X) (x : X) → option_or o p ≡ Some x → (o ≡ Some x) ⊎ (p ≡ Some x)
-either_value None p x e = inr e
-either_value (Some y) p x e = inl e
+either_value o p x e = search rules
 
 -- where no key passes, none is found
 pub none_found : {K : Type 0} (p : K → Bool) (ks : List K) → ((k : K) → p k ≡ false) → find p ks ≡ None
@@ -20,30 +18,20 @@ none_found p (k ∷ ks) f = ap (λ b. cond b (Some k) (find p ks)) (f k) ∙ non
 
 -- a choice that gives a value had no dispute
 pub chosen : {K C : Type 0} (v : Option K) (u c : C) → cond (is_some v) None (Some u) ≡ Some c → (v ≡ None) × (u ≡ c)
-chosen None u c e = (refl, same_Some u c e)
-chosen (Some k) u c e = absurd (false≢true (ap is_some e))
+chosen v u c e = search rules
 
 module _ {X : Type 0} (same : X → X → Bool) (decides : (x y : X) → Decides (same x y) (x ≡ y)) where
   agreed_value : (o p : Option X) (x : X) → differ same o p ≡ false → (o ≡ Some x) ⊎ (p ≡ Some x) → option_or o p ≡ Some x
-  agreed_value None p x e h = ⊎_elim (λ l. absurd (false≢true (ap is_some l))) (λ r. r) h
-  agreed_value (Some y) None x e h = ⊎_elim (λ l. l) (λ r. absurd (false≢true (ap is_some r))) h
-  agreed_value (Some y) (Some z) x e h = ⊎_elim (λ l. l) (λ r. ap Some (agreed y z e) ∙ r) h
-    where
-      agreed : (y z : X) → not (same y z) ≡ false → y ≡ z
-      agreed y z e = (decides y z).0 (elim (same y z) as (λ b. not b ≡ false → b ≡ true) [ true ↦ λ _. refl | false ↦ λ f. sym f ] e)
+  agreed_value o p x e h = search rules
 
   alike_agree : (o p q : Option X) → ((x : X) → o ≡ Some x → q ≡ Some x) → ((x : X) → p ≡ Some x → q ≡ Some x) → differ same o p ≡ false
-  alike_agree None p q f g = refl
-  alike_agree (Some x) None q f g = refl
-  alike_agree (Some x) (Some y) q f g = ap not ((decides x y).1 (same_Some x y (sym (f x refl) ∙ g y refl)))
+  alike_agree o p q f g = search rules
 
 module _ {K X : Type 0} {R : K → K → Ordering} (o : IsTotalOrder R) (exact : IsAntisymmetric R) where
   get-with_entries : (m : FinMap R X) (es : List (K × X)) (q : K) → get (with_entries m es) q ≡ option_or (fin.find R q es) (get m q)
   get-with_entries m [] q = refl
   get-with_entries m (e ∷ es) q =
-      get-insert o (with_entries m es) e.0 e.1 q
-      ∙ ap (cond (eq_by_cmp R q e.0) (Some e.1)) (get-with_entries m es q)
-      ∙ or_after (eq_by_cmp R q e.0) e.1 (fin.find R q es) (get m q)
+      cc (get-insert o (with_entries m es) e.0 e.1 q, get-with_entries m es q, or_after (eq_by_cmp R q e.0) e.1 (fin.find R q es) (get m q))
 
   -- what the union has at a key
   pub get-union : (a b : FinMap R X) (q : K) → get (union a b) q ≡ option_or (get a q) (get b q)

@@ -1,5 +1,5 @@
 -- Why records refuse a change: the first cause that stands against it. Where there is none, nothing but lack of memory can stop it.
-use Rattle.std.specs.{Prelude.{Bool, not, ◌&&◌, ◌||◌, ◌==◌, nat_lt, Option, Some, None, option_map, if◌then◌else◌}, Bool.then_some, Option.option_or}
+use Rattle.std.specs.{Prelude.{Bool, true, false, not, ◌&&◌, ◌||◌, ◌==◌, nat_lt, Option, Some, None, option_map, if◌then◌else◌}, Bool.then_some, Option.option_or}
 use Rattle.std.specs.FinMap as map
 use Rattle.stn_net.specs.Difference.{Difference}
 use Rattle.stn_records.specs.{Id.{SiteCounter, same_ids}, Record.same_records, Maps.differ, Content.{Content, most_known, is_known, is_limited, known_count, known_in_either, dispute_contents, plain, with_amendment}, declared.{record.Record.Record, faults.RecordsFault.{RecordsFault, TheVariants.{SelfReplace, Clash, Unknown, Full}}}}
@@ -32,19 +32,17 @@ clashes s id old bound = differ same_records (map.get s.additions id) (Some (pla
 abbrev pub is_too_much : Content → SiteCounter → SiteCounter → Difference → Bool
 is_too_much s id old bound = not (is_limited (with_amendment s id old bound))
 
--- an amendment of a known id
-abbrev pub amendment_refusal : Content → SiteCounter → SiteCounter → Difference → Option RecordsFault
-amendment_refusal s id old bound =
+-- an amendment, whose old id must be known, or need not be
+abbrev pub first_refusal : Bool → Content → SiteCounter → SiteCounter → Difference → Option RecordsFault
+first_refusal must_know s id old bound =
     if same_ids id old then Some SelfReplace
     else if clashes s id old bound then Some (Clash id)
-    else if not (is_known s old) then Some Unknown
+    else if must_know && not (is_known s old) then Some Unknown
     else if is_too_much s id old bound then Some Full
     else None
 
--- the same, where the old id need not be known
+abbrev pub amendment_refusal : Content → SiteCounter → SiteCounter → Difference → Option RecordsFault
+amendment_refusal = first_refusal true
+
 abbrev pub replace_refusal : Content → SiteCounter → SiteCounter → Difference → Option RecordsFault
-replace_refusal s id old bound =
-    if same_ids id old then Some SelfReplace
-    else if clashes s id old bound then Some (Clash id)
-    else if is_too_much s id old bound then Some Full
-    else None
+replace_refusal = first_refusal false

@@ -1,10 +1,8 @@
 ghost use Rattle.std.specs.Prelude.{◌≡◌};
 ghost use Rattle.stn_records.specs.declared.faults.RecordsFault.TheVariants as records;
-ghost use Rattle.stn_records.specs.Failures.{records_failure};
 
 use crate::id::Id;
 use std::alloc::AllocError;
-use stn_refusal::{Code, Failure, Fault};
 use thiserror::Error;
 
 /// Why a change of records, or what another site holds, was refused. Each call gives those that it
@@ -33,22 +31,6 @@ impl From<AllocError> for RecordsFault {
 
     fn from(_refused: AllocError) -> RecordsFault {
         RecordsFault::Memory
-    }
-}
-
-impl From<RecordsFault> for Failure {
-    ghost from_gives = { λ fault given. given ≡ records_failure fault };
-
-    fn from(fault: RecordsFault) -> Failure {
-        match fault {
-            RecordsFault::SelfReplace => Failure::refused(Code::SelfReplace),
-            RecordsFault::Clash(id) => {
-                Failure::refused_for(Code::Clash, id.site().number(), id.counter())
-            }
-            RecordsFault::Unknown => Failure::refused(Code::Unknown),
-            RecordsFault::Full => Failure::refused(Code::Full),
-            RecordsFault::Memory => Failure::Failed(Fault::Memory),
-        }
     }
 }
 

@@ -169,7 +169,7 @@ impl<X: MapValue, A: Allocator + Copy> IdMap<X, A> {
 }
 
 impl<X: MapValue, A: Allocator + Copy> Join for IdMap<X, A> {
-    ghost use Rattle.stn_records.specs.{Maps.{join as join_of, dispute as dispute_of}, ContentLaws.{maps_commute, maps_regroup, maps_repeat, maps_dispute}};
+    ghost use Rattle.stn_records.specs.{Maps.{join as join_of, dispute as dispute_of}, JoinLaws.{commutes as joins_commute, regroups as joins_regroup, repeats as join_repeats}, ContentLaws.{maps_join, maps_dispute}};
 
     ghost join = { join_of X.same };
 
@@ -182,11 +182,11 @@ impl<X: MapValue, A: Allocator + Copy> Join for IdMap<X, A> {
         }
     }
 
-    ghost commutes = { maps_commute X.same X.decides };
+    ghost commutes = { joins_commute (maps_join X.same X.decides) };
 
-    ghost regroups = { maps_regroup X.same X.decides };
+    ghost regroups = { joins_regroup (maps_join X.same X.decides) };
 
-    ghost repeats = { maps_repeat X.same X.decides };
+    ghost repeats = { join_repeats (maps_join X.same X.decides) };
 
     ghost disputes = { maps_dispute X.same X.decides };
 }

@@ -191,7 +191,7 @@ impl<A: Allocator + Copy> Records<A> {
         ensures fault { IfErr result (λ fault. fault ≡ unwrap_or (amend_refusal_of self.old id old bound) RecordsFault.Memory) }
         ensures kept { OnErr result (self.new ≡ self.old) }
     {
-        if let Some(fault) = self.state.amend_refusal(id, old, bound) {
+        if let Some(fault) = self.state.amend_refusal(true, id, old, bound) {
             return Err(fault);
         }
         self.put_amendment(id, old, bound)?;
@@ -215,7 +215,7 @@ impl<A: Allocator + Copy> Records<A> {
         ensures fault { IfErr result (λ fault. fault ≡ unwrap_or (replace_refusal_of self.old id old bound) RecordsFault.Memory) }
         ensures kept { OnErr result (self.new ≡ self.old) }
     {
-        if let Some(fault) = self.state.replace_refusal(id, old, bound) {
+        if let Some(fault) = self.state.amend_refusal(false, id, old, bound) {
             return Err(fault);
         }
         self.put_amendment(id, old, bound)?;
@@ -355,14 +355,11 @@ impl<A: Allocator + Copy> Records<A> {
         self.state.known()
     }
 
-    // The ids are counted only where the two lists are long enough.
     fn is_full(&self) -> bool
         ensures full { IsTrue result ↔ (known_count self.now ≡ most_known) }
         ensures sound { IsSound self.now }
     {
-        let added = self.added().len();
-        let replaced = self.replaced().len();
-        added + replaced >= MOST_KNOWN && self.known() >= MOST_KNOWN
+        self.state.knows_more_than(MOST_KNOWN - 1)
     }
 
     // The ids are counted only where the four lists are long enough.

@@ -1,6 +1,6 @@
-ghost use Rattle.std.specs.Prelude.{◌≡◌, ◌≤◌, ◌≢◌, ◌↔◌, cond, false, Some, None, All, IfOk, IsTrue, OnOk, OnErr};
+ghost use Rattle.std.specs.Prelude.{◌≡◌, ◌≤◌, ◌≢◌, ◌↔◌, nat_lt, cond, false, Some, None, All, IfOk, IsTrue, OnOk, OnErr};
 ghost use Rattle.std.specs.FinMap as map;
-ghost use Rattle.stn_records.specs.{Id.id_cmp, Record.IsProper, Maps.{AgreesAt, differ}, Refusals.{amendment_refusal as amend_refusal_of, replace_refusal as replace_refusal_of, clashes as clashes_in, is_too_much}, Content.{Content, no_content, dispute_contents, join_contents, joined_contents, is_known as is_known_in, is_replaced as is_replaced_in, known_count, part_of, replaced_set, with_amendment, with_record, with_tombstone, with_ids, plain, AllAmend, IsAmendment, IsPart}};
+ghost use Rattle.stn_records.specs.{Id.id_cmp, Record.IsProper, Maps.{AgreesAt, differ}, Refusals.{first_refusal, clashes as clashes_in, is_too_much}, Content.{Content, no_content, dispute_contents, join_contents, joined_contents, is_known as is_known_in, is_replaced as is_replaced_in, known_count, part_of, replaced_set, with_amendment, with_record, with_tombstone, with_ids, plain, AllAmend, IsAmendment, IsPart}};
 
 use crate::MOST_KNOWN;
 use crate::faults::RecordsFault;
@@ -207,8 +207,15 @@ impl<A: Allocator + Copy> State<A> {
         })
     }
 
-    pub(crate) fn amend_refusal(&self, id: Id, old: Id, bound: Bound) -> Option<RecordsFault>
-        ensures { result ≡ amend_refusal_of self.now id old bound }
+    // Why an amendment is refused, whose old id must be known, or need not be.
+    pub(crate) fn amend_refusal(
+        &self,
+        must_know: bool,
+        id: Id,
+        old: Id,
+        bound: Bound,
+    ) -> Option<RecordsFault>
+        ensures { result ≡ first_refusal must_know self.now id old bound }
     {
         if id == old {
             return Some(RecordsFault::SelfReplace);
@@ -216,23 +223,8 @@ impl<A: Allocator + Copy> State<A> {
         if self.clashes(id, old, bound) {
             return Some(RecordsFault::Clash(id));
         }
-        if !self.is_known(old) {
+        if must_know && !self.is_known(old) {
             return Some(RecordsFault::Unknown);
-        }
-        if self.is_too_much_amended(id, old, bound) {
-            return Some(RecordsFault::Full);
-        }
-        None
-    }
-
-    pub(crate) fn replace_refusal(&self, id: Id, old: Id, bound: Bound) -> Option<RecordsFault>
-        ensures { result ≡ replace_refusal_of self.now id old bound }
-    {
-        if id == old {
-            return Some(RecordsFault::SelfReplace);
-        }
-        if self.clashes(id, old, bound) {
-            return Some(RecordsFault::Clash(id));
         }
         if self.is_too_much_amended(id, old, bound) {
             return Some(RecordsFault::Full);
@@ -248,16 +240,21 @@ impl<A: Allocator + Copy> State<A> {
             || is_another(self.replacements.get(id), old)
     }
 
-    // The ids are counted only where the lists are long enough.
     fn is_too_much_amended(&self, id: Id, old: Id, bound: Bound) -> bool
         requires apart { id ≢ old }
         requires agrees { clashes_in self.now id old bound ≡ false }
         ensures { result ≡ is_too_much self.now id old bound }
     {
-        let new = self.newly_known(old) + self.newly_known(id);
+        self.knows_more_than(MOST_KNOWN - self.newly_known(old) - self.newly_known(id))
+    }
+
+    // The ids are counted only where the lists are long enough.
+    pub(crate) fn knows_more_than(&self, most: usize) -> bool
+        ensures { result ≡ nat_lt most (known_count self.now) }
+    {
         let added = self.additions.entries().len();
-        let replaced = self.replaced.entries().len();
-        added + replaced + new > MOST_KNOWN && self.known() + new > MOST_KNOWN
+        let replaced = self.replaced().len();
+        added + replaced > most && self.known() > most
     }
 
     // How many ids more are known with this one.
@@ -270,7 +267,7 @@ impl<A: Allocator + Copy> State<A> {
 }
 
 impl<A: Allocator + Copy> Join for State<A> {
-    ghost use Rattle.stn_records.specs.{Content.{dispute_contents, join_contents}, ContentLaws.{contents_commute, contents_regroup, contents_repeat, contents_dispute}};
+    ghost use Rattle.stn_records.specs.{Content.{dispute_contents, join_contents}, JoinLaws.{commutes as joins_commute, regroups as joins_regroup}, ContentLaws.{contents_join, contents_repeat, contents_dispute}};
 
     ghost join = { join_contents };
 
@@ -283,9 +280,9 @@ impl<A: Allocator + Copy> Join for State<A> {
         }
     }
 
-    ghost commutes = { contents_commute };
+    ghost commutes = { joins_commute contents_join };
 
-    ghost regroups = { contents_regroup };
+    ghost regroups = { joins_regroup contents_join };
 
     ghost repeats = { contents_repeat };
 

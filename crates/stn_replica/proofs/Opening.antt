@@ -1,6 +1,5 @@
 -- The matrix of the plan's own bounds.
-use Rattle.std.proofs.lemmas.Grind.{common_steps}
-use Rattle.std.{proofs.{Common.{rules, ◌≡◌, ℕ, ◌+◌, ◌-◌, ◌<◌, ◌≤◌, ◌↔◌, Bool, IsTrue, List, [], ◌∷◌, ◌++◌, length, take, drop, get_or, sym, subst, ◌∙◌, arith, length-drop, append_assoc}, lemmas.List.{take_more, take_all, take-append-drop, Sorted.{All-permutation, IsPermutation-sym, IsPermutation-append_right}}}, specs.{Prelude.All, List.Sorted.IsPermutation}}
+use Rattle.std.{proofs.{lemmas.{Grind.common_steps, List.{take_more, take_all, take-append-drop, Sorted.{All-permutation, IsPermutation-sym, IsPermutation-append_right}}}, Common.{rules, ◌≡◌, ℕ, ◌+◌, ◌-◌, ◌<◌, ◌≤◌, ◌↔◌, Bool, IsTrue, List, [], ◌∷◌, ◌++◌, length, take, drop, get_or, sym, subst, ◌∙◌, arith, length-drop, append_assoc}}, specs.{Prelude.All, List.Sorted.IsPermutation}}
 use Rattle.stn_net.{specs.{Difference.{Difference, NamesEvents}, Horizon.horizon_bounds, Schedule.{HasSchedule, IsSchedule}, Matrix.{Table.Table, Tightest.IsExact}}, proofs.{Closure.schedule_before, Schedules.{schedule_permuted, exact_permuted}}}
 use Rattle.stn_lift.specs.PlanSource.{PlanSource, base_bounds, events_of, planned_of, IsSoundSource}
 

@@ -1,6 +1,5 @@
 -- What is settled of bounds depends on their schedules alone, and how it changes with the live records of a state.
-use Rattle.std.proofs.{Common.{◌≡◌, ℕ, ℤ, Bool, true, false, ◌↔◌, List, [], ◌∷◌, ◌++◌, All, IsTrue, refl, sym, ap, ◌∙◌, arith}, lemmas.{Bool.false≢true, List.Elements.{All-nil, All-push}}}
-use Rattle.std.specs.FinMap.{get}
+use Rattle.std.{proofs.{Common.{◌≡◌, ℕ, ℤ, Bool, true, false, ◌↔◌, List, [], ◌∷◌, ◌++◌, All, IsTrue, refl, sym, ap, ◌∙◌, arith}, lemmas.{Bool.false≢true, List.Elements.{All-nil, All-push}}}, specs.FinMap.get}
 use Rattle.stn_net.{specs.{Difference.{Difference, NamesEvents}, Schedule.{IsSchedule, HasSchedule, Meets}, Matrix.{Table.Table, Tightest.IsExact}}, proofs.{Closure.schedule_before, Schedules.{met_behind, schedule_with}, Tightest.exact_same_schedules}}
 use Rattle.stn_records.specs.{Id.SiteCounter, declared.record.Record.Record, Content.{Content, is_live}}
 use Rattle.stn_site.{specs.{Bounds.{bounds_of, live_bounds}, Growth.{risen, Extends, KeepsLive}}, proofs.{Live.{live_from_bounds, bounds_from_live, risen_from_bounds, bounds_from_risen, old_hold, risen_hold, new_hold}, Changes.{IsGrown, added_hold, hold_added}}}

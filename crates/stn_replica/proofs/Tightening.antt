@@ -1,8 +1,9 @@
 -- Tightening a matrix by the bounds of records, one after another.
-use Rattle.std.proofs.{Common.{rules, ◌≡◌, ◌+◌, ◌≤◌, List, [], ◌∷◌, ◌++◌, length, min, sym, ap, subst, ◌∙◌, arith, append_assoc, append-nil, length-append, All}, lemmas.List.map-append}
+use Rattle.std.proofs.{Common.{rules, ◌≡◌, ◌+◌, ◌≤◌, List, [], ◌∷◌, ◌++◌, length, min, sym, ap, subst, ◌∙◌, arith, append_assoc, append-nil, length-append, All}, lemmas.List.{map-append, Elements.All-head}}
+use Rattle.stn_time.proofs.Each.{All-right}
 use Rattle.stn_net.{specs.{Difference.{Difference, NamesEvents}, Schedule.{HasSchedule, IsSchedule}, Matrix.{Table.Table, Tightest.IsExact}}, proofs.Closure.schedule_before}
 use Rattle.stn_records.specs.{Id.SiteCounter, declared.record.Record.Record}
-use Rattle.stn_site.{specs.Bounds.bounds_of, proofs.Walk.next_has}
+use Rattle.stn_site.specs.Bounds.{bounds_of}
 
 -- the matrix has taken the bounds of the first of the records, and no more
 pub record IsTightenedBy (records seen ahead : List (SiteCounter × Record)) (first now : Table) : Type 0 where
@@ -21,7 +22,7 @@ module _ {records seen ahead rest : List (SiteCounter × Record)} {e : SiteCount
   pub next_named : All (λ entry. NamesEvents first.events entry.1.bound) records → NamesEvents now.events e.1.bound
   next_named named =
       let P : SiteCounter × Record → Type 0 = λ entry. NamesEvents first.events entry.1.bound in
-      subst (λ events. NamesEvents events e.1.bound) (sym p.events) (next_has P records seen rest e next_among named)
+      subst (λ events. NamesEvents events e.1.bound) (sym p.events) (All-head P e rest (All-right P seen (e ∷ rest) (subst (All P) next_among named)))
 
   -- the matrix takes it
   pub next_taken : (more : Table) → ((bounds : List Difference) → IsExact bounds now → IsExact (bounds ++ e.1.bound ∷ []) more)

@@ -1,20 +1,16 @@
 -- What an addition, an amendment, a withdrawal and a take make of a state.
-use Rattle.std.{proofs.{Common.{rules, ◌≡◌, ◌<◌, ◌≤◌, true, false, not, ◌&&◌, ◌||◌, List, [], ◌∷◌, length, Option, Some, None, is_some, inl, ⊎_elim, refl, sym, ap, subst, ◌∙◌, arith, All}, lemmas.{Bool.{false≢true, false_from_ne_true, cases_lt, or_cases, not-true, and_parts, or_right}, List.Elements.All-nil, Option.same_Some}, Math.Bool.{and-false, and-not_self}}, specs.{Ordering.eq_by_cmp, FinMap.{get, insert, contains_key}}}
+use Rattle.std.{proofs.{lemmas.{Grind.common_steps, Bool.{false≢true, false_from_ne_true, cases_lt, or_cases, not-true, and_parts, or_right}, Option.same_Some}, Common.{rules, ◌≡◌, ◌<◌, ◌≤◌, true, false, not, ◌&&◌, ◌||◌, List, length, Some, is_some, inl, ⊎_elim, refl, sym, ap, ◌∙◌, arith, All}, Math.Bool.and-not_self}, specs.{Ordering.eq_by_cmp, FinMap.{get, insert, contains_key}}}
 use Rattle.stn_net.specs.Difference.{Difference}
 use Rattle.stn_records.{specs.{Id.{SiteCounter, id_cmp}, declared.record.Record.Record, ContentLaws.contents_join, Content.{Content, addition, is_live, is_replaced, is_known, plain, replaced_set, with_amendment, with_record, with_tombstone, join_contents}}, proofs.Replaced.{replaced_by_withdrawal, inserted_key, replaced_withdrawn, replaced_amended}}
-use Rattle.stn_site.{specs.{Bounds.bounds_of, Growth.{is_risen, risen, KeepsLive, Extends}}, proofs.{Counts.{unknown_absent, unknown_unreplaced}, Named.{same_id, itself, get_added}, Live.{RisenHold, keeps_unless_replaced, falls_where_replaced, risen_from_bounds}}}
+use Rattle.stn_site.{specs.{Bounds.bounds_of, Growth.{is_risen, risen, KeepsLive, Extends}}, proofs.{Counts.{unknown_absent, unknown_unreplaced}, Named.{same_id, itself, get_added}, Live.{RisenHold, keeps_unless_replaced, risen_from_bounds}}}
 
 -- ---- an id that is replaced is not live
 pub replaced_dead : (s : Content) (id : SiteCounter) → is_replaced s id ≡ true → is_live s id ≡ false
-replaced_dead s id e = ap (λ b. is_some (get s.additions id) && not b) e ∙ and-false (is_some (get s.additions id))
+replaced_dead s id e = search rules
 
 -- a withdrawn id is replaced
 pub withdrawn_replaced : (s : Content) (id : SiteCounter) → contains_key s.tombstones id ≡ true → is_replaced s id ≡ true
-withdrawn_replaced s id e = replaced_by_withdrawal s id (there (get s.tombstones id) e)
-  where
-    there : (o : Option (Unit {0})) → is_some o ≡ true → o ≡ Some tt
-    there None e = absurd (false≢true e)
-    there (Some x) e = refl
+withdrawn_replaced s id e = search (rules, replaced_by_withdrawal)
 
 -- ---- a state with one more record, which has become live; what was live is live still
 pub record IsGrown (old new : Content) (id : SiteCounter) (r : Record) : Type 0 where
@@ -83,7 +79,7 @@ module _ (s new : Content) (id old : SiteCounter) (bound : Difference) (is : new
 
   -- where it was live, a live record has stopped being so
   pub falls_with_amendment : is_live s old ≡ true → ¬ KeepsLive s new
-  falls_with_amendment live = falls_where_replaced s new old (replaced_or_old old ∙ ap (λ b. b || is_replaced s old) (itself old)) live
+  falls_with_amendment live = search (rules, replaced_or_old)
 
 module _ (s new : Content) (id : SiteCounter) (r : Record) (g : IsGrown s new id r) where
   -- what holds of the bounds of those that have become live holds of the one that was added
@@ -91,12 +87,11 @@ module _ (s new : Content) (id : SiteCounter) (r : Record) (g : IsGrown s new id
   added_hold P f = f id r g.there g.rose
 
   pub hold_added : (P : Difference → Type 0) → P r.bound → RisenHold P s new
-  hold_added P h q v there rose = subst (λ (x : Record). P x.bound) (sym (g.alone q v there rose)) h
+  hold_added P h q v there rose = search rules
 
   -- and at least one has become live
   none_at_all : (records : List (SiteCounter × Record)) → length records < 1 → All {X = Difference} (λ _. ⊥) (bounds_of records)
-  none_at_all [] short = All-nil {X = Difference} (λ _. ⊥)
-  none_at_all (e ∷ records) short = absurd (omega arith)
+  none_at_all records short = grind (arith, common_steps)
 
   pub one_risen : 1 ≤ length (risen s new)
   one_risen = ⊎_elim (λ short. absurd (added_hold (λ _. ⊥) (risen_from_bounds (λ _. ⊥) s new (none_at_all (risen s new) short)))) (λ at. at) (cases_lt (length (risen s new)) 1)
@@ -109,11 +104,11 @@ extends_joined a b c e id r there = (contents_join.union a b c e (addition id r)
 module _ (s : Content) (id : SiteCounter) where
   -- the id is replaced, and those that were
   replaced_or_here : (q : SiteCounter) → is_replaced (with_tombstone s id) q ≡ (eq_by_cmp id_cmp q id || is_replaced s q)
-  replaced_or_here q = ap (λ m. contains_key m q) (sym (replaced_withdrawn s id)) ∙ inserted_key (replaced_set s) id q
+  replaced_or_here q = cc (replaced_withdrawn s id, inserted_key (replaced_set s) id q)
 
   -- it is not live any more
   pub withdrawn_dead : is_live (with_tombstone s id) id ≡ false
-  withdrawn_dead = replaced_dead (with_tombstone s id) id (replaced_or_here id ∙ ap (λ b. b || is_replaced s id) (itself id))
+  withdrawn_dead = search (rules, replaced_or_here)
 
   -- where it was not live, the same records are
   pub same_live : is_live s id ≡ false → (q : SiteCounter) → is_live (with_tombstone s id) q ≡ is_live s q

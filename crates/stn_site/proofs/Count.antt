@@ -1,10 +1,10 @@
 -- How many records and replaced ids a state has.
-use Rattle.std.{proofs.{Common.{◌≡◌, sym, ◌≤◌, Bool, not, length, map, arith, refl}, lemmas.List.{length-map, Filters.length-filter_both}}, specs.FinMap.entries}
+use Rattle.std.{proofs.{Common.{rules, ◌≡◌, ◌≤◌, Bool, not, length, map, arith, refl}, lemmas.List.{length-map, Filters.length-filter_both}}, specs.FinMap.entries}
 use Rattle.stn_records.{specs.{Id.SiteCounter, declared.record.Record.Record, Content.{Content, known_count, is_replaced, live_of, listed, replaced_count, replaced_set}}, proofs.Limits.{additions_within, replaced_within}}
 
 -- as many ids are replaced as the set has entries
 pub replaced_counted : (s : Content) → length (entries (replaced_set s)) ≡ replaced_count s
-replaced_counted s = sym (length-map (entries (replaced_set s)) (λ (e : SiteCounter × Unit {0}). e.0))
+replaced_counted s = search (rules, length-map)
 
 -- and no more than are known
 pub few_replaced : (s : Content) → replaced_count s ≤ known_count s

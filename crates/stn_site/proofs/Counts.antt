@@ -1,15 +1,11 @@
 -- What counts of a state: its additions, and the ids that are replaced.
-use Rattle.std.{proofs.{Common.{rules, ◌≡◌, ◌↔◌, true, false, Option, Some, None, is_some, inl, inr, ⊎_elim, refl, sym, ap, ◌∙◌}, lemmas.Bool.{false≢true, or_parts}}, specs.FinMap.get}
+use Rattle.std.{proofs.{Common.{rules, ◌≡◌, ◌↔◌, true, false, Option, Some, None, is_some, inl, inr, ⊎_elim, sym, ap, ◌∙◌}, lemmas.Bool.or_parts}, specs.FinMap.get}
 use Rattle.stn_records.{specs.{Id.SiteCounter, ContentLaws.{records_join, ids_join}, Content.{Content, AllAmend, Item, addition, withdrawal, replacement, HasItem, CountsSame, is_known, is_replaced, replaced_set}}, proofs.Replaced.{replaced_cases, replaced_by_withdrawal, replaced_by_entry}}
 use Rattle.stn_site.specs.Calls.{Replaces, CountAlike}
 
-not_there : {X : Type 0} (o : Option X) → is_some o ≡ false → o ≡ None
-not_there None e = refl
-not_there (Some x) e = absurd (false≢true (sym e))
-
 -- an id that is not known was not added
 pub unknown_absent : (s : Content) (id : SiteCounter) → is_known s id ≡ false → get s.additions id ≡ None
-unknown_absent s id e = not_there (get s.additions id) (or_parts _ _ e).0
+unknown_absent s id e = search rules
 
 -- and is not replaced
 pub unknown_unreplaced : (s : Content) (id : SiteCounter) → is_known s id ≡ false → is_replaced s id ≡ false
@@ -21,11 +17,10 @@ replaces_nothing s id amends unknown = search rules
 
 -- an id is replaced where an item replaces it
 pub replaced_by_items : (s : Content) (old : SiteCounter) → (is_replaced s old ≡ true) ↔ Replaces (HasItem s) old
-replaced_by_items s old = (replaced_cases s old, λ h. ⊎_elim (replaced_by_withdrawal s old) (λ w. replaced_by_entry s w.0 old w.1) h)
+replaced_by_items s old = search (rules, replaced_cases, replaced_by_withdrawal, replaced_by_entry)
 
 is_there : (o : Option (Unit {0})) (u : Unit {0}) → is_some o ≡ true → o ≡ Some u
-is_there None u e = absurd (false≢true e)
-is_there (Some x) u e = refl
+is_there o u e = search rules
 
 -- items that count alike are those of states with the same additions and the same replaced ids
 pub counts_alike : (s t : Content) → CountAlike (HasItem s) (HasItem t) ↔ CountsSame s t

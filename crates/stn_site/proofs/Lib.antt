@@ -11,7 +11,6 @@ pub mod Places
 pub mod Printing
 pub mod Refused
 pub mod Values
-pub mod Walk
 pub mod Windowing
 pub mod Behind
 pub mod Live

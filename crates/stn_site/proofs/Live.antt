@@ -1,5 +1,5 @@
 -- The live records of a state, and those that become live from one state to the next.
-use Rattle.std.{proofs.{Common.{rules, ◌≡◌, Bool, true, false, cond, not, ◌&&◌, List, [], ◌∷◌, ◌++◌, filter, Option, Some, None, is_some, refl, sym, ap, ◌∙◌, All}, lemmas.{Bool.{false≢true, and_parts}, List.Elements.{All-from_recursion, recursion_from_All}}, Math.Bool.and-false}, specs.{List.AllByRecursion, FinMap.{entries, get, contains_key}}}
+use Rattle.std.{proofs.{Common.{rules, ◌≡◌, Bool, true, false, cond, not, ◌&&◌, List, [], ◌∷◌, ◌++◌, filter, Option, Some, is_some, refl, sym, ◌∙◌, All}, lemmas.{Bool.false≢true, List.Elements.{All-from_recursion, recursion_from_All, All-filter, filter_passes}}}, specs.{List.AllByRecursion, FinMap.{entries, get}}}
 use Rattle.stn_net.{specs.{Difference.Difference, Schedule.{HasSchedule, Meets}}, proofs.{Closure.schedule_before, Schedules.{met_behind, schedule_with}}}
 use Rattle.stn_records.{specs.{Id.SiteCounter, declared.record.Record.Record, ContentLaws.{ids_total, ids_exact}, Content.{Content, is_live, is_replaced, live_of}}, proofs.Gets.{entries_from_get, get_from_entries}}
 use Rattle.stn_site.{proofs.Named.{records_from_bounds, bounds_from_records}, specs.{Bounds.{bounds_of, live_bounds}, Growth.{is_risen, risen, KeepsLive, Extends}}}
@@ -8,14 +8,6 @@ abbrev pub Entry : Type 0
 Entry = SiteCounter × Record
 
 module _ {X : Type 0} (p : X → Bool) (P : X → Type 0) where
-  kept : (xs : List X) → AllByRecursion (λ x. p x ≡ true → P x) xs → AllByRecursion P (filter p xs)
-  kept [] h = tt
-  kept (x ∷ xs) h =
-      elim (p x) as (λ b. p x ≡ b → AllByRecursion P (cond b (x ∷ filter p xs) (filter p xs))) [
-        | true ↦ λ t. (h.0 t, kept xs h.1)
-        | false ↦ λ t. kept xs h.1
-      ] refl
-
   tested : (xs : List X) → AllByRecursion P (filter p xs) → AllByRecursion (λ x. p x ≡ true → P x) xs
   tested [] h = tt
   tested (x ∷ xs) h =
@@ -26,7 +18,7 @@ module _ {X : Type 0} (p : X → Bool) (P : X → Type 0) where
 
   -- what holds of each element that passes holds of each element of a filter
   pub All-filter_passing : (xs : List X) → All (λ x. p x ≡ true → P x) xs → All P (filter p xs)
-  All-filter_passing xs h = All-from_recursion P (filter p xs) (kept xs (recursion_from_All (λ x. p x ≡ true → P x) xs h))
+  All-filter_passing xs h k d within = All-filter p (λ x. p x ≡ true → P x) xs h k d within (filter_passes p xs k d within)
 
   pub All-passing : (xs : List X) → All P (filter p xs) → All (λ x. p x ≡ true → P x) xs
   All-passing xs h = All-from_recursion (λ x. p x ≡ true → P x) xs (tested xs (recursion_from_All P (filter p xs) h))
@@ -40,7 +32,7 @@ abbrev pub RisenHold : (Difference → Type 0) → Content → Content → Type 
 RisenHold P old new = (id : SiteCounter) (r : Record) → get new.additions id ≡ Some r → is_risen old new id ≡ true → P r.bound
 
 known_here : (o : Option Record) (r : Record) (b : Bool) → o ≡ Some r → (is_some o && b) ≡ b
-known_here o r b e = ap (λ x. is_some x && b) e
+known_here o r b e = cc
 
 module _ (P : Difference → Type 0) where
   -- what holds of the bounds of all live records
@@ -69,16 +61,15 @@ module _ (P : Difference → Type 0) where
       (entries_from_get ids_total ids_exact new.additions (λ entry. is_risen old new entry.0 ≡ true → P entry.1.bound) f))
 
 pub there_where_live : (o : Option Record) (b : Bool) → (is_some o && b) ≡ true → (r : Record) × (o ≡ Some r)
-there_where_live None b e = absurd (false≢true e)
-there_where_live (Some r) b e = (r, refl)
+there_where_live o b e = search rules
 
 module _ (P : Difference → Type 0) (old new : Content) (extends : Extends old new) (keeps : KeepsLive old new) where
   -- where no record stops being live, the live ones are those of before and those that have become live
   pub old_hold : LiveHold P new → LiveHold P old
-  old_hold f id r there live = f id r (extends id r there) (keeps id live)
+  old_hold f id r there live = search rules
 
   pub risen_hold : LiveHold P new → RisenHold P old new
-  risen_hold f id r there is = f id r there (and_parts (is_live new id) (not (is_live old id)) is).0
+  risen_hold f id r there is = search rules
 
   pub new_hold : LiveHold P old → RisenHold P old new → LiveHold P new
   new_hold f g id r there live = search rules
@@ -93,7 +84,3 @@ conflict_stays base old new extends keeps none s =
 -- where no id that is replaced now was live, each record that was live still is
 pub keeps_unless_replaced : (old new : Content) → Extends old new → ((id : SiteCounter) → is_replaced new id ≡ true → is_live old id ≡ false) → KeepsLive old new
 keeps_unless_replaced old new extends dead id live = search rules
-
--- where an id that is replaced now was live, it no longer is
-pub falls_where_replaced : (old new : Content) (id : SiteCounter) → is_replaced new id ≡ true → is_live old id ≡ true → ¬ KeepsLive old new
-falls_where_replaced old new id gone live keeps = false≢true (sym (ap (λ b. contains_key new.additions id && not b) gone ∙ and-false (contains_key new.additions id)) ∙ keeps id live)

@@ -1,10 +1,10 @@
 -- A plan and a state have one report.
-use Rattle.std.{proofs.{Common.{rules, ◌≡◌, ℕ, zero, suc, ◌+◌, ◌⊎◌, List, [], ◌∷◌, ◌++◌, Bool, Some, length, map, inl, inr, sym, subst, ◌∙◌, ⊎_elim}, lemmas.List.Elements.All-take}, specs.List.flat_map}
+use Rattle.std.proofs.{Common.{rules, ◌≡◌, ℕ, zero, suc, ◌+◌, ◌⊎◌, List, [], ◌∷◌, Bool, Some, sym, subst, ◌∙◌}, lemmas.List.Elements.All-take}
 use Rattle.stn_net.{specs.{Difference.Difference, Schedule.{HasSchedule, Meets}}, proofs.WindowEnds.one_window}
-use Rattle.stn_lift.specs.PlanSource.{PlanSource, base_bounds, events_of, steps_of}
+use Rattle.stn_lift.specs.PlanSource.{PlanSource}
 use Rattle.stn_records.specs.{Id.SiteCounter, declared.record.Record.Record, Content.{Content, live_of, replaced_count}}
-use Rattle.stn_conflict.specs.{declared.links.Link.Link, Arcs.{weight_of, IsNegativeCycle}, Named.IsNamedCycle}
-use Rattle.stn_site.specs.{Bounds.bounds_of, Lines.{plan_line, records_line, conflict_line, link_line}, Report.{says_done, IsWindowLines, IsWindowsPart, IsConflictPart, IsReport}}
+use Rattle.stn_conflict.specs.{declared.links.Link.Link, Named.IsNamedCycle}
+use Rattle.stn_site.specs.Report.{IsWindowLines, IsWindowsPart, IsConflictPart, IsReport}
 
 abbrev Entries : Type 0
 Entries = List (SiteCounter × Record)
@@ -48,25 +48,4 @@ same_reports law a b s t text other plan state p q =
 
 -- a report depends on the live records and the number of replaced ids alone
 pub counted_reports : (source : PlanSource) (s t : Content) (text : List ℕ) → live_of s ≡ live_of t → replaced_count s ≡ replaced_count t → IsReport source s text → IsReport source t text
-counted_reports source s t text live count p = record {
-  rest = p.rest;
-  part = ⊎_elim (λ windows. inl (windows_part windows)) (λ conflict. inr (conflict_part conflict)) p.part;
-  whole = p.whole ∙ (λ i. (plan_line (steps_of source) (events_of source) ++ records_line (length (live i)) (count i)) ++ p.rest);
-}
-  where
-    windows_part : IsWindowsPart source s p.rest → IsWindowsPart source t p.rest
-    windows_part w = record {
-      possible = subst (λ (records : Entries). HasSchedule (base_bounds source ++ bounds_of records)) live w.possible;
-      lines = w.lines;
-      windows = subst (λ (records : Entries). IsWindowLines (base_bounds source ++ bounds_of records) (says_done records) (events_of source) w.lines) live w.windows;
-      whole = w.whole;
-    }
-
-    conflict_part : IsConflictPart source s p.rest → IsConflictPart source t p.rest
-    conflict_part k = record {
-      links = k.links;
-      named = subst (λ (records : Entries). IsNamedCycle (base_bounds source ++ bounds_of records) k.links) live k.named;
-      negative = subst (λ (records : Entries). IsNegativeCycle (base_bounds source ++ bounds_of records) k.links) live k.negative;
-      whole = k.whole ∙ (λ i. conflict_line (weight_of (base_bounds source ++ bounds_of (live i)) k.links)
-          ++ flat_map (link_line (base_bounds source) (map (λ entry. entry.0) (live i)) (bounds_of (live i))) k.links);
-    }
+counted_reports source s t text live count p = search rules

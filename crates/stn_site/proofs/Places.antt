@@ -1,10 +1,10 @@
 -- A walk over the records of a state, one after another.
-use Rattle.std.{proofs.{Common.{rules, ◌≡◌, ℕ, ◌+◌, ◌<◌, List, [], ◌∷◌, ◌++◌, length, get_or, take, sym, ap, subst, ◌∙◌, All}, lemmas.List.{take_more, Elements.{All-push, All-same, All-get_or}}}, specs.FinMap.entries}
+use Rattle.std.{proofs.{Common.{rules, ◌≡◌, ℕ, ◌+◌, ◌<◌, List, [], ◌∷◌, ◌++◌, length, get_or, take, All}, lemmas.List.{take_more, Elements.{All-push, All-same}}}, specs.FinMap.entries}
 use Rattle.stn_records.specs.{Id.SiteCounter, declared.record.Record.Record, Content.{Content, RecordMap}}
 
 -- the records that are walked are those of the state
 pub walked_are : (s held : Content) (additions : RecordMap) (items : List (SiteCounter × Record)) → items ≡ entries additions → additions ≡ held.additions → held ≡ s → items ≡ entries s.additions
-walked_are s held additions items all part whole = all ∙ ap entries (part ∙ ap (λ (t : Content). t.additions) whole)
+walked_are s held additions items all part whole = cc
 
 module _ {X : Type 0} where
   -- what holds of each one seen, and of the next, holds of one more
@@ -15,4 +15,4 @@ module _ {X : Type 0} where
 
   -- what holds of all holds of the next
   pub next_of : (P : X → Type 0) (all items : List X) (place : ℕ) (e : X) → items ≡ all → place < length items → e ≡ get_or items place e → All P all → P e
-  next_of P all items place e same within at each = subst P (sym at) (All-get_or P items place e within (All-same P items all same each))
+  next_of P all items place e same within at each = search rules

@@ -1,42 +1,23 @@
 -- The first cause that refuses each call, from what its parts answer.
-use Rattle.std.{proofs.{Common.{rules, ◌≡◌, ◌≢◌, ℕ, ℤ, ◌<◌, ◌≤◌, ◌<ℤ◌, ⊎_elim, Bool, true, false, not, ◌&&◌, leb, ltb, Option, Some, None, refl, sym, ap, ◌∙◌, arith}, lemmas.{Bool.{false≢true, cases_lt, le-ltb, Decides.{nat_tests, Decides-by_and}}, Int.ints}}, specs.{Prelude.{unwrap_or, ◌==◌, option_map}, Bool.{Decides, then_some}, Option.option_or, List.list_all, FinMap.entries}}
-use Rattle.stn_net.specs.{Difference.{Difference, NamesEvents, IsBoundWithin, IsFaultOf}, declared.bound.BoundFault.{BoundFault, TheVariants.{NoEvent, SameEvent, Crossed}}}
+use Rattle.std.{proofs.{Common.{rules, ◌≡◌, ◌≢◌, ℕ, ℤ, ◌≤◌, Bool, true, false, ltb, Option, Some, None, refl}, lemmas.Bool.{false≢true, cases_lt, Decides.Decides-by_and}}, specs.{Prelude.{unwrap_or, option_map}, Bool.{Decides, then_some}, Option.option_or, List.list_all, FinMap.entries}}
+use Rattle.stn_net.specs.{Difference.{Difference, NamesEvents, IsBoundWithin, IsFaultOf}, declared.bound.BoundFault.{BoundFault, TheVariants.NoEvent}}
 use Rattle.stn_lift.specs.PlanSource.{events_of}
-use Rattle.stn_records.{specs.{Id.{most_counter, SiteCounter}, declared.{record.Record.Record, faults.RecordsFault.RecordsFault}, Refusals.{addition_refusal as records_add, join_refusal as records_take, withdrawal_refusal as records_withdraw}, Content.{most_known, Content, is_known, known_count, known_in_either, next_counter, dispute_contents, content_taken}}, proofs.{Outcomes.too_many, FirstCauses.take_free, Holding.held_agrees}}
+use Rattle.stn_records.{specs.{Id.{most_counter, SiteCounter}, declared.{record.Record.Record, faults.RecordsFault.RecordsFault}, Refusals.{addition_refusal as records_add, join_refusal as records_take, withdrawal_refusal as records_withdraw}, Content.{most_known, Content, is_known, known_in_either, next_counter, dispute_contents, content_taken}}, proofs.{Outcomes.too_many, FirstCauses.take_free, Holding.held_agrees}}
 use Rattle.stn_records.specs.declared.faults.RecordsFault.TheVariants as records
-use Rattle.stn_site.specs.{declared.faults.ReplicaFault.{ReplicaFault, TheVariants.{Bound, CounterSpent, Full, Unknown, Clash, Memory}}, Bounds.RecordsName, FaultsOf.of_records_fault, Held.{Held, difference}, Refusals.{names_events, bound_refusal, next_refusal, add_refusal, amend_refusal, done_refusal, withdraw_refusal, records_name, take_refusal}}
-
--- the first of several causes stands, or another is asked for
-first_stands : {X : Type 0} (stands : Bool) (cause : X) (others : Option X) → stands ≡ true → option_or (then_some stands cause) others ≡ Some cause
-first_stands true cause others e = refl
-first_stands false cause others e = absurd (false≢true e)
-
-first_passes : {X : Type 0} (stands : Bool) (cause : X) (others : Option X) → stands ≡ false → option_or (then_some stands cause) others ≡ others
-first_passes true cause others e = absurd (false≢true (sym e))
-first_passes false cause others e = refl
+use Rattle.stn_site.specs.{declared.faults.ReplicaFault.{ReplicaFault, TheVariants.{Bound, Full, Clash, Memory}}, Bounds.RecordsName, FaultsOf.of_records_fault, Held.{Held, difference}, Refusals.{names_events, next_refusal, add_refusal, amend_refusal, done_refusal, withdraw_refusal, records_name, take_refusal}}
 
 -- ---- what the records answer
 -- a fault of the records is the replica's, where their first causes are the same
 pub told : (cause : Option RecordsFault) (same : Option ReplicaFault) → option_map of_records_fault cause ≡ same
     → (fault : RecordsFault) → fault ≡ unwrap_or cause records.Memory → of_records_fault fault ≡ unwrap_or same Memory
-told cause same e fault is = ap of_records_fault is ∙ moved cause ∙ ap (λ o. unwrap_or o Memory) e
-  where
-    moved : (o : Option RecordsFault) → of_records_fault (unwrap_or o records.Memory) ≡ unwrap_or (option_map of_records_fault o) Memory
-    moved None = refl
-    moved (Some x) = refl
+told cause same e fault is = search rules
 
 -- and where there is none, none stands against the replica
 pub let_through : (cause : Option RecordsFault) (same : Option ReplicaFault) → option_map of_records_fault cause ≡ same → cause ≡ None → same ≡ None
-let_through cause same e none = sym e ∙ ap (option_map of_records_fault) none
+let_through cause same e none = cc
 
 mapped : (b : Bool) (fault : RecordsFault) → option_map of_records_fault (then_some b fault) ≡ then_some b (of_records_fault fault)
-mapped true fault = refl
-mapped false fault = refl
-
--- ---- additions
--- where the counter is not spent, only room is asked for
-pub next_counted : (held : Held) → next_counter held.state held.site ≤ most_counter → next_refusal held ≡ then_some (known_count held.state == most_known) Full
-next_counted held counter = first_passes (ltb most_counter (next_counter held.state held.site)) CounterSpent _ (le-ltb most_counter (next_counter held.state held.site) counter)
+mapped b fault = search rules
 
 -- a record under the site's next id is refused only for want of room
 pub next_added : (held : Held) (one : Record) (id : SiteCounter) → next_counter held.state held.site ≤ most_counter → is_known held.state id ≡ false
@@ -46,46 +27,24 @@ next_added held one id counter unknown = search rules
 names_decides : (events : ℕ) (bound : Difference) → Decides (names_events events bound) (NamesEvents events bound)
 names_decides events bound = search rules
 
--- the first fault of a difference refuses it
-pub bound_refused : (events : ℕ) (bound : Difference) (fault : BoundFault) → IsFaultOf events bound fault → bound_refusal events bound ≡ Some fault
-bound_refused events bound NoEvent past = search rules
-bound_refused events bound SameEvent same = search rules
-bound_refused events bound Crossed crossed = search rules
-
--- a bound of the plan has no fault
-bound_passes : (events : ℕ) (bound : Difference) → IsBoundWithin events bound → bound_refusal events bound ≡ None
-bound_passes events bound within = search rules
-
--- so an addition of it is refused as the next record is, and an amendment by it, where the old id is known
+-- an addition of a bound of the plan is refused as the next record is, and an amendment by it, where the old id is known
 pub add_passes : (held : Held) (bound : Difference) → IsBoundWithin (events_of held.source) bound → add_refusal held bound ≡ next_refusal held
-add_passes held bound within = ap (λ o. option_or (option_map Bound o) (next_refusal held)) (bound_passes (events_of held.source) bound within)
+add_passes held bound within = search rules
 
 pub amend_known : (held : Held) (old : SiteCounter) (bound : Difference) → IsBoundWithin (events_of held.source) bound → is_known held.state old ≡ true → amend_refusal held old bound ≡ next_refusal held
 amend_known held old bound within known = search rules
 
 -- an addition of a difference with a fault is refused, and an amendment by it
 pub add_refused : (held : Held) (bound : Difference) (fault : BoundFault) → IsFaultOf (events_of held.source) bound fault → add_refusal held bound ≡ Some (Bound fault)
-add_refused held bound fault is = ap (λ o. option_or (option_map Bound o) (next_refusal held)) (bound_refused (events_of held.source) bound fault is)
-
--- a record of an event that was executed
-pub done_refused : (held : Held) (event : ℕ) → (ltb 0 event && leb event (events_of held.source)) ≡ false → done_refusal held event ≡ Some (Bound NoEvent)
-done_refused held event e = first_stands (not (ltb 0 event && leb event (events_of held.source))) (Bound NoEvent) _ (ap not e)
+add_refused held bound fault is = search rules
 
 pub done_origin : (held : Held) (event : ℕ) → event ≡ 0 → done_refusal held event ≡ Some (Bound NoEvent)
-done_origin held event is = done_refused held event (ap (λ n. ltb 0 n && leb n (events_of held.source)) is)
+done_origin held event is = cc
 
 -- the bound that fixes an event other than the origin is refused only where the plan has no such event
 pub fixed_refused : (held : Held) (origin event : ℕ) (time : ℤ) (fault : BoundFault) → origin ≡ 0 → event ≢ 0 → IsFaultOf (events_of held.source) (difference origin event time time) fault
     → done_refusal held event ≡ Some (Bound fault)
-fixed_refused held origin event time NoEvent first other past = done_refused held event (past_last event (events_of held.source) (⊎_elim (λ h. omega (arith, h, first)) (λ h. h) past))
-  where
-    past_last : (event events : ℕ) → events < event → (ltb 0 event && leb event events) ≡ false
-    past_last event events h = grind (arith, nat_tests)
-fixed_refused held origin event time SameEvent first other same = absurd (other (sym same.1 ∙ first))
-fixed_refused held origin event time Crossed first other crossed = absurd (never time crossed.2)
-  where
-    never : (time : ℤ) → ¬ (time <ℤ time)
-    never time h = omega (arith, ints)
+fixed_refused held origin event time fault first other past = search rules
 
 -- ---- takes
 pub records_name-decides : (events : ℕ) (state : Content) → Decides (records_name events state) (RecordsName events state)
@@ -95,25 +54,18 @@ records_name-decides events state =
 
 named_take : (held : Held) (other : Content) → RecordsName (events_of held.source) other
     → take_refusal held other ≡ option_or (option_map Clash (dispute_contents held.state other)) (then_some (ltb most_known (known_in_either held.state other)) Full)
-named_take held other named =
-    first_passes (not (records_name (events_of held.source) other)) (Bound NoEvent) _ (ap not ((records_name-decides (events_of held.source) other).1 named))
+named_take held other named = search (rules, records_name-decides)
 
 pub unnamed_take : (held : Held) (other : Content) → ¬ RecordsName (events_of held.source) other → take_refusal held other ≡ Some (Bound NoEvent)
 unnamed_take held other unnamed = search (rules, records_name-decides)
 
 pub agreed_take : (held : Held) (other : Content) → RecordsName (events_of held.source) other → dispute_contents held.state other ≡ None
     → take_refusal held other ≡ then_some (ltb most_known (known_in_either held.state other)) Full
-agreed_take held other named agreed = cc (named_take held other named)
+agreed_take held other named agreed = search (rules, named_take)
 
 -- so what another site holds is refused by the records
 pub taken_in : (held : Held) (other : Content) → RecordsName (events_of held.source) other → option_map of_records_fault (records_take held.state other) ≡ take_refusal held other
-taken_in held other named =
-    alike (dispute_contents held.state other) (ltb most_known (known_in_either held.state other)) ∙ sym (named_take held other named)
-  where
-    alike : (o : Option SiteCounter) (b : Bool) → option_map of_records_fault (option_or (option_map records.Clash o) (then_some b records.Full)) ≡ option_or (option_map Clash o) (then_some b Full)
-    alike None true = refl
-    alike None false = refl
-    alike (Some id) b = refl
+taken_in held other named = search (rules, named_take)
 
 -- where all is held already, nothing stands against a take
 pub can_hold : (held : Held) (other : Content) → RecordsName (events_of held.source) other → content_taken held.state other ≡ Some held.state → take_refusal held other ≡ None
@@ -125,20 +77,15 @@ can_hold held other named is =
 
 -- ---- withdrawals
 pub withdrawn : (held : Held) (id : SiteCounter) → option_map of_records_fault (records_withdraw held.state id) ≡ withdraw_refusal held id
-withdrawn held id = mapped (not (is_known held.state id)) records.Unknown
+withdrawn held id = search rules
 
 -- ---- what an accepted call tells
 pub or_none : {X : Type 0} (o p : Option X) → option_or o p ≡ None → (o ≡ None) × (p ≡ None)
-or_none None p e = (refl, e)
-or_none (Some x) p e = absurd (cc)
-
-pub untested : {X : Type 0} (b : Bool) (x : X) → then_some (not b) x ≡ None → b ≡ true
-untested true x e = refl
-untested false x e = absurd (cc)
+or_none o p e = search rules
 
 -- and an id that may be withdrawn is known
 pub accepted_known : (held : Held) (id : SiteCounter) → withdraw_refusal held id ≡ None → is_known held.state id ≡ true
-accepted_known held id e = untested (is_known held.state id) Unknown e
+accepted_known held id e = search rules
 
 -- and its old id is known
 pub amended_known : (held : Held) (old : SiteCounter) (bound : Difference) → amend_refusal held old bound ≡ None → is_known held.state old ≡ true

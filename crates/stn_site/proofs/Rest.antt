@@ -1,8 +1,8 @@
 -- What a rehearsal of all bounds says of a replica's plan.
-use Rattle.std.{proofs.{Common.{rules, ◌≡◌, ℕ, ℤ, true, false, ◌+◌, ◌≤◌, Bool, List, length, get_or, take, map, not, ap, ◌∙◌, arith, get_or-take}, lemmas.{Bool.false≢true, Int.ints, List.{Elements.All-filter, FromFn.fill_by_all}}}, specs.{List.range_with_len, FinMap.entries}}
+use Rattle.std.{proofs.{Common.{rules, ◌≡◌, ℕ, ℤ, true, false, ◌+◌, ◌≤◌, Bool, List, length, get_or, take, map, not, ap, ◌∙◌, arith, get_or-take}, lemmas.{Int.ints, List.{Elements.All-filter, FromFn.fill_by_all}}}, specs.{List.range_with_len, FinMap.entries}}
 use Rattle.stn_net.{specs.{Difference.Difference, Schedule.{IsSchedule, Meets}, Windows.{Dispatch.CanWaitUntil, Rehearsal.{IsRehearsal, NeverFalls, RunsEachOnce, HasScheduleThrough}}}, proofs.Schedules.met_behind}
 use Rattle.stn_lift.specs.PlanSource.{PlanSource, base_bounds, events_of}
-use Rattle.stn_records.{specs.{Id.SiteCounter, Record.{IsProper, is_done_mark as marks_done}, declared.record.{Mark.{Mark, TheVariants.{Plain, Done}}, Record.Record}, Content.{Content, AllProper, live_of, is_replaced}, ContentLaws.{ids_total, ids_exact}}, proofs.Gets.entries_from_get}
+use Rattle.stn_records.{specs.{Id.SiteCounter, Record.{IsProper, is_done_mark as marks_done}, declared.record.{Mark.{Mark, TheVariants.Done}, Record.Record}, Content.{Content, AllProper, live_of, is_replaced}, ContentLaws.{ids_total, ids_exact}}, proofs.Gets.entries_from_get}
 use Rattle.stn_site.{specs.{Bounds.{all_bounds, live_bounds}, Dispatch.{KeepsRecorded, IsRestWith}}, proofs.Named.records_from_bounds}
 
 -- the flags of the plan's events say which of them pass a test
@@ -14,8 +14,7 @@ flags_are test source events flags given same is one_each says =
 
 -- a Done record fixes its event
 fixes : (mark : Mark) (bound : Difference) → marks_done mark ≡ true → IsProper mark bound → (bound.from ≡ 0) × (bound.lo ≡ bound.hi)
-fixes Plain bound done proper = absurd (false≢true done)
-fixes Done bound done proper = proper
+fixes mark bound done proper = search rules
 
 -- in a schedule of all bounds each event that is recorded as done takes its recorded time
 pub keeps_recorded : (source : PlanSource) (state : Content) (times : ℕ → ℤ) → AllProper state.additions → IsSchedule (all_bounds source state) times → KeepsRecorded state times

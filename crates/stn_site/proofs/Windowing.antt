@@ -1,6 +1,5 @@
 -- The windows of the first events, the origin first, one after another.
-use Rattle.std.proofs.lemmas.Grind.{common_steps}
-use Rattle.std.proofs.{Common.{rules, ◌≡◌, ℕ, ℤ, pos, ◌+◌, ◌<◌, List, [], ◌∷◌, ◌++◌, length, length-append, refl, arith}, lemmas.List.get_or_append_left}
+use Rattle.std.proofs.{lemmas.{Grind.common_steps, List.get_or_append_left}, Common.{rules, ◌≡◌, ℕ, ℤ, ◌+◌, ◌<◌, List, [], ◌∷◌, ◌++◌, length, length-append, arith}}
 use Rattle.stn_net.specs.{Difference.Difference, Schedule.HasSchedule, Windows.Window.IsWindow}
 use Rattle.stn_site.specs.Windows.{window_at, AreWindows}
 
@@ -9,11 +8,11 @@ pub record AreFirst (bounds : List Difference) (count : ℕ) (windows : List (�
   pub each : (event : ℕ) → event < count → IsWindow bounds event (window_at windows event).0 (window_at windows event).1
 
 pub none_yet : (bounds : List Difference) → AreFirst bounds 0 []
-none_yet bounds = record { counted = refl; each = λ event below. absurd (omega arith) }
+none_yet bounds = search rules
 
 module _ (bounds : List Difference) (count event : ℕ) (windows : List (ℤ × ℤ)) (one : ℤ × ℤ) (before : AreFirst bounds count windows) (is : event ≡ count) (window : IsWindow bounds event one.0 one.1) where
   earlier : (e : ℕ) → e < count → window_at (windows ++ one ∷ []) e ≡ window_at windows e
-  earlier e below = get_or_append_left windows (one ∷ []) (pos 0, pos 0) e (omega (arith, before.counted))
+  earlier e below = search (rules, get_or_append_left)
 
   last : (e : ℕ) → e ≡ count → window_at (windows ++ one ∷ []) e ≡ one
   last e here = grind (arith, common_steps)

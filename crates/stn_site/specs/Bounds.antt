@@ -1,5 +1,5 @@
-use Rattle.std.specs.{Prelude.{ℕ, List, ◌++◌, map, All}, FinMap.entries}
-use Rattle.stn_net.specs.Difference.{Difference, NamesEvents}
+use Rattle.std.specs.{Prelude.{ℕ, ℤ, List, ◌++◌, map, All}, FinMap.entries}
+use Rattle.stn_net.specs.{Difference.{Difference, NamesEvents}, Schedule.NamesTimes}
 use Rattle.stn_lift.specs.PlanSource.{PlanSource, base_bounds}
 use Rattle.stn_records.specs.{Id.SiteCounter, declared.record.Record.Record, Content.{Content, live_of}}
 
@@ -18,3 +18,7 @@ all_bounds source state = base_bounds source ++ live_bounds state
 -- each record, live or not, names the origin or one of so many events
 abbrev pub RecordsName : ℕ → Content → Type 0
 RecordsName events state = All (λ entry. NamesEvents events entry.1.bound) (entries state.additions)
+
+-- and names events that have a time
+abbrev pub RecordsTimed : List ℤ → Content → Type 0
+RecordsTimed times state = All (λ entry. NamesTimes times entry.1.bound) (entries state.additions)

@@ -2,7 +2,6 @@ pub mod Held
 pub mod Bounds
 pub mod SoundSite
 pub mod Names
-pub mod Walk
 pub mod FaultsOf
 pub mod Failures
 pub mod Refusals

@@ -1,8 +1,8 @@
-use Rattle.std.specs.Prelude.{ℕ, ℤ, ◌+◌, ◌-◌, ◌-ℤ◌, nat_lt, int_le, Bool, not, ◌&&◌, List, ◌++◌, length, slice_index_or, position, if◌then◌else◌, codes, decimal, map, Option, option_map}
+use Rattle.std.specs.{Prelude.{ℕ, ℤ, ◌+◌, ◌-◌, ◌-ℤ◌, nat_lt, int_le, Bool, not, ◌&&◌, List, ◌++◌, length, slice_index_or, position, find, if◌then◌else◌, codes, decimal, map, Option, option_map}, Option.option_or}
 use Rattle.stn_net.specs.Difference.{Difference}
 use Rattle.stn_lift.specs.PlanSource.{PlanSource, base_bounds}
-use Rattle.stn_records.specs.{Id.{SiteCounter, id_text}, Content.{Content, live_of}}
-use Rattle.stn_site.specs.{declared.names.BoundName.{BoundName, TheVariants.{Plan, Record}}, Bounds.all_bounds}
+use Rattle.stn_records.specs.{Id.{SiteCounter, id_text}, declared.record.Record.Record as RecordOf, Content.{Content, live_of}}
+use Rattle.stn_site.specs.declared.names.BoundName.{BoundName, TheVariants.{Plan, Record}}
 
 -- the ids of the live records, in order
 abbrev pub live_ids : Content → List SiteCounter
@@ -26,7 +26,12 @@ name_text (Record id) = id_text id
 abbrev pub is_met : (ℕ → ℤ) → Difference → Bool
 is_met time bound = int_le bound.lo (time bound.to -ℤ time bound.from) && int_le (time bound.to -ℤ time bound.from) bound.hi
 
--- the name of the first of all bounds that the times break
+-- the first live record whose bound the times break
+abbrev pub broken_record : Content → (ℕ → ℤ) → Option (SiteCounter × RecordOf)
+broken_record state time = find (λ entry. not (is_met time entry.1.bound)) (live_of state)
+
+-- the name of the first of all bounds that the times break: one of the plan's, or that of a live record
 unfoldable pub broken_bound : PlanSource → Content → (ℕ → ℤ) → Option BoundName
 broken_bound source state time =
-    option_map (name_in (base_bounds source) (live_ids state)) (position (λ bound. not (is_met time bound)) (all_bounds source state))
+    option_or (option_map (λ place. Plan (place + 1)) (position (λ bound. not (is_met time bound)) (base_bounds source)))
+    (option_map (λ entry. Record entry.0) (broken_record state time))

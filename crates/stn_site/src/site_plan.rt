@@ -1,8 +1,8 @@
-ghost use Rattle.std.specs.{Prelude.{◌≡◌, ◌+◌, ◌≤◌, ◌↔◌, pos, true, false, length, All, Some, None, unwrap_or, IsOk, IsNone, IsTrue, IfOk, IfErr, IfSome, IfNone, OnOk, OnErr, MatchOption}, FinMap.contains_key, Rc.rc_value};
-ghost use Rattle.stn_net.specs.{Schedule.{IsSchedule, Meets, NamesTimes, times_of}, Difference.{NamesEvents, IsBoundWithin, IsFaultOf}};
+ghost use Rattle.std.specs.{Prelude.{◌≡◌, ◌+◌, ◌≤◌, ◌↔◌, pos, true, false, not, length, option_map, Some, None, unwrap_or, IsOk, IsNone, IsTrue, IfOk, IfErr, OnOk, OnErr, MatchOption}, FinMap.contains_key, Rc.rc_value};
+ghost use Rattle.stn_net.specs.{Schedule.{IsSchedule, NamesTimes, times_of}, Difference.{NamesEvents, IsBoundWithin, IsFaultOf}};
 ghost use Rattle.stn_lift.specs.PlanSource.{events_of};
 ghost use Rattle.stn_records.specs.{Record.IsProper, Content.{no_content, is_known, next_counter, IsPart}, Id.most_counter};
-ghost use Rattle.stn_site.specs.{Bounds.{all_bounds, live_bounds, RecordsName}, Names.broken_bound, Walk.{IsFirstBrokenRecord, RecordsTimed}, Held.{next_id, difference, plain, executed}, Calls.{added, amended, withdrew, took, Leaves}, Refusals.{next_refusal, add_refusal, amend_refusal, done_refusal, withdraw_refusal, take_refusal}};
+ghost use Rattle.stn_site.specs.{Bounds.{all_bounds, RecordsName, RecordsTimed}, Names.{is_met as is_met_by, broken_bound, broken_record}, Held.{next_id, difference, plain, executed}, Calls.{added, amended, withdrew, took, Leaves}, Refusals.{next_refusal, add_refusal, amend_refusal, done_refusal, withdraw_refusal, take_refusal}};
 
 use crate::faults::ReplicaFault;
 use crate::names::BoundName;
@@ -287,8 +287,7 @@ impl<A: Allocator + Copy> SitePlan<A> {
 fn first_broken_record<A: Allocator + Copy>(records: &Records<A>, times: &[Ms]) -> Option<Id>
     requires origin { times_of times.now 0 ≡ pos 0 }
     requires named { RecordsTimed times.now records.now }
-    ensures none { IfNone result (All (Meets (times_of times.now)) (live_bounds records.now)) }
-    ensures found { IfSome result (IsFirstBrokenRecord records.now (times_of times.now)) }
+    ensures { result ≡ option_map (λ entry. entry.0) (broken_record records.now (times_of times.now)) }
 {
     for (id, record) in records.live_records() {
         if is_broken(record.bound, times) {
@@ -302,8 +301,7 @@ fn first_broken_record<A: Allocator + Copy>(records: &Records<A>, times: &[Ms]) 
 fn is_broken(bound: Bound, times: &[Ms]) -> bool
     requires origin { times_of times.now 0 ≡ pos 0 }
     requires named { NamesTimes times.now bound }
-    ensures met { result ≡ false → Meets (times_of times.now) bound }
-    ensures broken { result ≡ true → ¬ Meets (times_of times.now) bound }
+    ensures { result ≡ not (is_met_by (times_of times.now) bound) }
 {
     first_broken(&[bound], times).is_some()
 }

@@ -1,14 +1,11 @@
 -- Frames with the same bodies are one.
-use Rattle.std.{proofs.Common.{rules, ◌≡◌, ℕ, List, [], ◌∷◌, ◌++◌, ◌≤◌, drop, get_or, refl, sym, ap, ◌∙◌, append-nil, arith}, specs.FinMap.{entries, same_entries_map}}
-use Rattle.stn_lift.specs.PlanSource.{PlanSource, bare, files}
+use Rattle.std.{proofs.Common.{rules, ◌≡◌, List, [], ◌∷◌, ◌++◌, drop, refl, sym, ap, ◌∙◌, append-nil}, specs.FinMap.{entries, same_entries_map}}
+use Rattle.stn_lift.specs.PlanSource.{PlanSource}
 use Rattle.stn_records.specs.{Id.SiteCounter, Content.Content}
-use Rattle.stn_wire.{specs.{Spelling.{entry_bytes, IsEntry, entry_width, tomb_bytes, IsTomb, amendment_bytes, amendments_bytes, AreIds, counted, AreCounted}, Apart.{two_apart, entry_apart, entry_sized, tomb_apart, amendment_apart}, declared.layout.Layout.{Layout, TheVariants.{Old, New}}, Frame.{FrameContent, old_hello, old_records, hello, records, ask, text, refused, same, source_bytes, IsSaidSource, state_bytes, IsState, HasSpelling, records_kind, kind_of, body_of}}, proofs.Chunks.{counted_cut, measured_cut}}
+use Rattle.stn_wire.{specs.{Spelling.{entry_bytes, IsEntry, entry_width, tomb_bytes, IsTomb, amendment_bytes, amendments_bytes, AreIds, counted, AreCounted}, Apart.{entry_apart, entry_sized, tomb_apart, amendment_apart}, declared.layout.Layout.{Layout, TheVariants.{Old, New}}, Frame.{FrameContent, old_hello, old_records, hello, records, ask, text, refused, same, source_bytes, IsSaidSource, state_bytes, IsState, HasSpelling, body_of}}, proofs.Chunks.{counted_cut, measured_cut}}
 
 pub source_apart : (a b : PlanSource) → IsSaidSource a → IsSaidSource b → source_bytes a ≡ source_bytes b → a ≡ b
-source_apart (bare m) (bare n) p q e = ap (λ n. bare n) (two_apart m n p q (ap (drop 1) e))
-source_apart (bare m) (files c d) p q e = let forms : ◌≡◌ {A = ℕ} 0 1 = ap (λ l. get_or l 0 0) e in absurd (omega arith)
-source_apart (files a b) (bare n) p q e = let forms : ◌≡◌ {A = ℕ} 1 0 = ap (λ l. get_or l 0 0) e in absurd (omega arith)
-source_apart (files a b) (files c d) p q e = search (rules, measured_cut)
+source_apart a b p q e = search (rules, measured_cut)
 
 -- lists of entries with the same bytes are one
 amendments_apart : (l m : List (SiteCounter × SiteCounter)) → AreCounted AreIds l → AreCounted AreIds m → amendments_bytes l ≡ amendments_bytes m → l ≡ m
@@ -28,22 +25,11 @@ state_apart layout a b p q e =
     let replacements = same_entries_map a.replacements b.replacements (amendments_apart (entries a.replacements) (entries b.replacements) p.replacements q.replacements second.1) in
     λ i. record { additions = additions i; tombstones = tombstones i; replacements = replacements i }
 
-pub records_large : (l : List (SiteCounter × SiteCounter)) → 8 ≤ records_kind l
-records_large [] = omega arith
-records_large (entry ∷ rest) = omega arith
-
-kinds_apart : (f g : FrameContent) → body_of f ≡ body_of g → kind_of f ≡ kind_of g
-kinds_apart f g e = ap (λ l. get_or l 0 0) e
-
 pub body_apart : (f g : FrameContent) → HasSpelling f → HasSpelling g → body_of f ≡ body_of g → f ≡ g
-body_apart (old_hello a) (old_hello b) p q e = ap (λ s. old_hello s) (source_apart a b p q (ap (drop 1) e))
-body_apart (old_records a) (old_records b) p q e = ap (λ s. old_records s) (state_apart Old a b p.said q.said (ap (drop 1) e))
-body_apart (hello a) (hello b) p q e = ap (λ s. hello s) (source_apart a b p q (ap (drop 1) e))
-body_apart (records a) (records b) p q e = ap (λ s. records s) (state_apart New a b p q (ap (drop 1) e))
-body_apart ask ask p q e = refl
-body_apart (text a) (text b) p q e = ap (λ l. text l) (ap (drop 1) e)
-body_apart (refused m) (refused n) p q e = ap (λ n. refused n) (ap (λ l. get_or l 1 0) e)
-body_apart same same p q e = refl
-body_apart (records a) g p q e = let kinds = kinds_apart (records a) g e in absurd (omega (arith, kinds, records_large (entries a.replacements)))
-body_apart f (records b) p q e = let kinds = kinds_apart f (records b) e in absurd (omega (arith, kinds, records_large (entries b.replacements)))
-body_apart f g p q e = let kinds = kinds_apart f g e in absurd (omega arith)
+body_apart (old_hello a) (old_hello b) p q e = cc (source_apart a b p q (ap (drop 1) e))
+body_apart (old_records a) (old_records b) p q e = cc (state_apart Old a b p.said q.said (ap (drop 1) e))
+body_apart (hello a) (hello b) p q e = cc (source_apart a b p q (ap (drop 1) e))
+body_apart (records a) (records b) p q e = cc (state_apart New a b p q (ap (drop 1) e))
+body_apart (records a) g p q e = search rules
+body_apart f (records b) p q e = search rules
+body_apart f g p q e = cc

@@ -1,6 +1,5 @@
 -- Texts of pieces of one length.
-use Rattle.std.proofs.lemmas.Grind.{common_steps}
-use Rattle.std.{proofs.Common.{◌≡◌, ℕ, ◌*◌, ◌<◌, ◌≤◌, ◌^◌, List, [], ◌∷◌, ◌++◌, length, take, drop, refl, sym, ap, ◌∙◌, append_assoc, arith, length-append}, specs.List.{flat_map, AllByRecursion}}
+use Rattle.std.{proofs.{lemmas.Grind.common_steps, Common.{rules, ◌≡◌, ℕ, ◌*◌, ◌<◌, ◌≤◌, ◌^◌, List, [], ◌∷◌, ◌++◌, length, take, drop, refl, sym, ap, ◌∙◌, append_assoc, arith, length-append}}, specs.List.{flat_map, AllByRecursion}}
 use Rattle.stn_wire.specs.{Spelling.{measured, counted, AreCounted}, Apart.{two_apart, four_apart, cut_alike}}
 
 -- texts after their lengths with the same bytes are the same
@@ -20,7 +19,7 @@ module _ {X : Type 0} (Valid : X → Type 0) (spell : X → List ℕ) (wide : �
   -- what stands after some items in a text of more valid ones begins with one of these
   pub next_spelled : (xs vs : List X) (rest behind : List ℕ) → length xs < length vs → AllByRecursion Valid vs → flat_map spell xs ++ rest ≡ flat_map spell vs ++ behind → (v : X) × Valid v × ((more : List ℕ) × (rest ≡ spell v ++ more))
   next_spelled xs [] rest behind l all e = absurd (omega arith)
-  next_spelled [] (v ∷ vs) rest behind l all e = (v, all.0, (flat_map spell vs ++ behind, e ∙ append_assoc (spell v) (flat_map spell vs) behind))
+  next_spelled [] (v ∷ vs) rest behind l all e = search (rules, append_assoc)
   next_spelled (x ∷ xs) (v ∷ vs) rest behind l all e = next_spelled xs vs rest behind (omega arith) all.1 (next_cut x v xs vs rest behind e).1
 
   module _ (apart : (a b : X) → Valid a → Valid b → spell a ≡ spell b → a ≡ b) where

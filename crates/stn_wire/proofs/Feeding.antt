@@ -1,18 +1,18 @@
 -- Bytes of a piece after those that are held: up to five of them, and then as many as the front wants.
-use Rattle.std.proofs.{Common.{◌≡◌, ℕ, ◌+◌, ◌-◌, ◌<◌, ◌≤◌, min, List, ◌++◌, length, take, drop, Err, IfSome, refl, sym, ap, subst, ◌∙◌, ⊎_elim, arith, append_assoc, length-append, length-take, length-drop, take-append-drop}, lemmas.{Bool.cases_lt, List.{take_at, take_rest, drop_all, append-nil}}}
-use Rattle.stn_wire.{specs.{Frame.FrameContent, Reading.{IsWanted, IsJudged, IsFrameTaken}, declared.fault.WireFault.{WireFault, TheVariants.{Length, Kind, OldFrame, Memory}}, Front.{whole, faulty, unfinished, announced, IsFront, answered_front}}, proofs.Fronts.{shown, fault_more, whole_more, announced_more}}
+use Rattle.std.proofs.{Common.{rules, ◌≡◌, ℕ, ◌+◌, ◌-◌, ◌<◌, ◌≤◌, min, List, ◌++◌, length, take, drop, None, Err, IfSome, refl, sym, ap, subst, ◌∙◌, ⊎_elim, arith, append_assoc, length-append, length-take, length-drop, take-append-drop}, lemmas.{Bool.cases_lt, List.{take_at, take_rest, drop_all, append-nil}}}
+use Rattle.stn_wire.{specs.{Frame.FrameContent, Feeder.{holding, CompletesFrame}, Reading.{IsWanted, IsJudged, IsFrameTaken}, declared.fault.WireFault.{WireFault, TheVariants.{Length, Kind, Memory}}, Front.{whole, faulty, unfinished, announced, IsFront, answered_front}}, proofs.Fronts.{shown, fault_more, whole_more, announced_more}}
 
 -- unfinished bytes are fewer than their frame has
 pub unfinished_less : (bytes : List ℕ) → IsFront bytes unfinished → 5 ≤ length bytes → length bytes < 4 + announced bytes
-unfinished_less bytes h long = ⊎_elim (λ few. absurd (omega arith)) (λ more. ⊎_elim (λ four. absurd (omega arith)) (λ less. less.1) more.1) h
+unfinished_less bytes h long = omega arith
 
 module _ (held piece : List ℕ) (before : IsFront held unfinished) (opening : ℕ) (opening_is : opening ≡ min (5 - length held) (length piece)) (opened : List ℕ) (opened_is : opened ≡ held ++ take opening piece) where
   behind_opened : opened ++ drop opening piece ≡ held ++ piece
-  behind_opened = ap (λ l. l ++ drop opening piece) opened_is ∙ append_assoc held (take opening piece) (drop opening piece) ∙ ap (λ l. held ++ l) (take-append-drop opening piece)
+  behind_opened = search (rules, append_assoc, take-append-drop)
 
   -- a fault of the opening is one of all
   pub opening_fault : (fault : WireFault) → IsFront opened (faulty fault) → IsFront (held ++ piece) (faulty fault)
-  opening_fault fault h = subst (λ l. IsFront l (faulty fault)) behind_opened (fault_more opened (drop opening piece) fault h)
+  opening_fault fault h = search (rules, behind_opened, fault_more)
 
   pub opening_err : (A : Type 0) (fault : WireFault) (left : List ℕ) → IsJudged opened (Err fault) → IsFrameTaken {A = A} held piece (Err fault) left
   opening_err A Length left h = opening_fault Length h
@@ -20,7 +20,7 @@ module _ (held piece : List ℕ) (before : IsFront held unfinished) (opening : �
   opening_err A fault left h = absurd h
 
   opened_length : length opened ≡ length held + opening
-  opened_length = omega (arith, ap length opened_is, length-append held (take opening piece), length-take opening piece)
+  opened_length = search (rules, length-append)
 
   module _ (wanted : ℕ) (wants : IsWanted opened wanted) (used : ℕ) (used_is : used ≡ min (wanted - length opened) (length (take (length piece - opening) (drop opening piece)))) (filled : List ℕ) (filled_is : filled ≡ opened ++ take used (take (length piece - opening) (drop opening piece))) where
     used_least : used ≡ min (wanted - length opened) (length piece - opening)
@@ -45,7 +45,6 @@ module _ (held piece : List ℕ) (before : IsFront held unfinished) (opening : �
         ∙ take_at held (take opening piece ++ take used (take (length piece - opening) (drop opening piece))) (length held) refl
 
     pub filled_err : (A : Type 0) (fault : WireFault) → IfSome (answered_front {A = A} (Err fault)) (IsFront filled) → IsFrameTaken {A = A} held piece (Err fault) filled
-    filled_err A OldFrame h = absurd h
     filled_err A Memory h = filled_kept
     filled_err A fault h = filled_fault fault h
 
@@ -65,7 +64,7 @@ module _ (held piece : List ℕ) (before : IsFront held unfinished) (opening : �
         omega (arith, wide, same, more, unfinished_less held before many, filled_length, opened_length, used_least, opening_is))
         (cases_lt (length held) 5)
 
-    pub all_used : IsFront filled unfinished → opening + used ≡ length piece
+    all_used : IsFront filled unfinished → opening + used ≡ length piece
     all_used h =
         ⊎_elim
         (λ few. omega (arith, opening_is, opened_length, used_least))
@@ -81,11 +80,9 @@ module _ (held piece : List ℕ) (before : IsFront held unfinished) (opening : �
         subst (λ k. IsFront (held ++ piece) (whole frame k)) is (subst (λ l. IsFront l (whole frame n)) behind_filled (whole_more filled (drop used (drop opening piece)) frame n h))
 
     -- where none came, all of the piece is held
-    pub filled_is_all : IsFront filled unfinished → filled ≡ held ++ piece
-    filled_is_all h =
-        sym (append-nil filled)
+    pub filled_none : (A : Type 0) → IsFront filled unfinished → CompletesFrame {A = A} held piece (opening + used) None (holding filled)
+    filled_none A h =
+        let all : filled ≡ held ++ piece = sym (append-nil filled)
         ∙ ap (λ l. filled ++ l) (sym (drop_all used (drop opening piece) (omega (arith, length-drop opening piece, all_used h))))
-        ∙ behind_filled
-
-    pub filled_unfinished : IsFront filled unfinished → IsFront (held ++ piece) unfinished
-    filled_unfinished h = subst (λ l. IsFront l unfinished) (filled_is_all h) h
+        ∙ behind_filled in
+        (subst (λ l. IsFront l unfinished) all h, all_used h, ap holding all)

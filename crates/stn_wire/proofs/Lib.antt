@@ -6,7 +6,5 @@ pub mod States
 pub mod Feeding
 pub mod Sources
 pub mod OldSides
-pub mod OneFeeding
 pub mod Streams
-pub mod Cuts
 pub mod SaidBounds

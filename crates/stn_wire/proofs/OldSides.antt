@@ -1,8 +1,8 @@
 -- The records of old frames, as they are written and as they are read.
-use Rattle.std.{proofs.{Common.{rules, ◌≡◌, ◌⊎◌, ℤ, ◌≤ℤ◌, refl, ap, inr, arith}, lemmas.Int.ints}, specs.Prelude.neg_ℤ}
+use Rattle.std.{proofs.Common.{rules, ◌≡◌, ◌⊎◌, ℤ, ◌≤ℤ◌, arith}, specs.Prelude.neg_ℤ}
 use Rattle.stn_time.specs.Time.{horizon}
-use Rattle.stn_records.specs.declared.record.{Mark.{Mark, TheVariants.{Plain, Done}}, Record.Record}
-use Rattle.stn_wire.specs.{declared.layout.Layout.TheVariants.Old, Apart.gap_within, Spelling.{four, old_horizon, side_bytes, IsLow, IsHigh, IsRecord, record_bytes}, OldSides.{IsWritten, written_side, written_bytes, low_read, high_read, as_read}}
+use Rattle.stn_records.specs.declared.record.{Mark.Mark, Record.Record}
+use Rattle.stn_wire.specs.{declared.layout.Layout.TheVariants.Old, Apart.gap_within, Spelling.{old_horizon, side_bytes, IsLow, IsHigh, IsRecord, record_bytes}, OldSides.{IsWritten, written_side, written_bytes, low_read, high_read, as_read}}
 
 -- the side lies within the old horizon
 pub record IsWithin (side : ℤ) : Type 0 where
@@ -15,7 +15,7 @@ pub record IsSideRead (Valid : ℤ → Type 0) (written read : ℤ) : Type 0 whe
   pub spelled : side_bytes Old read ≡ written_side written
 
 kept : (side : ℤ) → IsWithin side → side_bytes Old side ≡ written_side side
-kept side within = ap four (gap_within Old side within.greatest)
+kept side within = cc (gap_within Old side within.greatest)
 
 -- what is written is read
 pub record_read : (written : Record) → IsWritten written → IsRecord Old (as_read written) × (record_bytes Old (as_read written) ≡ written_bytes written)
@@ -28,18 +28,16 @@ record IsSideWritten (reading : ℤ → ℤ) (end read written : ℤ) : Type 0 w
   pub is : read ≡ reading written
 
 end_within : IsWithin old_horizon
-end_within = record { least = omega (arith, ints); greatest = omega (arith, ints) }
+end_within = omega arith
 
 least_within : IsWithin (neg_ℤ old_horizon)
-least_within = record { least = omega (arith, ints); greatest = omega (arith, ints) }
+least_within = omega arith
 
 low_written : (mark : Mark) (read : ℤ) → IsLow Old mark read → (written : ℤ) × IsSideWritten (low_read mark) (neg_ℤ old_horizon) read written
-low_written Done read is = (read, record { within = record { least = is.0; greatest = is.1 }; kept = inr refl; is = refl })
-low_written Plain read is = search (rules, least_within, ints)
+low_written mark read is = search (rules, least_within)
 
 high_written : (mark : Mark) (read : ℤ) → IsHigh Old mark read → (written : ℤ) × IsSideWritten (high_read mark) old_horizon read written
-high_written Done read is = (read, record { within = record { least = is.0; greatest = is.1 }; kept = inr refl; is = refl })
-high_written Plain read is = search (rules, end_within, ints)
+high_written mark read is = search (rules, end_within)
 
 ordered : (lo hi low high : ℤ) → lo ≤ℤ hi → IsWithin low → IsWithin high → (low ≡ neg_ℤ old_horizon) ⊎ (low ≡ lo) → (high ≡ old_horizon) ⊎ (high ≡ hi) → low ≤ℤ high
 ordered lo hi low high h a b p q = search rules

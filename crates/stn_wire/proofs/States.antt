@@ -1,21 +1,15 @@
 -- The bytes of a state.
-use Rattle.std.{proofs.Common.{◌≡◌, ◌≢◌, ◌==◌, ℕ, ◌+◌, ◌*◌, ◌≤◌, Bool, true, false, List, [], ◌∷◌, ◌++◌, length, Option, Some, None, Result, Ok, Err, IfSome, IfOk, refl, sym, ap, subst, ◌∙◌, arith, append-nil, length-append}, specs.{FinMap.entries, List.flat_map}}
+use Rattle.std.{proofs.Common.{rules, ◌≡◌, ◌≢◌, ◌==◌, ℕ, ◌+◌, ◌*◌, ◌≤◌, Bool, true, false, List, [], ◌∷◌, ◌++◌, length, Option, Some, None, Result, Ok, Err, IfSome, IfOk, refl, sym, ap, subst, ◌∙◌, arith, append-nil, length-append}, specs.{FinMap.entries, List.flat_map}}
 use Rattle.stn_records.{specs.{Id.SiteCounter, declared.record.Record.Record, Content.{Content, IsSound}}, proofs.Limits.{additions_within, tombstones_within, replacements_within}}
-use Rattle.stn_wire.{specs.{Spelling.{entry_bytes, IsEntry, entry_width, tomb_bytes, IsTomb, amendment_bytes, amendments_bytes, AreIds, counted, AreCounted}, Apart.{entry_apart, entry_sized, tomb_apart, amendment_apart}, declared.layout.Layout.{Layout, TheVariants.New}, Frame.{records, body_of, state_bytes, most_body}, Reading.{IsReadFrom, AreEntries, IsStateWith, counted_then, entries_then}}, proofs.Chunks.{length-flat_map, counted_cut}}
+use Rattle.stn_wire.{specs.{Spelling.{entry_bytes, IsEntry, entry_width, tomb_bytes, IsTomb, amendment_bytes, amendments_bytes, AreIds, counted, AreCounted}, Apart.{entry_apart, entry_sized, tomb_apart, amendment_apart}, declared.layout.Layout.Layout, Frame.{records, body_of, state_bytes, most_body}, Reading.{IsReadFrom, AreEntries, IsStateWith, counted_then, entries_then}}, proofs.Chunks.{length-flat_map, counted_cut}}
 
 -- an entry of an amendment
 abbrev pub Entry : Type 0
 Entry = SiteCounter × SiteCounter
 
 -- a sound state has few entries
-pub few_additions : (s : Content) → IsSound s → length (entries s.additions) ≤ 4096
-few_additions s sound = omega (arith, additions_within s)
-
-pub few_tombstones : (s : Content) → IsSound s → length (entries s.tombstones) ≤ 4096
-few_tombstones s sound = omega (arith, tombstones_within s)
-
-pub few_replacements : (s : Content) → IsSound s → length (entries s.replacements) ≤ 4096
-few_replacements s sound = omega (arith, replacements_within s sound.amends)
+pub few_entries : (s : Content) → IsSound s → (length (entries s.additions) ≤ 4096) × (length (entries s.tombstones) ≤ 4096) × (length (entries s.replacements) ≤ 4096)
+few_entries s sound = omega (arith, additions_within, tombstones_within, replacements_within)
 
 -- how many bytes entries have
 pub amendments_long : (entry : Entry) (rest : List Entry) → length (amendments_bytes (entry ∷ rest)) ≡ 2 + length (entry ∷ rest) * 8
@@ -23,7 +17,7 @@ amendments_long entry rest = omega (arith, length-flat_map AreIds amendment_byte
 
 pub amendments_short : (l : List Entry) → length (amendments_bytes l) ≤ 2 + length l * 8
 amendments_short [] = omega arith
-amendments_short (entry ∷ rest) = omega (arith, amendments_long entry rest)
+amendments_short (entry ∷ rest) = search (rules, amendments_long)
 
 pub amendments_sized : (l : List Entry) → (length l == 0) ≡ false → length (amendments_bytes l) ≡ 2 + length l * 8
 amendments_sized [] some = absurd cc
@@ -36,14 +30,12 @@ length-state_bytes layout s =
 
 -- so its frame is never too long
 pub state_fits : (s : Content) → IsSound s → length (body_of (records s)) ≤ most_body
-state_fits s sound = omega (arith, length-state_bytes New s, few_additions s sound, few_tombstones s sound, few_replacements s sound, amendments_short (entries s.replacements))
+state_fits s sound = omega (arith, length-state_bytes, few_entries, amendments_short)
 
 -- ---- entries
 
 pub entries_counted : (amended : Bool) (l : List Entry) → AreEntries amended l → AreCounted AreIds l
-entries_counted true l are = are.1
-entries_counted false [] are = record { few = omega arith; each = tt }
-entries_counted false (entry ∷ rest) are = absurd cc
+entries_counted amended l are = search rules
 
 entries_cut : (amended : Bool) (l m : List Entry) (x y : List ℕ) → AreEntries amended l → AreEntries amended m → amendments_bytes l ++ x ≡ amendments_bytes m ++ y → (l ≡ m) × (x ≡ y)
 entries_cut false [] [] x y p q e = (refl, e)

@@ -1,6 +1,6 @@
 -- A stream of frames that comes in pieces.
 use Rattle.std.specs.Prelude.{◌≡◌, ◌≢◌, ℕ, ◌+◌, ◌≤◌, List, [], ◌++◌, length, Option, Some, None, Result, Ok, Err}
-use Rattle.stn_wire.specs.{Frame.content, Front.{whole, faulty, unfinished, announced, IsFront}, declared.{fault.WireFault.{WireFault, TheVariants.{Length, Kind, Body, OldFrame, Memory}}, feeder.Fed.Fed, frame.Frame.Frame}}
+use Rattle.stn_wire.specs.{Frame.content, Front.{whole, faulty, unfinished, announced, IsFront}, declared.{fault.WireFault.{WireFault, TheVariants.{OldFrame, Memory}}, feeder.Fed.Fed, frame.Frame.Frame}}
 
 -- the bytes of an unfinished frame, or the fault that was met
 pub record FeederState : Type 0 where
@@ -23,10 +23,8 @@ CompletesFrame held piece used None new = IsFront (held ++ piece) unfinished × 
 abbrev pub IsFed : {A : Type 0} → List ℕ → List ℕ → Result (Fed A) WireFault → FeederState → Type 0
 IsFed held piece (Ok fed) new = CompletesFrame held piece fed.used fed.frame new
 IsFed held piece (Err Memory) new = new ≡ holding held
-IsFed held piece (Err Length) new = IsFront (held ++ piece) (faulty Length) × (new ≡ broken_by Length)
-IsFed held piece (Err Kind) new = IsFront (held ++ piece) (faulty Kind) × (new ≡ broken_by Kind)
-IsFed held piece (Err Body) new = IsFront (held ++ piece) (faulty Body) × (new ≡ broken_by Body)
 IsFed held piece (Err OldFrame) new = ⊥
+IsFed held piece (Err fault) new = IsFront (held ++ piece) (faulty fault) × (new ≡ broken_by fault)
 
 -- what is held is unfinished, and nothing is after a fault
 abbrev pub IsFeeder : List ℕ → Option WireFault → Type 0

@@ -41,8 +41,5 @@ BeginsFrame bytes = (frame : FrameContent) × (n : ℕ) × IsFront bytes (whole 
 abbrev pub answered_front : {A : Type 0} → Result (Option (Frame A × ℕ)) WireFault → Option Front
 answered_front (Ok None) = Some unfinished
 answered_front (Ok (Some found)) = Some (whole (content found.0) found.1)
-answered_front (Err Length) = Some (faulty Length)
-answered_front (Err Kind) = Some (faulty Kind)
-answered_front (Err Body) = Some (faulty Body)
-answered_front (Err OldFrame) = Some (faulty OldFrame)
 answered_front (Err Memory) = None
+answered_front (Err fault) = Some (faulty fault)

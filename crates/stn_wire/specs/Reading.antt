@@ -2,7 +2,7 @@
 -- What a reader answers: the value that the bytes spell, or that they spell none.
 use Rattle.std.specs.{Prelude.{◌≡◌, ◌≢◌, ℕ, ◌+◌, ◌<◌, ◌≤◌, Bool, true, false, List, [], ◌++◌, take, length, slice_index, Option, Some, None, Result, Ok, Err}, List.{flat_map, AllByRecursion}, FinMap.entries}
 use Rattle.stn_records.specs.{Id.SiteCounter, Content.Content}
-use Rattle.stn_wire.specs.{declared.{layout.Layout.Layout, fault.WireFault.{WireFault, TheVariants.{Length, Kind, Body, OldFrame, Memory}}, feeder.Fed.Fed}, Frame.{FrameContent, IsState, HasSpelling, body_of}, Front.{announced, IsLength, IsKind, IsFront, faulty}, Feeder.{holding, CompletesFrame}, Spelling.{measured, counted, AreCounted, AreIds, amendments_bytes}}
+use Rattle.stn_wire.specs.{declared.{layout.Layout.Layout, fault.WireFault.{WireFault, TheVariants.{Body, Memory}}, feeder.Fed.Fed}, Frame.{FrameContent, IsState, HasSpelling, body_of}, Front.{announced, IsLength, IsKind, IsFront, faulty}, Feeder.{holding, CompletesFrame}, Spelling.{measured, counted, AreCounted, AreIds, amendments_bytes}}
 
 -- the bytes spell the value that was read; where none was read, they spell none
 abbrev pub IsReadFrom : {V : Type 0} → (V → Type 0) → (V → List ℕ) → List ℕ → Option V → Type 0
@@ -50,17 +50,11 @@ pub record IsWanted (bytes : List ℕ) (wanted : ℕ) : Type 0 where
 
 abbrev pub IsJudged : List ℕ → Result ℕ WireFault → Type 0
 IsJudged bytes (Ok wanted) = IsWanted bytes wanted
-IsJudged bytes (Err Length) = IsFront bytes (faulty Length)
-IsJudged bytes (Err Kind) = IsFront bytes (faulty Kind)
 IsJudged bytes (Err Body) = ⊥
-IsJudged bytes (Err OldFrame) = ⊥
-IsJudged bytes (Err Memory) = ⊥
+IsJudged bytes (Err fault) = IsFront bytes (faulty fault)
 
 -- what taking bytes of a piece answers, and what is held then; if memory runs out, more may be held after the bytes of before
 abbrev pub IsFrameTaken : {A : Type 0} → List ℕ → List ℕ → Result (Fed A) WireFault → List ℕ → Type 0
 IsFrameTaken held piece (Ok fed) left = CompletesFrame held piece fed.used fed.frame (holding left)
 IsFrameTaken held piece (Err Memory) left = take (length held) left ≡ held
-IsFrameTaken held piece (Err Length) left = IsFront (held ++ piece) (faulty Length)
-IsFrameTaken held piece (Err Kind) left = IsFront (held ++ piece) (faulty Kind)
-IsFrameTaken held piece (Err Body) left = IsFront (held ++ piece) (faulty Body)
-IsFrameTaken held piece (Err OldFrame) left = ⊥
+IsFrameTaken held piece (Err fault) left = IsFront (held ++ piece) (faulty fault)

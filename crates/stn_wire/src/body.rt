@@ -32,28 +32,19 @@ pub(crate) fn read_body<A: Allocator + Copy>(
 fn read_old_hello<A: Allocator + Copy>(alloc: A, rest: &[u8]) -> Result<Option<Frame<A>>, Memory>
     ensures { IfOk result (λ r. IsBodyReading (1 ∷ rest.now) (option_map content r)) }
 {
-    match read_source(alloc, rest)? {
-        Some(source) => Ok(Some(Frame::OldHello(source))),
-        None => Ok(None),
-    }
+    Ok(read_source(alloc, rest)?.map(|source| Frame::OldHello(source)))
 }
 
 fn read_old_records<A: Allocator + Copy>(alloc: A, rest: &[u8]) -> Result<Option<Frame<A>>, Memory>
     ensures { IfOk result (λ r. IsBodyReading (2 ∷ rest.now) (option_map content r)) }
 {
-    match read_state(alloc, Layout::Old, false, rest)? {
-        Some(state) => Ok(Some(Frame::OldRecords(state))),
-        None => Ok(None),
-    }
+    Ok(read_state(alloc, Layout::Old, false, rest)?.map(|state| Frame::OldRecords(state)))
 }
 
 fn read_hello<A: Allocator + Copy>(alloc: A, rest: &[u8]) -> Result<Option<Frame<A>>, Memory>
     ensures { IfOk result (λ r. IsBodyReading (7 ∷ rest.now) (option_map content r)) }
 {
-    match read_source(alloc, rest)? {
-        Some(source) => Ok(Some(Frame::Hello(source))),
-        None => Ok(None),
-    }
+    Ok(read_source(alloc, rest)?.map(|source| Frame::Hello(source)))
 }
 
 fn read_records<A: Allocator + Copy>(
@@ -63,10 +54,7 @@ fn read_records<A: Allocator + Copy>(
 ) -> Result<Option<Frame<A>>, Memory>
     ensures { IfOk result (λ r. IsBodyReading ((if amended then 16 else 8) ∷ rest.now) (option_map content r)) }
 {
-    match read_state(alloc, Layout::New, amended, rest)? {
-        Some(state) => Ok(Some(Frame::Records(state))),
-        None => Ok(None),
-    }
+    Ok(read_state(alloc, Layout::New, amended, rest)?.map(|state| Frame::Records(state)))
 }
 
 fn read_ask<A: Allocator>(rest: &[u8]) -> Option<Frame<A>>

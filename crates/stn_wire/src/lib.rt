@@ -7,7 +7,7 @@ pub use fault::WireFault;
 pub use feeder::{Fed, Feeder};
 pub use frame::{Frame, Said};
 pub use front::decode;
-pub use laws::{old_sides, one_feeding, one_front, one_spelling, some_front};
+pub use laws::old_sides;
 pub use stream::{FrameFault, FrameReader, Next};
 
 mod body;

@@ -1,17 +1,13 @@
-use Rattle.std.proofs.lemmas.List.{length-map}
-use Rattle.std.proofs.Common.{length-append}
-use Rattle.std.proofs.lemmas.Grind.{common_steps}
-use Rattle.std.proofs.{Common.{rules, length, ap, sym, ◌∙◌, arith}, lemmas.Map.Made.distinct_count-le}
-use Rattle.stn_records.proofs.Counts.{one_counted, fewer_left, none_left}
+use Rattle.std.proofs.{Common.{rules, sym, ◌∙◌, arith, length-append}, lemmas.{Grind.common_steps, List.length-map, Map.Made.distinct_count-le}}
+use Rattle.stn_records.proofs.Counts.{one_counted, none_left}
 use Rattle.stn_records.proofs.sorted.count_ids.Goals as goal
 
 pub overflow_add-count : goal.overflow_add-count
 overflow_add-count g c = grind (arith, common_steps, distinct_count-le, length-append, length-map)
 
+-- one id is passed
 pub loop-id-smaller : goal.loop-id-smaller
-loop-id-smaller g c =
-    let fewer = fewer_left c.loop-id.rest_a.now c.loop-id.rest_b.now c.loop-id.rest_c.now c.loop-id.rest_d.now c.in-Some.id (sym c.least_first.ensures ∙ c.in-Some.is) in
-    omega (arith, fewer, ap length c.past-rest_a.ensures, ap length c.past-rest_b.ensures, ap length c.past-rest_c.ensures, ap length c.past-rest_d.ensures)
+loop-id-smaller g c = search (rules, one_counted)
 
 pub loop-id-preserved : goal.loop-id-preserved
 loop-id-preserved g c = search (rules, one_counted)

@@ -1,4 +1,4 @@
-use Rattle.std.{proofs.Common.{◌≡◌, true, ◌+◌, length}, specs.{Set.distinct_count, FinMap.is_sorted}}
+use Rattle.std.{proofs.Common.{◌≡◌, true, ◌+◌}, specs.{Set.distinct_count, FinMap.is_sorted}}
 use Rattle.stn_records.{specs.{Id.id_cmp, Content.same_ids}, proofs.Counts.all_keys}
 use Rattle.stn_records.proofs.sorted.count_ids.Given as goal
 
@@ -12,4 +12,4 @@ invariant-loop-id g l = record {
 }
 
 abbrev pub decreases-loop-id : goal.decreases-loop-id
-decreases-loop-id g l = length l.rest_a + length l.rest_b + length l.rest_c + length l.rest_d
+decreases-loop-id g l = distinct_count same_ids (all_keys l.rest_a l.rest_b l.rest_c l.rest_d)

@@ -1,5 +1,4 @@
-use Rattle.std.proofs.lemmas.Grind.{common_steps}
-use Rattle.std.proofs.Common.{arith, [], inl, inr, append_assoc}
+use Rattle.std.proofs.{lemmas.Grind.common_steps, Common.{arith, [], inl, inr, append_assoc}}
 use Rattle.stn_records.{specs.{Id.id_cmp, Sorted.merge}, proofs.{Entries.merge_ends, sorted.merged.Goals.{in_default, in_default-2, in-Less, in-Equal, in-Greater}}}
 use Rattle.stn_records.proofs.sorted.merged.Goals as goal
 

@@ -1,5 +1,4 @@
-use Rattle.std.proofs.lemmas.List.Concat.{flat_map-append}
-use Rattle.std.proofs.Common.{rules}
+use Rattle.std.proofs.{lemmas.List.Concat.flat_map-append, Common.rules}
 use Rattle.stn_replica.proofs.closest.empty_rows.Goals as goal
 
 pub loop-preserved : goal.loop-preserved

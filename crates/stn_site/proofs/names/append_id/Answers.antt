@@ -1,8 +1,6 @@
-use Rattle.std.proofs.Common.{length-append}
-use Rattle.stn_site.proofs.Lengths.{short_number}
-use Rattle.std.proofs.Common.{rules}
+use Rattle.std.proofs.Common.{length-append, rules}
+use Rattle.stn_site.proofs.Lengths.{short_number, length_appended_ok}
 use Rattle.stn_records.specs.Id.{id_text}
-use Rattle.stn_site.proofs.Lengths.{length_appended_ok}
 use Rattle.stn_site.proofs.names.append_id.Goals as goal
 
 pub returns-clause-short : goal.returns-clause-short

@@ -1,5 +1,4 @@
-use Rattle.std.proofs.{Common.arith, lemmas.Grind.common_steps}
-use Rattle.std.proofs.Common.{rules}
+use Rattle.std.proofs.{Common.{arith, rules}, lemmas.Grind.common_steps}
 use Rattle.stn_site.proofs.names.append_number.Goals as goal
 
 pub returns-clause-short : goal.returns-clause-short

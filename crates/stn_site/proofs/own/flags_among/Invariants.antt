@@ -1,7 +1,6 @@
 use Rattle.std.proofs.Common.{◌≡◌, ℕ, ◌≤◌, ◌<◌, ◌||◌, not, false, length, get_or}
 use Rattle.stn_net.specs.Event.{most_events}
-use Rattle.stn_site.specs.Report.{is_done}
-use Rattle.stn_site.specs.Own.{is_own}
+use Rattle.stn_site.specs.{Report.is_done, Own.is_own}
 use Rattle.stn_site.proofs.own.flags_among.Given as goal
 
 abbrev pub invariant-loop-number : goal.invariant-loop-number

@@ -1,5 +1,4 @@
-use Rattle.std.proofs.lemmas.List.{take_all}
-use Rattle.std.{proofs.Common.{rules, refl, subst, All}, specs.FinMap.entries}
+use Rattle.std.{proofs.{lemmas.List.take_all, Common.{rules, refl, subst, All}}, specs.FinMap.entries}
 use Rattle.stn_net.specs.Difference.{NamesEvents}
 use Rattle.stn_site.proofs.Places.{walked_are, seen_with}
 use Rattle.stn_site.proofs.site_plan.all_name_events.Goals as goal

@@ -1,5 +1,4 @@
-use Rattle.std.proofs.lemmas.Int.Digits.{digits_value_more}
-use Rattle.std.proofs.{Common.{rules, arith}, lemmas.Str.Parse.digit_at}
+use Rattle.std.proofs.{lemmas.{Int.Digits.digits_value_more, Str.Parse.digit_at}, Common.{rules, arith}}
 use Rattle.stn_time.proofs.reading.seconds.Goals as goal
 
 pub overflow_sub-digit : goal.overflow_sub-digit

@@ -1,5 +1,5 @@
 use Rattle.std.proofs.{Common.{rules, Err, IfSome, ap, subst}, lemmas.Result.err_from_is_err_and}
-use Rattle.stn_wire.{specs.{Feeder.holding, Frame.content, Front.{IsFront, whole, unfinished, answered_front}, Reading.IsWanted}, proofs.Feeding.{opening_err, filled_err, filled_whole, all_used, filled_is_all, filled_unfinished}}
+use Rattle.stn_wire.{specs.{Feeder.holding, Frame.content, Front.{IsFront, whole, unfinished, answered_front}, Reading.IsWanted}, proofs.Feeding.{opening_err, filled_err, filled_whole, filled_none}}
 use Rattle.stn_wire.proofs.feeder.take_frame.Goals as goal
 
 pub returns-in_err-length : goal.returns-in_err-length
@@ -28,12 +28,6 @@ pub returns-in-None : goal.returns-in-None
 returns-in-None g c =
     let wants = subst (λ l. IsWanted l c.in_ok-length.length) c.deref.ensures.value c.in_ok-length.ensures in
     let read = rw c.in-None.is at c.in_ok-frame.ensures in
-    let found = subst (λ l. IsFront l unfinished) c.deref-2.ensures.value read in (
-      filled_unfinished c.args.held.now.items c.args.piece.now c.requires c.in_ok-opening.opening c.in_ok-opening.ensures.taken c.fill.new.held.items c.in_ok-opening.ensures.filled
-          c.in_ok-length.length wants c.in_ok-used.field-0 c.in_ok-used.ensures.taken c.fill-2.new.held.items c.in_ok-used.ensures.filled found,
-      all_used c.args.held.now.items c.args.piece.now c.requires c.in_ok-opening.opening c.in_ok-opening.ensures.taken c.fill.new.held.items c.in_ok-opening.ensures.filled
-          c.in_ok-length.length wants c.in_ok-used.field-0 c.in_ok-used.ensures.taken c.fill-2.new.held.items c.in_ok-used.ensures.filled found,
-      ap holding
-          (filled_is_all c.args.held.now.items c.args.piece.now c.requires c.in_ok-opening.opening c.in_ok-opening.ensures.taken c.fill.new.held.items c.in_ok-opening.ensures.filled
-          c.in_ok-length.length wants c.in_ok-used.field-0 c.in_ok-used.ensures.taken c.fill-2.new.held.items c.in_ok-used.ensures.filled found),
-    )
+    let found = subst (λ l. IsFront l unfinished) c.deref-2.ensures.value read in
+    filled_none c.args.held.now.items c.args.piece.now c.requires c.in_ok-opening.opening c.in_ok-opening.ensures.taken c.fill.new.held.items c.in_ok-opening.ensures.filled
+    c.in_ok-length.length wants c.in_ok-used.field-0 c.in_ok-used.ensures.taken c.fill-2.new.held.items c.in_ok-used.ensures.filled g.row.A.Denot found

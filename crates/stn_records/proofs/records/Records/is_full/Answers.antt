@@ -1,13 +1,9 @@
-use Rattle.std.proofs.{Common.{◌+◌, ◌<◌, length, arith}, lemmas.Bool.{leb-true, le-leb}}
-use Rattle.stn_records.{specs.Content.{most_known, known_count}, proofs.Outcomes.not_full}
+use Rattle.std.proofs.{Common.{◌≡◌, ◌↔◌, ltb, ap, subst, ◌∙◌, arith, IsTrue}, lemmas.Bool.{ltb-true, lt-ltb}}
+use Rattle.stn_records.specs.Content.{IsSound, known_count}
 use Rattle.stn_records.proofs.records.Records.is_full.Goals as goal
 
--- both lists are too short
-pub returns-else-added-replaced-ge-MOST_KNOWN-clause-full : goal.returns-else-added-replaced-ge-MOST_KNOWN-clause-full
-returns-else-added-replaced-ge-MOST_KNOWN-clause-full g c =
-    let few : known_count c.args.self.now < most_known = not_full c.args.self.now c.added-added.result.now c.replaced-replaced.result.now c.added-added.ensures.value c.replaced-replaced.ensures.value c.if-added-replaced-ge-MOST_KNOWN.false in
-    (λ long. let many = leb-true most_known (length c.added-added.result.now + length c.replaced-replaced.result.now) long in absurd (omega arith), λ full. absurd (omega arith))
-
--- the ids are counted
-pub returns-then-added-replaced-ge-MOST_KNOWN-clause-full : goal.returns-then-added-replaced-ge-MOST_KNOWN-clause-full
-returns-then-added-replaced-ge-MOST_KNOWN-clause-full g c = omega (arith, leb-true, le-leb)
+pub returns-clause-full : goal.returns-clause-full
+returns-clause-full g c =
+    let sound = subst IsSound c.self.view_is c.self.invariant in
+    let told = c.knows_more_than.ensures ∙ ap (λ s. ltb 4095 (known_count s)) c.self.view_is in
+    rw told (λ many. omega (arith, ltb-true 4095 _ many, sound.limited), λ full. lt-ltb 4095 _ (omega (arith, full)))

@@ -1,8 +1,5 @@
-use Rattle.stn_records.proofs.Outcomes.{amendment_sound}
-use Rattle.stn_records.proofs.OneItem.{amendment_again}
-use Rattle.stn_records.proofs.Amending.{no_clash}
-use Rattle.std.proofs.lemmas.Grind.{common_steps}
-use Rattle.std.proofs.Common.{rules, arith}
+use Rattle.stn_records.proofs.{Outcomes.amendment_sound, OneItem.amendment_again, Amending.no_clash}
+use Rattle.std.proofs.{lemmas.Grind.common_steps, Common.{rules, arith}}
 use Rattle.stn_records.proofs.records.Records.put_amendment.Goals as goal
 
 -- the entry is there, and so its record

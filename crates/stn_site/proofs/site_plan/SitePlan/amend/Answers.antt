@@ -1,5 +1,4 @@
-use Rattle.std.proofs.lemmas.Grind.{common_steps}
-use Rattle.std.proofs.Common.{arith, rules, sym, ap, subst, ◌∙◌}
+use Rattle.std.proofs.{lemmas.Grind.common_steps, Common.{arith, rules, sym, ap, subst, ◌∙◌}}
 use Rattle.stn_net.specs.Difference.{IsBoundWithin}
 use Rattle.stn_lift.specs.PlanSource.{events_of}
 use Rattle.stn_records.specs.Content.{is_known}

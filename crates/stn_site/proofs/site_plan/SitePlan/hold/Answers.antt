@@ -7,11 +7,10 @@ use Rattle.stn_site.proofs.site_plan.SitePlan.hold.Goals as goal
 
 pub invariant_of-self-2 : goal.invariant_of-self-2
 invariant_of-self-2 g c =
-    let unknown = rw (← c.self.view_is) at c.in_ok-id.ensures.unknown in
     let named = subst (λ (h : Held). NamesEvents (events_of h.source) c.args.bound) (sym c.self.view_is) c.requires.named in
     let one : Record = record { mark = c.args.mark; bound = c.args.bound } in
     rw c.in_ok-add.ensures.added
-    (named_added c.self.inside.records (with_record c.self.inside.records c.in_ok-id.id one) c.in_ok-id.id one unknown refl (events_of (rc_value c.self.inside.base)) c.self.invariant named)
+    (named_added (events_of (rc_value c.self.inside.base)) c.self.inside.records (with_record c.self.inside.records c.in_ok-id.id one) c.in_ok-id.id one refl c.self.invariant named)
 
 pub returns-in_err-add : goal.returns-in_err-add
 returns-in_err-add g c =
@@ -20,13 +19,12 @@ returns-in_err-add g c =
     let left = rw (← c.self.view_is) at c.in_ok-id.ensures.left in
     let unknown = rw (← c.self.view_is) at c.in_ok-id.ensures.unknown in
     let one : Record = record { mark = c.args.mark; bound = c.args.bound } in
-    record {
-      leaves = rw p.1 tt;
-      accepted = rw p.1 tt;
-      fault = rw (p.1, p.2, ← c.self.view_is)
-          (told (addition_refusal held.state c.in_ok-id.id one) (next_refusal held) (next_added held one c.in_ok-id.id left unknown) c.in_err-add.field-0.0 c.in_err-add.ensures.fault);
-      kept = rw p.1 ((λ i. record { site = c.self.inside.site; source = rc_value c.self.inside.base; state = c.in_err-add.ensures.kept i; steps = 0 }) ∙ c.self.view_is);
-    }
+    rw (p.1, p.2, ← c.self.view_is) (record {
+      leaves = tt;
+      accepted = tt;
+      fault = told (addition_refusal held.state c.in_ok-id.id one) (next_refusal held) (next_added held one c.in_ok-id.id left unknown) c.in_err-add.field-0.0 c.in_err-add.ensures.fault;
+      kept = λ i. record held { state = c.in_err-add.ensures.kept i };
+    })
 
 pub returns : goal.returns
 returns g c =

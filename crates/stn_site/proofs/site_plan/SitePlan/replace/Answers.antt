@@ -19,20 +19,18 @@ returns-in_err-amend g c =
     let left = rw (← c.self.view_is) at c.in_ok-id.ensures.left in
     let unknown = rw (← c.self.view_is) at c.in_ok-id.ensures.unknown in
     let known = rw (← c.self.view_is) at c.requires.known in
-    record {
-      leaves = rw p.1 tt;
-      accepted = rw p.1 tt;
-      fault = rw (p.1, p.2, ← c.self.view_is)
-          (told (amendment_refusal held.state c.in_ok-id.id c.args.old c.args.bound) (next_refusal held) (amended_next held c.in_ok-id.id c.args.old c.args.bound c.state.ensures.sound left unknown known) c.in_err-amend.field-0.0 c.in_err-amend.ensures.fault);
-      kept = rw p.1 ((λ i. record { site = c.self.inside.site; source = rc_value c.self.inside.base; state = c.in_err-amend.ensures.kept i; steps = 0 }) ∙ c.self.view_is);
-    }
+    rw (p.1, p.2, ← c.self.view_is) (record {
+      leaves = tt;
+      accepted = tt;
+      fault = told (amendment_refusal held.state c.in_ok-id.id c.args.old c.args.bound) (next_refusal held) (amended_next held c.in_ok-id.id c.args.old c.args.bound c.state.ensures.sound left unknown known) c.in_err-amend.field-0.0 c.in_err-amend.ensures.fault;
+      kept = λ i. record held { state = c.in_err-amend.ensures.kept i };
+    })
 
 pub invariant_of-self-2 : goal.invariant_of-self-2
 invariant_of-self-2 g c =
-    let unknown = rw (← c.self.view_is) at c.in_ok-id.ensures.unknown in
     let bound_named = subst (λ (h : Held). NamesEvents (events_of h.source) c.args.bound) (sym c.self.view_is) c.requires.named in
-    named_added c.self.inside.records c.amend.new.self c.in_ok-id.id (plain c.args.bound) unknown (ap (λ (s : Content). s.additions) c.in_ok-amend.ensures.amended)
-    (events_of (rc_value c.self.inside.base)) c.self.invariant bound_named
+    named_added (events_of (rc_value c.self.inside.base)) c.self.inside.records c.amend.new.self c.in_ok-id.id (plain c.args.bound) (ap (λ (s : Content). s.additions) c.in_ok-amend.ensures.amended)
+    c.self.invariant bound_named
 
 pub returns : goal.returns
 returns g c =

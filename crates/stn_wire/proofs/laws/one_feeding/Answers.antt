@@ -1,5 +1,0 @@
-use Rattle.stn_wire.proofs.OneFeeding.{one_feeding_lem}
-use Rattle.stn_wire.proofs.laws.one_feeding.Goals as goal
-
-pub returns : goal.returns
-returns g c = λ one other last final. one_feeding_lem one other last final
