@@ -1,6 +1,6 @@
 -- How many bounds a plan has.
-use Rattle.std.{proofs.{Common.{rules, ◌≡◌, ℕ, ◌+◌, ◌-◌, ◌*◌, ◌<◌, ◌≤◌, ℤ, zero, suc, Bool, true, false, not, ◌&&◌, eqb, nat_lt, cond, [], ◌∷◌, ◌++◌, length, refl, arith, length-append}, Math.Nat.mul-le-mul_left, lemmas.Bool.{eq-eqb, Decides.nat_tests}}, specs.Ordering.int_cmp}
-use Rattle.stn_net.{specs.Event.most_steps, proofs.Horizons.length-horizon_bounds}
+use Rattle.std.{proofs.{Common.{rules, ◌≡◌, ℕ, ◌+◌, ◌-◌, ◌*◌, ◌<◌, ◌≤◌, ℤ, zero, suc, Bool, true, false, not, ◌&&◌, eqb, nat_lt, cond, [], ◌∷◌, ◌++◌, length, get_or, ⊎_elim, refl, ap, ◌∙◌, arith, length-append}, Math.Nat.mul-le-mul_left, lemmas.{Bool.{eq-eqb, cases_lt, Decides.nat_tests}, List.{get_or_append_left, get_or_at}}}, specs.Ordering.int_cmp}
+use Rattle.stn_net.{specs.{Event.most_steps, Difference.Difference}, proofs.Horizons.length-horizon_bounds}
 use Rattle.stn_lift.{specs.{BaseBounds.{step_of, order_bound, pair_order, event_orders, orders, duration_bound, duration_bounds}, PlanSource.most_base_bounds}, proofs.SoundBounds.bounds}
 
 pub length-duration_bounds : (duration : ℕ → ℤ) (steps : ℕ) → length (duration_bounds duration steps) ≡ steps
@@ -8,6 +8,18 @@ unfolding duration_bounds
 length-duration_bounds duration zero = refl
 length-duration_bounds duration (suc steps) =
     omega (arith, length-append (duration_bounds duration steps) (duration_bound steps (duration steps) ∷ []), length-duration_bounds duration steps)
+
+pub duration_at : (duration : ℕ → ℤ) (steps place : ℕ) (d : Difference) → place < steps → get_or (duration_bounds duration steps) place d ≡ duration_bound place (duration place)
+unfolding duration_bounds
+duration_at duration zero place d within = absurd (omega arith)
+duration_at duration (suc steps) place d within =
+    ⊎_elim
+    (λ before. get_or_append_left (duration_bounds duration steps) (duration_bound steps (duration steps) ∷ []) d place (omega (arith, length-duration_bounds duration steps, before))
+    ∙ duration_at duration steps place d before)
+    (λ after. let same : steps ≡ place = omega (arith, after) in
+    get_or_at (duration_bounds duration steps) (duration_bound steps (duration steps)) [] d place (length-duration_bounds duration steps ∙ same)
+    ∙ ap (λ n. duration_bound n (duration n)) same)
+    (cases_lt place steps)
 
 module _ (interferes : ℕ → ℕ → Bool) (planned : ℕ → ℤ) where
   length-pair : (one other : ℕ) → length (pair_order interferes planned one other) ≤ 1
@@ -28,15 +40,11 @@ module _ (interferes : ℕ → ℕ → Bool) (planned : ℕ → ℤ) where
   length-event : (one events : ℕ) → length (event_orders interferes planned one events) ≤ events - 2 * step_of one
   unfolding event_orders
   length-event one zero = omega arith
-  length-event one (suc events) = by (nat_lt (2 * step_of one) (suc events)) refl
-      (length-event one events) (length-append (event_orders interferes planned one events) (pair_order interferes planned one (suc events)))
-    where
-      by : (beyond : Bool) → nat_lt (2 * step_of one) (suc events) ≡ beyond → length (event_orders interferes planned one events) ≤ events - 2 * step_of one
-          → length (event_orders interferes planned one events ++ pair_order interferes planned one (suc events))
-          ≡ length (event_orders interferes planned one events) + length (pair_order interferes planned one (suc events))
-          → length (event_orders interferes planned one events ++ pair_order interferes planned one (suc events)) ≤ suc events - 2 * step_of one
-      by true e fewer all = let beyond : 2 * step_of one < suc events = grind (arith, nat_tests) in let one_more = length-pair one (suc events) in omega arith
-      by false e fewer all = let own : suc events ≤ 2 * step_of one = grind (arith, nat_tests) in let none = length-own one (suc events) own in omega arith
+  length-event one (suc events) =
+      let fewer = length-event one events in
+      let all = length-append (event_orders interferes planned one events) (pair_order interferes planned one (suc events)) in
+      ⊎_elim (λ beyond. let one_more = length-pair one (suc events) in omega (arith, beyond))
+      (λ own. let none = length-own one (suc events) own in omega (arith, own)) (cases_lt (2 * step_of one) (suc events))
 
   -- of the events of the first steps
   length-steps : (steps some : ℕ) → some ≤ steps → length (orders interferes planned (2 * steps) (2 * some)) + 2 * (some * (some + 1)) ≤ 4 * (steps * some)

@@ -11,7 +11,7 @@ OfLine line Is read = MatchResult read Is (NamesLine line)
 args_given : (line : ℕ) (tokens : List Lexeme) → OfLine line (λ _. Unit {0}) (args_of line tokens)
 unfolding args_of
 args_given line (Word word ∷ tokens) =
-    both_give (λ _. Unit {0}) (λ _. Unit {0}) (NamesLine line) (args_of line tokens) (λ found. Ok (word ∷ found.0, found.1)) (args_given line tokens) (λ found _. tt)
+    both_give (λ _. Unit {0}) (λ _. Unit {0}) (NamesLine line) (args_of line tokens) _ (args_given line tokens) (λ found _. tt)
 args_given line (Sign Close ∷ tokens) = tt
 args_given line _ = refl
 
@@ -24,11 +24,8 @@ duration_form_given line _ = refl
 form_given : (line : ℕ) (tokens : List Lexeme) → OfLine line (λ _. Unit {0}) (form_of line tokens)
 unfolding form_of
 form_given line (Word time ∷ Sign Colon ∷ Sign Open ∷ Word action ∷ tokens) =
-    both_give (λ _. Unit {0}) (λ _. Unit {0}) (NamesLine line) (args_of line tokens)
-    (λ args. duration_form line args.1 >>= λ duration. Ok (record { time = time; action = action; args = args.0; duration = duration }))
-    (args_given line tokens)
-    (λ args _. both_give (λ _. Unit {0}) (λ _. Unit {0}) (NamesLine line) (duration_form line args.1)
-    (λ duration. Ok (record { time = time; action = action; args = args.0; duration = duration })) (duration_form_given line args.1) (λ duration _. tt))
+    both_give (λ _. Unit {0}) (λ _. Unit {0}) (NamesLine line) (args_of line tokens) _ (args_given line tokens)
+    (λ args _. both_give (λ _. Unit {0}) (λ _. Unit {0}) (NamesLine line) (duration_form line args.1) _ (duration_form_given line args.1) (λ duration _. tt))
 form_given line _ = refl
 
 time_given : (line : ℕ) (word : List ℕ) → OfLine line (λ _. Unit {0}) (time_at line word)
@@ -42,7 +39,7 @@ time_given line word = by (time_of word)
 duration_given : (line : ℕ) (word : Option (List ℕ)) → OfLine line (λ _. Unit {0}) (duration_of line word)
 unfolding duration_of
 duration_given line None = tt
-duration_given line (Some word) = both_give (λ _. Unit {0}) (λ _. Unit {0}) (NamesLine line) (time_at line word) (λ millis. Ok (Some millis)) (time_given line word) (λ millis _. tt)
+duration_given line (Some word) = both_give (λ _. Unit {0}) (λ _. Unit {0}) (NamesLine line) (time_at line word) _ (time_given line word) (λ millis _. tt)
 
 is_negative-false : (millis : ℤ) → is_negative millis ≡ false → pos 0 ≤ℤ millis
 is_negative-false (pos n) e = search rules
@@ -66,18 +63,15 @@ step_given line form time duration = by (is_negative time || option_map_or is_ne
 timed_given : (line : ℕ) (form : Form) → OfLine line IsTimely (timed_step line form)
 unfolding timed_step
 timed_given line form =
-    both_give (λ _. Unit {0}) IsTimely (NamesLine line) (time_at line form.time) (λ time. duration_of line form.duration >>= λ duration. step_at line form time duration)
-    (time_given line form.time)
-    (λ time _. both_give (λ _. Unit {0}) IsTimely (NamesLine line) (duration_of line form.duration) (λ duration. step_at line form time duration)
-    (duration_given line form.duration) (λ duration _. step_given line form time duration))
+    both_give (λ _. Unit {0}) IsTimely (NamesLine line) (time_at line form.time) _ (time_given line form.time)
+    (λ time _. both_give (λ _. Unit {0}) IsTimely (NamesLine line) (duration_of line form.duration) _ (duration_given line form.duration) (λ duration _. step_given line form time duration))
 
 line_given : (line : ℕ) (tokens : List Lexeme) → OfLine line (λ found. IfSome found IsTimely) (step_of line tokens)
 unfolding step_of
 line_given line [] = tt
 line_given line (token ∷ tokens) =
-    both_give (λ _. Unit {0}) (λ found. IfSome found IsTimely) (NamesLine line) (form_of line (token ∷ tokens)) (λ form. timed_step line form >>= λ step. Ok (Some step))
-    (form_given line (token ∷ tokens))
-    (λ form _. both_give IsTimely (λ found. IfSome found IsTimely) (NamesLine line) (timed_step line form) (λ step. Ok (Some step)) (timed_given line form) (λ step timely. timely))
+    both_give (λ _. Unit {0}) (λ found. IfSome found IsTimely) (NamesLine line) (form_of line (token ∷ tokens)) _ (form_given line (token ∷ tokens))
+    (λ form _. both_give IsTimely (λ found. IfSome found IsTimely) (NamesLine line) (timed_step line form) _ (timed_given line form) (λ step timely. timely))
 
 All-option : (found : Option PlannedStep) → IfSome found IsTimely → All IsTimely (option_to_list found)
 All-option None timely = All-nil IsTimely
@@ -104,7 +98,7 @@ lines_given (line ∷ lines) = by (line_step line) refl (line_given line.0 (toke
         → MatchResult (found >>= λ step. steps_of lines >>= λ steps. Ok (option_to_list step ++ steps)) (All IsTimely) (IsFirstLineFault (line ∷ lines))
     by (Ok step) is timely rest =
         let ok : IsOk (line_step line) = rw is refl in
-        both_give (All IsTimely) (All IsTimely) (IsFirstLineFault (line ∷ lines)) (steps_of lines) (λ steps. Ok (option_to_list step ++ steps))
+        both_give (All IsTimely) (All IsTimely) (IsFirstLineFault (line ∷ lines)) (steps_of lines) _
         (MatchResult-weaker (steps_of lines) rest (λ steps all. all) (λ fault first. later_line line lines fault ok first))
         (λ steps all. All-append IsTimely (option_to_list step) steps (All-option step timely) all)
     by (Err fault) is named rest = record {

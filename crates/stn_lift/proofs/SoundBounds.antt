@@ -1,7 +1,7 @@
 -- What holds of the bounds of a plan.
-use Rattle.std.{proofs.{Common.{rules, ◌≡◌, ◌≢◌, ℕ, ◌+◌, ◌*◌, ◌<◌, ◌≤◌, ℤ, pos, ◌+ℤ◌, ◌≤ℤ◌, ◌<ℤ◌, zero, suc, Bool, true, false, not, ◌&&◌, eqb, nat_lt, cond, List, [], ◌∷◌, ◌++◌, length, get_or, take, Ordering, Less, Equal, Greater, refl, subst, arith, append_assoc, length-append}, lemmas.{Bool.Decides.nat_tests, Int.ints, List.{get_or_default, take-append-le, take_all, Elements.{All-from_recursion, recursion_from_All}}}}, specs.{List.{All, AllByRecursion}, Ordering.{int_cmp, MatchOrdering}, Cmp.int_ranks}}
+use Rattle.std.{proofs.{Common.{rules, ◌≡◌, ℕ, ◌+◌, ◌*◌, ◌<◌, ◌≤◌, ℤ, pos, ◌+ℤ◌, ◌≤ℤ◌, ◌<ℤ◌, zero, suc, Bool, true, not, ◌&&◌, eqb, nat_lt, List, [], ◌∷◌, ◌++◌, take, Ordering, Less, Equal, Greater, inl, inr, sym, subst, arith, append_assoc, length-append}, lemmas.{Bool.{cases_eq, ne_eqb, cond_both, ltb-true, and_parts, Decides.nat_tests}, Int.ints, List.{take-append-le, take_all, Elements.{All-from_recursion, recursion_from_All}}}}, specs.{List.{All, AllByRecursion}, Ordering.{int_cmp, MatchOrdering}, Cmp.int_ranks}}
 use Rattle.stn_time.{specs.Time.horizon, proofs.Each.{each_joined, each_parted, each_pushed}}
-use Rattle.stn_net.{specs.{Difference.{Difference, NamesEvents}, Horizon.{horizon_bound, horizon_bounds}, Schedule.{Meets, IsSchedule}}, proofs.Horizons.length-horizon_bounds}
+use Rattle.stn_net.{specs.{Difference.{Difference, NamesEvents}, Horizon.{horizon_bound, horizon_bounds}, Schedule.{Meets, IsSchedule}}, proofs.{Horizons.length-horizon_bounds, Schedules.met_behind, Widest.horizon_each}}
 use Rattle.stn_lift.specs.BaseBounds.{step_of, duration_bound, order_bound, pair_order, event_orders, orders, duration_bounds, IsOrderedPair, KeepsOrder}
 
 -- by which events interfere, and when each is planned
@@ -17,15 +17,9 @@ module _ (interferes : ℕ → ℕ → Bool) (planned duration : ℕ → ℤ) (s
   -- what holds of each order that a pair has
   module _ (P : Difference → Type 0) (each : (one other : ℕ) → 0 < one → one < other → other ≤ 2 * steps → P (order_bound one other (int_cmp (planned one) (planned other)))) where
     each_pair : (one other : ℕ) → 0 < one → other ≤ 2 * steps → AllByRecursion P (pair_order interferes planned one other)
-    each_pair one other first last = by (is_pair one other) refl
-      where
-        by : (test : Bool) → is_pair one other ≡ test → AllByRecursion P (cond test (order_bound one other (int_cmp (planned one) (planned other)) ∷ []) [])
-        by false e = tt
-        by true e = (each one other first (later (nat_lt one other) refl e) last, tt)
-          where
-            later : (less : Bool) → nat_lt one other ≡ less → (less && (not (eqb (step_of one) (step_of other)) && interferes one other)) ≡ true → one < other
-            later true is all = grind (arith, nat_tests)
-            later false is all = cc
+    each_pair one other first last =
+        cond_both (is_pair one other) (order_bound one other (int_cmp (planned one) (planned other)) ∷ []) [] (AllByRecursion P)
+        (λ pair. (each one other first (ltb-true one other (and_parts (nat_lt one other) _ pair).0) last, tt)) (λ none. tt)
 
     each_event : (one events : ℕ) → 0 < one → events ≤ 2 * steps → AllByRecursion P (event_orders interferes planned one events)
     unfolding event_orders
@@ -33,7 +27,7 @@ module _ (interferes : ℕ → ℕ → Bool) (planned duration : ℕ → ℤ) (s
     each_event one (suc events) first most =
         each_joined P (event_orders interferes planned one events) (pair_order interferes planned one (suc events)) (each_event one events first (omega arith)) (each_pair one (suc events) first most)
 
-    each_order : (one : ℕ) → AllByRecursion P (orders interferes planned (2 * steps) one)
+    pub each_order : (one : ℕ) → AllByRecursion P (orders interferes planned (2 * steps) one)
     unfolding orders
     each_order zero = tt
     each_order (suc one) =
@@ -42,11 +36,6 @@ module _ (interferes : ℕ → ℕ → Bool) (planned duration : ℕ → ℤ) (s
   module _ (P : Difference → Type 0) (horizons : (event : ℕ) → 0 < event → event ≤ 2 * steps → P (horizon_bound event))
       (durations : (step : ℕ) → step < steps → P (duration_bound step (duration step)))
       (pairs : (one other : ℕ) → 0 < one → one < other → other ≤ 2 * steps → P (order_bound one other (int_cmp (planned one) (planned other)))) where
-    each_horizon : (events : ℕ) → events ≤ 2 * steps → AllByRecursion P (horizon_bounds events)
-    unfolding horizon_bounds
-    each_horizon zero most = tt
-    each_horizon (suc events) most = each_pushed P (horizon_bounds events) (horizon_bound (suc events)) (each_horizon events (omega arith)) (horizons (suc events) (omega arith) most)
-
     each_duration : (count : ℕ) → count ≤ steps → AllByRecursion P (duration_bounds duration count)
     unfolding duration_bounds
     each_duration zero most = tt
@@ -57,7 +46,8 @@ module _ (interferes : ℕ → ℕ → Bool) (planned duration : ℕ → ℤ) (s
     each_bound =
         All-from_recursion P bounds
         (each_joined P (horizon_bounds (2 * steps) ++ duration_bounds duration steps) (orders interferes planned (2 * steps) (2 * steps))
-        (each_joined P (horizon_bounds (2 * steps)) (duration_bounds duration steps) (each_horizon (2 * steps) (omega arith)) (each_duration steps (omega arith)))
+        (each_joined P (horizon_bounds (2 * steps)) (duration_bounds duration steps)
+        (recursion_from_All P (horizon_bounds (2 * steps)) (horizon_each P (2 * steps) (λ event beside last. horizons event (omega (arith, beside)) last))) (each_duration steps (omega arith)))
         (each_order P pairs (2 * steps)))
 
   -- the first bounds are the horizon bounds
@@ -106,37 +96,28 @@ module _ (interferes : ℕ → ℕ → Bool) (planned duration : ℕ → ℤ) (s
     pair_in_event zero first last all = absurd (omega arith)
     pair_in_event (suc events) first last all =
         let parts = each_parted P (event_orders interferes planned one events) (pair_order interferes planned one (suc events)) all in
-        by (eqb other (suc events)) refl parts.1 (λ before. pair_in_event events first before parts.0)
-      where
-        by : (same : Bool) → eqb other (suc events) ≡ same → AllByRecursion P (pair_order interferes planned one (suc events))
-            → (other ≤ events → AllByRecursion P (pair_order interferes planned one other)) → AllByRecursion P (pair_order interferes planned one other)
-        by true e here rest = let same : suc events ≡ other = grind (arith, nat_tests) in subst (λ n. AllByRecursion P (pair_order interferes planned one n)) same here
-        by false e here rest = let before : other ≤ events = grind (arith, nat_tests) in rest before
+        elim (cases_eq other (suc events)) [
+          | inl same ↦ subst (λ n. AllByRecursion P (pair_order interferes planned one n)) (sym same) parts.1
+          | inr before ↦ pair_in_event events first (omega arith) parts.0
+        ]
 
     event_in_orders : (events count : ℕ) → 0 < one → one ≤ count → AllByRecursion P (orders interferes planned events count) → AllByRecursion P (event_orders interferes planned one events)
     unfolding orders
     event_in_orders events zero first last all = absurd (omega arith)
     event_in_orders events (suc count) first last all =
         let parts = each_parted P (orders interferes planned events count) (event_orders interferes planned (suc count) events) all in
-        by (eqb one (suc count)) refl parts.1 (λ before. event_in_orders events count first before parts.0)
-      where
-        by : (same : Bool) → eqb one (suc count) ≡ same → AllByRecursion P (event_orders interferes planned (suc count) events)
-            → (one ≤ count → AllByRecursion P (event_orders interferes planned one events)) → AllByRecursion P (event_orders interferes planned one events)
-        by true e here rest = let same : suc count ≡ one = grind (arith, nat_tests) in subst (λ n. AllByRecursion P (event_orders interferes planned n events)) same here
-        by false e here rest = let before : one ≤ count = grind (arith, nat_tests) in rest before
+        elim (cases_eq one (suc count)) [
+          | inl same ↦ subst (λ n. AllByRecursion P (event_orders interferes planned n events)) (sym same) parts.1
+          | inr before ↦ event_in_orders events count first (omega arith) parts.0
+        ]
 
-    -- what holds of all bounds holds of the order of two events that interfere
-    pair_holds : IsOrderedPair (2 * steps) interferes one other → All P bounds → P (order_bound one other (int_cmp (planned one) (planned other)))
+    -- what holds of all orders holds of the order of two events that interfere
+    pair_holds : IsOrderedPair (2 * steps) interferes one other → All P (orders interferes planned (2 * steps) (2 * steps)) → P (order_bound one other (int_cmp (planned one) (planned other)))
     pair_holds pair all =
-        let parts = each_parted P (horizon_bounds (2 * steps) ++ duration_bounds duration steps) (orders interferes planned (2 * steps) (2 * steps)) (recursion_from_All P bounds all) in
-        let events = event_in_orders (2 * steps) (2 * steps) pair.first (omega (arith, pair.later, pair.last)) parts.1 in
+        let events = event_in_orders (2 * steps) (2 * steps) pair.first (omega (arith, pair.later, pair.last)) (recursion_from_All P (orders interferes planned (2 * steps) (2 * steps)) all) in
         let orders = pair_in_event (2 * steps) (omega (arith, pair.later)) pair.last events in
         let less : nat_lt one other ≡ true = grind (arith, nat_tests, pair.later) in
-        let apart : eqb (step_of one) (step_of other) ≡ false = unequal (step_of one) (step_of other) pair.steps in
-        let here = rw (less, apart, pair.share) at orders in here.0
-      where
-        unequal : (a b : ℕ) → a ≢ b → eqb a b ≡ false
-        unequal a b h = grind (arith, nat_tests)
+        let here = rw (less, ne_eqb (step_of one) (step_of other) pair.steps, pair.share) at orders in here.0
 
   order_kept : (one other : ℕ) (o : Ordering) (time : ℕ → ℤ) → MatchOrdering o (planned one <ℤ planned other) (planned one ≡ planned other) (planned other <ℤ planned one)
       → Meets time (order_bound one other o)
@@ -145,26 +126,22 @@ module _ (interferes : ℕ → ℕ → Bool) (planned duration : ℕ → ℤ) (s
   order_kept one other Equal time is met = search rules
   order_kept one other Greater time is met = search rules
 
-  -- in every schedule events that interfere keep the plan's order
-  pub order_keeps : KeepsOrder (2 * steps) interferes planned bounds
-  order_keeps =
-      let kept = λ (time : ℕ → ℤ) (one other : ℕ) (schedule : IsSchedule bounds time) (pair : IsOrderedPair (2 * steps) interferes one other).
-      order_kept one other (int_cmp (planned one) (planned other)) time (int_ranks (planned one) (planned other)) (pair_holds (Meets time) one other pair schedule.met) in
+  -- in every schedule of bounds that imply the orders, events that interfere keep the plan's order
+  pub orders_keep : (all : List Difference) → ((time : ℕ → ℤ) → IsSchedule all time → All (Meets time) (orders interferes planned (2 * steps) (2 * steps))) → KeepsOrder (2 * steps) interferes planned all
+  orders_keep all met =
+      let kept = λ (time : ℕ → ℤ) (one other : ℕ) (schedule : IsSchedule all time) (pair : IsOrderedPair (2 * steps) interferes one other).
+      order_kept one other (int_cmp (planned one) (planned other)) time (int_ranks (planned one) (planned other)) (pair_holds (Meets time) one other pair (met time schedule)) in
       record {
         before = λ time one other schedule pair. (kept time one other schedule pair).0;
         after = λ time one other schedule pair. (kept time one other schedule pair).1;
         together = λ time one other schedule pair. (kept time one other schedule pair).2;
       }
 
+  pub order_keeps : KeepsOrder (2 * steps) interferes planned bounds
+  order_keeps = orders_keep bounds (met_behind (horizon_bounds (2 * steps) ++ duration_bounds duration steps) (orders interferes planned (2 * steps) (2 * steps)))
+
 -- one pair more
 pub more_pairs : (interferes : ℕ → ℕ → Bool) (planned : ℕ → ℤ) (one count : ℕ) (first old new : List Difference) → old ≡ first ++ event_orders interferes planned one count
     → new ≡ old ++ pair_order interferes planned one (count + 1) → new ≡ first ++ event_orders interferes planned one (count + 1)
 unfolding event_orders
 more_pairs interferes planned one count first old new was is = search (rules, append_assoc)
-
--- the bounds of one duration more
-pub more_durations : (durations : List ℤ) (before : ℕ) (duration : ℤ) (first old new : List Difference) → before < length durations → duration ≡ get_or durations before duration
-    → old ≡ first ++ duration_bounds (λ step. get_or durations step (pos 0)) before → new ≡ old ++ duration_bound before duration ∷ []
-    → new ≡ first ++ duration_bounds (λ step. get_or durations step (pos 0)) (before + 1)
-unfolding duration_bounds
-more_durations durations before duration first old new within read was is = search (rules, get_or_default, append_assoc)

@@ -3,7 +3,7 @@ use Rattle.std.{proofs.{Common.{rules, ◌≡◌, ℕ, ◌+◌, ◌≤◌, List,
 use Rattle.stn_text.{specs.Faults.{◌>>=◌, Fails}, proofs.Readings.both_give}
 use Rattle.stn_net.specs.Event.{most_steps}
 use Rattle.stn_pddl.specs.{declared.fault.DomainFault.DomainFault, Schemas.ActionSchema, Domains.domain_of}
-use Rattle.stn_lift.{specs.{declared.{plan.fault.PlanFault.PlanFault, fault.LiftFault.{LiftFault, TheVariants.{UnknownAction, Arity, DurationDiffers, PastHorizon, Memory}}}, Plan.Steps.{PlannedStep, plan_of}, Activities.{Activity, activity_of, activities, IsFirstRefusedStep, IsLiftCause, is_lift_memory}, PlanSource.{files, of_lift, steps_in, lifted, activities_of, steps_of}}, proofs.PlanFacts.plan_read}
+use Rattle.stn_lift.{specs.{declared.{plan.fault.PlanFault.PlanFault, fault.LiftFault.{LiftFault, TheVariants.Memory}}, Plan.Steps.{PlannedStep, plan_of}, Activities.{Activity, activity_of, activities, IsFirstRefusedStep, IsLiftCause, is_lift_memory}, PlanSource.{files, of_lift, steps_in, lifted, activities_of, steps_of}}, proofs.PlanFacts.plan_read}
 
 -- the parts of a list of steps of which one is refused
 record Parts (actions : List ActionSchema) (before : ℕ) (steps : List PlannedStep) (fault : LiftFault) : Type 0 where
@@ -42,7 +42,7 @@ activities_given actions before (step ∷ steps) = by (activity_of actions (befo
         → MatchResult (activities actions (before + 1) steps) (λ found. length found ≡ length steps) (Parts actions (before + 1) steps)
         → MatchResult (first >>= λ one. activities actions (before + 1) steps >>= λ others. Ok (one ∷ others)) (λ found. length found ≡ length (step ∷ steps)) (Parts actions before (step ∷ steps))
     by (Ok one) is rest =
-        both_give (λ found. length found ≡ length steps) (λ found. length found ≡ length (step ∷ steps)) (Parts actions before (step ∷ steps)) (activities actions (before + 1) steps) (λ others. Ok (one ∷ others))
+        both_give (λ found. length found ≡ length steps) (λ found. length found ≡ length (step ∷ steps)) (Parts actions before (step ∷ steps)) (activities actions (before + 1) steps) _
         (MatchResult-weaker (activities actions (before + 1) steps) rest (λ found same. same) (λ fault parts. later_parts actions before step steps one fault is parts))
         (λ others same. omega (arith, same))
     by (Err fault) is rest = record {
@@ -65,11 +65,8 @@ first_refused actions steps fault e =
     search rules
 
 pub cause_of : (actions : List ActionSchema) (steps : List PlannedStep) (fault : LiftFault) → Fails is_lift_memory fault (activities actions 0 steps) → IsLiftCause actions steps fault
-cause_of actions steps (UnknownAction step) is = first_refused actions steps _ is
-cause_of actions steps (Arity step) is = first_refused actions steps _ is
-cause_of actions steps (DurationDiffers step) is = first_refused actions steps _ is
-cause_of actions steps (PastHorizon step) is = first_refused actions steps _ is
 cause_of actions steps Memory is = tt
+cause_of actions steps fault is = first_refused actions steps _ is
 
 -- of a domain and a plan of few enough steps
 few_in : (actions : Result (List ActionSchema) DomainFault) (plan : Result (List PlannedStep) PlanFault)

@@ -2,9 +2,8 @@
 use Rattle.std.proofs.{Common.{rules, ◌≡◌, ℕ, ℤ, pos, ◌+ℤ◌, suc, ◌+◌, ◌*◌, ◌<◌, List, [], ◌∷◌, ◌++◌, map, length, get_or, drop, add-one, Result, Ok, Err, refl, sym, ap, subst, ◌∙◌, append_assoc, arith}, Math.Seq.drop-cons, lemmas.{Slice.Zip.AllZip-long, List.{map-append, append-nil, length-map}}}
 use Rattle.indexmap.proofs.SetLemmas.{AllZip-push}
 use Rattle.stn_pddl.specs.Schemas.{ActionSchema}
-use Rattle.stn_time.proofs.Each.{each_pushed}
-use Rattle.stn_lift.{specs.{Plan.Steps.PlannedStep, declared.fault.LiftFault.{LiftFault, TheVariants.{UnknownAction, Arity, DurationDiffers, PastHorizon, Memory}}, Footprints.{Footprint, no_footprint}, BaseBounds.{times_behind, footprints_behind, event_footprints}, Timelines.{IsTimed, IsTimeline, IsLifted}, Numbering.{Numbering, IsUnambiguous, KeepsNumbers, IsNumbered}, Activities.{Activity, activity_of, activities, is_lift_memory}}, proofs.{NumberLists.{numbered_kept, zip_weaker}, Sharing.{none_numbered, numbered_at, same_interfere}}}
-use Rattle.stn_text.specs.Faults.{◌>>=◌, Fails}
+use Rattle.stn_lift.{specs.{Plan.Steps.PlannedStep, declared.fault.LiftFault.LiftFault, Footprints.{Footprint, no_footprint}, BaseBounds.{times_behind, footprints_behind, event_footprints}, Timelines.{IsTimeline, IsLifted}, Numbering.{Numbering, IsUnambiguous, KeepsNumbers, IsNumbered}, Activities.{Activity, activity_of, activities, is_lift_memory}}, proofs.{NumberLists.{numbered_kept, zip_weaker}, Sharing.{none_numbered, numbered_at, same_interfere}}}
+use Rattle.stn_text.{specs.Faults.{◌>>=◌, Fails}, proofs.Readings.fails_first}
 
 times_behind-push : (steps : List Activity) (step : Activity) → times_behind (steps ++ step ∷ []) ≡ (times_behind steps ++ step.time ∷ []) ++ (step.time +ℤ step.duration) ∷ []
 unfolding times_behind
@@ -17,26 +16,18 @@ footprints_behind-push [] step = refl
 footprints_behind-push (first ∷ steps) step = ap (λ fs. first.start ∷ first.end ∷ fs) (footprints_behind-push steps step)
 
 -- one step more
-pub timeline_push : (old middle new : Numbering) (steps : List Activity) (step : Activity) (durations times : List ℤ) (footprints : List (Footprint ℕ)) (start end : Footprint ℕ)
-    → KeepsNumbers old middle → KeepsNumbers middle new → IsUnambiguous new → IsNumbered middle start step.start → IsNumbered new end step.end → IsTimed step
-    → IsTimeline old steps durations times footprints
-    → IsTimeline new (steps ++ step ∷ []) (durations ++ step.duration ∷ []) ((times ++ step.time ∷ []) ++ (step.time +ℤ step.duration) ∷ []) ((footprints ++ start ∷ []) ++ end ∷ [])
-timeline_push old middle new steps step durations times footprints start end one two unambiguous starts ends timed was =
+pub timeline_pushed : (old middle new : Numbering) (steps : List Activity) (step : Activity) (durations times more_durations more_times : List ℤ)
+    (footprints more_footprints : List (Footprint ℕ)) (start end : Footprint ℕ)
+    → KeepsNumbers old middle → KeepsNumbers middle new → IsUnambiguous new → IsNumbered middle start step.start → IsNumbered new end step.end
+    → more_durations ≡ durations ++ step.duration ∷ [] → more_times ≡ (times ++ step.time ∷ []) ++ (step.time +ℤ step.duration) ∷ []
+    → more_footprints ≡ (footprints ++ start ∷ []) ++ end ∷ []
+    → IsTimeline old steps durations times footprints → IsTimeline new (steps ++ step ∷ []) more_durations more_times more_footprints
+timeline_pushed old middle new steps step durations times more_durations more_times footprints more_footprints start end one two unambiguous starts ends is_durations is_times is_footprints was =
     let first = zip_weaker (IsNumbered old) (IsNumbered new) (λ numbered atoms is. numbered_kept middle new two numbered atoms (numbered_kept old middle one numbered atoms is))
     footprints (event_footprints steps) was.numbered in
     let second = AllZip-push (IsNumbered new) footprints (event_footprints steps) start step.start first (numbered_kept middle new two start step.start starts) in
     let third = AllZip-push (IsNumbered new) (footprints ++ start ∷ []) (event_footprints steps ++ step.start ∷ []) end step.end second ends in
-    search (rules, map-append, times_behind-push, footprints_behind-push, each_pushed)
-
--- the same, of lists that are known by equations
-pub timeline_pushed : (old middle new : Numbering) (steps : List Activity) (step : Activity) (durations times more_durations more_times : List ℤ)
-    (footprints more_footprints : List (Footprint ℕ)) (start end : Footprint ℕ)
-    → KeepsNumbers old middle → KeepsNumbers middle new → IsUnambiguous new → IsNumbered middle start step.start → IsNumbered new end step.end → IsTimed step
-    → more_durations ≡ durations ++ step.duration ∷ [] → more_times ≡ (times ++ step.time ∷ []) ++ (step.time +ℤ step.duration) ∷ []
-    → more_footprints ≡ (footprints ++ start ∷ []) ++ end ∷ []
-    → IsTimeline old steps durations times footprints → IsTimeline new (steps ++ step ∷ []) more_durations more_times more_footprints
-timeline_pushed old middle new steps step durations times more_durations more_times footprints more_footprints start end one two unambiguous starts ends timed is_durations is_times is_footprints was =
-    rw (is_durations, is_times, is_footprints) (timeline_push old middle new steps step durations times footprints start end one two unambiguous starts ends timed was)
+    rw (is_durations, is_times, is_footprints) (search (rules, map-append, times_behind-push, footprints_behind-push))
 
 -- no steps
 pub timeline_none : (numbering : Numbering) (durations times : List ℤ) (footprints : List (Footprint ℕ)) → IsUnambiguous numbering
@@ -47,7 +38,6 @@ timeline_none numbering durations times footprints unambiguous no_durations no_t
   lasting = no_durations;
   timed = no_times;
   numbered = rw none (none_numbered numbering, tt);
-  within = tt;
 }
 
 pub length-times_behind : (steps : List Activity) → length (times_behind steps) ≡ 2 * length steps
@@ -73,7 +63,6 @@ all_lifted numbering steps durations times footprints was =
       many_footprints = omega (arith, counted, AllZip-long (IsNumbered numbering) footprints (event_footprints steps) was.numbered, length-footprints_behind steps);
       interfering = λ one other. same_interfere numbering was.unambiguous _ _ _ _
           (numbered_at numbering footprints (event_footprints steps) was.numbered one) (numbered_at numbering footprints (event_footprints steps) was.numbered other);
-      within = was.within;
     }
 
 module _ (actions : List ActionSchema) where
@@ -92,18 +81,11 @@ module _ (actions : List ActionSchema) where
       by (Err fault) = refl
 
   -- the next step is refused
-  refused_next : (before : ℕ) (found : List Activity) (step : PlannedStep) (steps : List PlannedStep) (fault : LiftFault) → activity_of actions (before + 1) step ≡ Err fault
-      → behind found (activities actions before (step ∷ steps)) ≡ Err fault
-  unfolding activities
-  refused_next before found step steps fault is = rw is refl
-
-  pub fails_next : (before : ℕ) (found : List Activity) (step : PlannedStep) (steps : List PlannedStep) (fault : LiftFault) → Fails is_lift_memory fault (activity_of actions (before + 1) step)
+  fails_next : (before : ℕ) (found : List Activity) (step : PlannedStep) (steps : List PlannedStep) (fault : LiftFault) → Fails is_lift_memory fault (activity_of actions (before + 1) step)
       → Fails is_lift_memory fault (behind found (activities actions before (step ∷ steps)))
-  fails_next before found step steps (UnknownAction number) is = refused_next before found step steps _ is
-  fails_next before found step steps (Arity number) is = refused_next before found step steps _ is
-  fails_next before found step steps (DurationDiffers number) is = refused_next before found step steps _ is
-  fails_next before found step steps (PastHorizon number) is = refused_next before found step steps _ is
-  fails_next before found step steps Memory is = tt
+  unfolding activities
+  fails_next before found step steps fault is =
+      fails_first is_lift_memory fault (activities actions before (step ∷ steps)) _ (fails_first is_lift_memory fault (activity_of actions (before + 1) step) _ is)
 
   module _ (all : List PlannedStep) (place : ℕ) (found : List Activity) (step : PlannedStep) (within : place < length all) (here : step ≡ get_or all place step)
       (whole : activities actions 0 all ≡ behind found (activities actions place (drop place all))) where

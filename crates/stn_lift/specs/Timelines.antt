@@ -1,6 +1,6 @@
 -- For proofs alone: no public clause cites these words.
 -- What the code keeps of the steps of a plan.
-use Rattle.std.specs.{Prelude.{◌≡◌, ℕ, ◌+◌, ◌*◌, ◌++◌, ℤ, pos, ◌+ℤ◌, ◌≤ℤ◌, ◌≤◌, nat_eq, Bool, List, map, length, slice_index_or}, List.{AllZip, AllByRecursion}}
+use Rattle.std.specs.{Prelude.{◌≡◌, ℕ, ◌+◌, ◌*◌, ◌++◌, ℤ, pos, ◌+ℤ◌, ◌≤ℤ◌, ◌≤◌, nat_eq, Bool, List, map, length, slice_index_or}, List.AllZip}
 use Rattle.stn_time.specs.Time.{horizon}
 use Rattle.stn_net.specs.{Event.most_steps, Difference.Difference, Horizon.horizon_bounds, Schedule.times_of}
 use Rattle.stn_lift.specs.{Footprints.{Footprint, no_footprint, interfere}, Numbering.{Numbering, IsUnambiguous, IsNumbered}, Activities.Activity, BaseBounds.{event_times, event_footprints, events_interfere, duration_bounds, orders}}
@@ -17,7 +17,6 @@ pub record IsTimeline (numbering : Numbering) (steps : List Activity) (durations
   pub lasting : durations ≡ map (λ step. step.duration) steps
   pub timed : times ≡ event_times steps
   pub numbered : AllZip (IsNumbered numbering) footprints (event_footprints steps)
-  pub within : AllByRecursion IsTimed steps
 
 -- the footprint of an event, in numbers
 abbrev pub numbers_at : List (Footprint ℕ) → ℕ → Footprint ℕ
@@ -34,7 +33,6 @@ pub record IsLifted (steps : List Activity) (durations times : List ℤ) (footpr
   pub many_times : length times ≡ 2 * length durations + 1
   pub many_footprints : length footprints ≡ 2 * length durations + 1
   pub interfering : (one other : ℕ) → interfere_by_number footprints one other ≡ events_interfere steps one other
-  pub within : AllByRecursion IsTimed steps
 
 -- there are at most so many steps as a plan may have, and a time and a footprint for the origin and for each of their events
 pub record IsWholeTimeline (durations times : List ℤ) (footprints : List (Footprint ℕ)) : Type 0 where

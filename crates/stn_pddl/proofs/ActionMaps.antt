@@ -6,45 +6,27 @@ use Rattle.stn_pddl.specs.{declared.{tree.name.Name.Name, action.Action.Action},
 module _ {A : Type 0} where
   pub AreNamed-inserted : {E : Type 0} (result : Result (Unit {0}) E) (old new : List (Name × Action A)) (name : Name) (action : Action A) → bytes_of_name name ≡ (action_schema action).name
       → OnOk result (new ≡ old ++ (name, action) ∷ []) → OnErr result (new ≡ old) → AreNamed old → AreNamed new
-  AreNamed-inserted (Ok done) old new name action same added kept named = rw added (search (rules, each_pushed))
-  AreNamed-inserted (Err fault) old new name action same added kept named = rw kept named
+  AreNamed-inserted result old new name action same added kept named = search (rules, each_pushed)
 
   module _ (word : List ℕ) where
     -- a look-up by the key is one by the name
     pub named-lookup : (entries : List (Name × Action A)) → AreNamed entries → action_named word (entries_schema entries) ≡ option_map action_schema (lookup (λ (name : Name). is_same_word word (bytes_of_name name)) entries)
     unfolding action_named
     named-lookup [] named = refl
-    named-lookup (e ∷ entries) named = rw (ap (is_same_word word) (sym named.0)) (first (is_same_word word (bytes_of_name e.0)) (named-lookup entries named.1))
-      where
-        first : (t : Bool) → action_named word (entries_schema entries) ≡ option_map action_schema (lookup (λ (name : Name). is_same_word word (bytes_of_name name)) entries)
-            → cond t (Some (action_schema e.1)) (action_named word (entries_schema entries))
-            ≡ option_map action_schema (cond t (Some e.1) (lookup (λ (name : Name). is_same_word word (bytes_of_name name)) entries))
-        first true later = refl
-        first false later = later
+    named-lookup (e ∷ entries) named = search (rules, (named-lookup entries named.1))
 
     pub taken-lookup : (entries : List (Name × Action A)) → AreNamed entries → is_taken word (entries_schema entries) ≡ is_some (lookup (λ (name : Name). is_same_word word (bytes_of_name name)) entries)
     unfolding is_taken
     taken-lookup [] named = refl
-    taken-lookup (e ∷ entries) named = rw (ap (is_same_word word) (sym named.0)) (first (is_same_word word (bytes_of_name e.0)) (taken-lookup entries named.1))
-      where
-        first : (t : Bool) → is_taken word (entries_schema entries) ≡ is_some (lookup (λ (name : Name). is_same_word word (bytes_of_name name)) entries)
-            → (t || is_taken word (entries_schema entries)) ≡ is_some (cond t (Some e.1) (lookup (λ (name : Name). is_same_word word (bytes_of_name name)) entries))
-        first true later = refl
-        first false later = later
+    taken-lookup (e ∷ entries) named = search (rules, (taken-lookup entries named.1))
 
     -- what a look-up gives
     pub named-found : (entries : List (Name × Action A)) (actions : List ActionSchema) (found : Option (Bor (Action A))) → AreNamed entries → entries_schema entries ≡ actions
         → option_copied found ≡ lookup (λ (name : Name). is_same_word word (bytes_of_name name)) entries
         → MatchOption found (action_named word actions ≡ None) (λ action. action_named word actions ≡ Some (action_schema action.now))
-    named-found entries actions None named same is = sym (ap (action_named word) same) ∙ named-lookup entries named ∙ ap (option_map action_schema) (sym is)
-    named-found entries actions (Some action) named same is = sym (ap (action_named word) same) ∙ named-lookup entries named ∙ ap (option_map action_schema) (sym is)
+    named-found entries actions found named same is = search (rules, named-lookup)
 
   -- a name that is not taken has no entry
   pub absent : (name : Name) (entries : List (Name × Action A)) (actions : List ActionSchema) → AreNamed entries → entries_schema entries ≡ actions → is_taken (bytes_of_name name) actions ≡ false
       → lookup (λ (other : Name). is_same_word (bytes_of_name name) (bytes_of_name other)) entries ≡ None
-  absent name entries actions named same new =
-      none (lookup (λ (other : Name). is_same_word (bytes_of_name name) (bytes_of_name other)) entries) (sym (taken-lookup (bytes_of_name name) entries named) ∙ ap (is_taken (bytes_of_name name)) same ∙ new)
-    where
-      none : (found : Option (Action A)) → is_some found ≡ false → found ≡ None
-      none None is = refl
-      none (Some action) is = cc
+  absent name entries actions named same new = search (rules, taken-lookup)

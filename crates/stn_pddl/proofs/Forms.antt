@@ -37,68 +37,44 @@ keeps_both a first next one other = search rules
 -- terms and atoms
 term_given : (names : List (List ℕ)) (line : ℕ) (word : List ℕ) → OfForms (IsSoundTerm (length names)) (term names line word)
 unfolding term
-term_given names line word =
-    either_gives (IsSoundTerm (length names)) IsFormFault (is_variable word) (parameter_at line (position (is_same_word word) names)) (cond (is_key word) (Err (Syntax line)) (Ok (Constant word)))
-    (place (position (is_same_word word) names) refl)
-    (either_gives (IsSoundTerm (length names)) IsFormFault (is_key word) (Err (Syntax line)) (Ok (Constant word)) tt tt)
-  where
-    place : (found : Option ℕ) → position (is_same_word word) names ≡ found → OfForms (IsSoundTerm (length names)) (parameter_at line found)
-    place None e = tt
-    place (Some number) e = (position-Some (is_same_word word) names number [] e).0
+term_given names line word = search (rules, either_gives, position-Some)
 
 terms_given : (names : List (List ℕ)) (rest : Trees) (before : List TermSchema) → AllByRecursion (IsSoundTerm (length names)) before
     → OfForms (AllByRecursion (IsSoundTerm (length names))) (terms names rest before)
 unfolding terms
 terms_given names End before all = all
 terms_given names (Word line word next) before all =
-    both_give (IsSoundTerm (length names)) (AllByRecursion (IsSoundTerm (length names))) IsFormFault (term names line word) (λ found. terms names next (before ++ found ∷ []))
+    both_give _ _ _ _ (λ found. terms names next (before ++ found ∷ []))
     (term_given names line word) (λ found sound. terms_given names next (before ++ found ∷ []) (each_pushed (IsSoundTerm (length names)) before found all sound))
 terms_given names (Group line children next) before all = tt
 
 literal_keeps : (label : Label) (negated : Bool) (found : AtomSchema) (a : ActionSchema) → IsSoundAtom (length a.parameters) found → Keeps a (with_literal label negated found a)
 unfolding with_literal
-literal_keeps StartCondition negated found a p = record { name = refl; parameters = refl; duration = refl; atoms = λ (h : HasSoundAtoms a). record { start_needs = each_pushed (IsSoundAtom (length a.parameters)) a.start_needs found h.start_needs p; all_needs = h.all_needs; end_needs = h.end_needs; start_adds = h.start_adds; start_deletes = h.start_deletes; end_adds = h.end_adds; end_deletes = h.end_deletes } }
-literal_keeps OverAll negated found a p = record { name = refl; parameters = refl; duration = refl; atoms = λ (h : HasSoundAtoms a). record { start_needs = h.start_needs; all_needs = each_pushed (IsSoundAtom (length a.parameters)) a.all_needs found h.all_needs p; end_needs = h.end_needs; start_adds = h.start_adds; start_deletes = h.start_deletes; end_adds = h.end_adds; end_deletes = h.end_deletes } }
-literal_keeps EndCondition negated found a p = record { name = refl; parameters = refl; duration = refl; atoms = λ (h : HasSoundAtoms a). record { start_needs = h.start_needs; all_needs = h.all_needs; end_needs = each_pushed (IsSoundAtom (length a.parameters)) a.end_needs found h.end_needs p; start_adds = h.start_adds; start_deletes = h.start_deletes; end_adds = h.end_adds; end_deletes = h.end_deletes } }
-literal_keeps StartEffect false found a p = record { name = refl; parameters = refl; duration = refl; atoms = λ (h : HasSoundAtoms a). record { start_needs = h.start_needs; all_needs = h.all_needs; end_needs = h.end_needs; start_adds = each_pushed (IsSoundAtom (length a.parameters)) a.start_adds found h.start_adds p; start_deletes = h.start_deletes; end_adds = h.end_adds; end_deletes = h.end_deletes } }
-literal_keeps StartEffect true found a p = record { name = refl; parameters = refl; duration = refl; atoms = λ (h : HasSoundAtoms a). record { start_needs = h.start_needs; all_needs = h.all_needs; end_needs = h.end_needs; start_adds = h.start_adds; start_deletes = each_pushed (IsSoundAtom (length a.parameters)) a.start_deletes found h.start_deletes p; end_adds = h.end_adds; end_deletes = h.end_deletes } }
-literal_keeps EndEffect false found a p = record { name = refl; parameters = refl; duration = refl; atoms = λ (h : HasSoundAtoms a). record { start_needs = h.start_needs; all_needs = h.all_needs; end_needs = h.end_needs; start_adds = h.start_adds; start_deletes = h.start_deletes; end_adds = each_pushed (IsSoundAtom (length a.parameters)) a.end_adds found h.end_adds p; end_deletes = h.end_deletes } }
-literal_keeps EndEffect true found a p = record { name = refl; parameters = refl; duration = refl; atoms = λ (h : HasSoundAtoms a). record { start_needs = h.start_needs; all_needs = h.all_needs; end_needs = h.end_needs; start_adds = h.start_adds; start_deletes = h.start_deletes; end_adds = h.end_adds; end_deletes = each_pushed (IsSoundAtom (length a.parameters)) a.end_deletes found h.end_deletes p } }
+literal_keeps label negated found a p = search (rules, each_pushed)
 
 module _ (label : Label) (a : ActionSchema) where
   atom_given : (negated : Bool) (word : List ℕ) (rest : Trees) → OfForms (Keeps a) (atom label negated word rest a)
   unfolding atom
   atom_given negated word rest =
       both_give (AllByRecursion (IsSoundTerm (length a.parameters))) (Keeps a) IsFormFault (terms a.parameters rest []) (λ found. Ok (with_literal label negated (record { predicate = word; terms = found }) a))
-      (terms_given a.parameters rest [] tt) (λ found sound. literal_keeps label negated (record { predicate = word; terms = found }) a sound)
+      (terms_given a.parameters rest [] tt) (λ found sound. literal_keeps label _ _ a sound)
 
   equality_given : (line : ℕ) (rest : Trees) → OfForms (Keeps a) (equality line rest a)
   unfolding equality
   equality_given line rest =
       either_gives (Keeps a) IsFormFault (how_many rest == 2) (terms a.parameters rest [] >>= λ found. Ok a) (Err (Syntax line))
-      (both_give (AllByRecursion (IsSoundTerm (length a.parameters))) (Keeps a) IsFormFault (terms a.parameters rest []) (λ found. Ok a) (terms_given a.parameters rest [] tt) (λ found sound. same a)) tt
+      (both_give (AllByRecursion (IsSoundTerm (length a.parameters))) (Keeps a) IsFormFault (terms a.parameters rest []) (λ found. Ok a) (terms_given _ rest [] tt) (λ found sound. same a)) tt
 
   literal_given : (negated : Bool) (line : ℕ) (word : List ℕ) (rest : Trees) (k : Head) → OfForms (Keeps a) (literal label negated line word rest a k)
-  literal_given negated line word rest head.Equal = either_gives (Keeps a) IsFormFault (is_effect label) (Err (Unsupported line)) (equality line rest a) tt (equality_given line rest)
-  literal_given negated line word rest head.At = atom_given negated word rest
-  literal_given negated line word rest head.Over = atom_given negated word rest
-  literal_given negated line word rest head.Name = atom_given negated word rest
-  literal_given negated line word rest other = tt
+  literal_given negated line word rest k = search (rules, either_gives, equality_given, atom_given)
 
   negated_given : (line : ℕ) (children : Trees) → OfForms (Keeps a) (negated_tree label line children a)
   unfolding negated_tree
-  negated_given line End = tt
-  negated_given line (Group at children next) = tt
-  negated_given line (Word at word rest) = literal_given true line word rest (head_of word)
+  negated_given line children = search (rules, literal_given)
 
   negation_given : (line : ℕ) (rest : Trees) → OfForms (Keeps a) (negation label line rest a)
   unfolding negation
-  negation_given line rest = either_gives (Keeps a) IsFormFault (how_many rest == 1) (negated_first label line rest a) (Err (Syntax line)) (first rest) tt
-    where
-      first : (trees : Trees) → OfForms (Keeps a) (negated_first label line trees a)
-      first End = tt
-      first (Word at word next) = tt
-      first (Group at children next) = negated_given at children
+  negation_given line rest = search (rules, either_gives, negated_given)
 
 -- conjunctions
 module _ (line at : ℕ) (word : List ℕ) (rest : Trees) (a : ActionSchema) where
@@ -115,18 +91,12 @@ module _ (line at : ℕ) (word : List ℕ) (rest : Trees) (a : ActionSchema) whe
   timed_given : (side : Side) → OfForms (Keeps a) (row (Timed side) rest a) → ((time : Head) → OfForms (Keeps a) (labelled side time line rest a))
       → (k : Head) → head_of word ≡ k → OfForms (Keeps a) (tree (Timed side) line (Word at word rest) a)
   unfolding tree
-  timed_given side all behind head.And e = rw (e, tree) all
-  timed_given side all behind head.At e = rw (e, tree) (behind head.At)
-  timed_given side all behind head.Over e = rw (e, tree) (behind head.Over)
-  timed_given Condition all behind head.Equal e = rw (e, tree) tt
-  timed_given Effect all behind head.Equal e = rw (e, tree) tt
-  timed_given side all behind other e = rw (e, tree) tt
+  timed_given side all behind k e = search rules
 
   label_given : (side : Side) (time : Head) → ((label : Label) → OfForms (Keeps a) (row (Plain label) rest a)) → (found : Option Label) → label_of side time word ≡ found
       → OfForms (Keeps a) (labelled side time line (Word at word rest) a)
   unfolding labelled
-  label_given side time all None e = rw (e, labelled) tt
-  label_given side time all (Some label) e = rw (e, labelled) (either_gives (Keeps a) IsFormFault (how_many rest == 1) (row (Plain label) rest a) (Err (Syntax line)) (all label) tt)
+  label_given side time all found e = search (rules, either_gives)
 
 mutual
   unfolding row tree labelled
@@ -152,9 +122,7 @@ module _ (line : ℕ) (word : List ℕ) (next : Trees) (before : List (List ℕ)
   parameter_given : ((names : List (List ℕ)) → OfForms (λ _. Unit {0}) (parameters next names)) → OfForms (λ _. Unit {0}) (parameters_behind_type line next before)
       → (k : Item) → item_of word ≡ k → OfForms (λ _. Unit {0}) (parameters (Word line word next) before)
   unfolding parameters
-  parameter_given more typed item.Parameter e = search rules
-  parameter_given more typed item.Dash e = rw (e, parameters) typed
-  parameter_given more typed item.Other e = rw (e, parameters) tt
+  parameter_given more typed k e = search rules
 
 mutual
   unfolding parameters parameters_behind_type
@@ -172,25 +140,13 @@ mutual
 -- a duration is not negative
 duration_given : (line : ℕ) (children : Trees) → OfForms (λ millis. pos 0 ≤ℤ millis) (duration line children)
 unfolding duration constant
-duration_given line (Word a equal (Word b variable (Word at time End))) =
-    either_gives (λ millis. pos 0 ≤ℤ millis) IsFormFault (is_same_word equal (codes "=") && is_same_word variable (codes "?duration")) (not_negative at (time_of time)) (Err (Unsupported line)) (by (time_of time)) tt
-  where
-    positive : (millis : ℤ) (t : Bool) → int_lt millis (pos 0) ≡ t → OfForms (λ n. pos 0 ≤ℤ n) (cond t (Err (Number at)) (Ok millis))
-    positive millis true e = tt
-    positive millis false e = grind (arith, ints)
-
-    by : (found : Result ℤ TimeFault) → OfForms (λ n. pos 0 ≤ℤ n) (not_negative at found)
-    by (Ok millis) = positive millis (int_lt millis (pos 0)) refl
-    by (Err fault) = tt
-duration_given line children = tt
+duration_given line children = search (rules, either_gives, ints)
 
 -- the values of the keys
 module _ (line : ℕ) (word : List ℕ) (next : Trees) (before : Values) where
   key_given : ((name : Field) → OfForms (λ _. Unit {0}) (field_value line name next before)) → (k : Key) → key_of word ≡ k → OfForms (λ _. Unit {0}) (fields (Word line word next) before)
   unfolding fields
-  key_given more (key.Known name) e = rw (e, fields) (either_gives (λ _. Unit {0}) IsFormFault (is_some (value_of name before)) (Err (Twice line)) (field_value line name next before) tt (more name))
-  key_given more key.Unknown e = rw (e, fields) tt
-  key_given more key.NoKey e = rw (e, fields) tt
+  key_given more k e = search (rules, either_gives)
 
 mutual
   unfolding fields field_value
@@ -207,8 +163,7 @@ mutual
 
 value_given : (side : Side) (value : Option Listing) (a : ActionSchema) → OfForms (Keeps a) (timed_value side value a)
 unfolding timed_value
-value_given side None a = same a
-value_given side (Some listing) a = tree_given (Timed side) listing.line listing.children a
+value_given side value a = search (rules, same, tree_given)
 
 -- An action has the name that it was read with, and is sound.
 pub record IsMade (name : List ℕ) (action : ActionSchema) : Type 0 where
@@ -228,19 +183,17 @@ lists_given name listed timed values =
     (λ millis. timed_value Condition values.condition (bare_action name names millis) >>= λ action. timed_value Effect values.effect action)
     (duration_given timed.line timed.children)
     (λ millis positive. MatchResult-weaker (timed_value Condition values.condition (bare_action name names millis) >>= λ action. timed_value Effect values.effect action)
-    (keeps_both (bare_action name names millis) (timed_value Condition values.condition (bare_action name names millis)) (λ action. timed_value Effect values.effect action)
+    (keeps_both _ _ (λ action. timed_value Effect values.effect action)
     (value_given Condition values.condition (bare_action name names millis)) (λ action. value_given Effect values.effect action))
     (λ b kept. made_of name names millis b positive kept) (λ fault is. is)))
 
 values_given : (line : ℕ) (name : List ℕ) (values : Values) (listed timed : Option Listing) → OfForms (IsMade name) (action_of_values line name values listed timed)
-values_given line name values None timed = tt
-values_given line name values (Some listed) None = tt
-values_given line name values (Some listed) (Some timed) = lists_given name listed timed values
+values_given line name values listed timed = search (rules, lists_given)
 
 pub named_given : (line : ℕ) (name : List ℕ) (rest : Trees) → OfForms (IsMade name) (named_action line name rest)
 unfolding named_action
 named_given line name rest =
-    both_give (λ _. Unit {0}) (IsMade name) IsFormFault (fields rest no_values) (λ values. action_of_values line name values values.parameters values.duration)
+    both_give (λ _. Unit {0}) _ _ _ (λ values. action_of_values line name values values.parameters values.duration)
     (fields_given rest no_values) (λ values _. values_given line name values values.parameters values.duration)
 
 action_given : (line : ℕ) (rest : Trees) (earlier : List ActionSchema) → OfForms IsSound (action line rest earlier)
@@ -262,7 +215,7 @@ part_given line (Word at word rest) before all = by (section_of word) refl
   where
     by : (k : Section) → section_of word ≡ k → OfForms (AllByRecursion IsSound) (part line (Word at word rest) before)
     by section.Skipped e = rw (e, part) all
-    by section.Action e = rw (e, part) (both_give IsSound (AllByRecursion IsSound) IsFormFault (action line rest before) (λ found. Ok (before ++ found ∷ [])) (action_given line rest before) (λ found sound. each_pushed IsSound before found all sound))
+    by section.Action e = rw (e, part) (both_give IsSound (AllByRecursion IsSound) IsFormFault (action line rest before) (λ found. Ok (before ++ found ∷ [])) (action_given line rest before) (λ found sound. each_pushed _ _ found all sound))
     by other e = rw (e, part) tt
 
 parts_given : (trees : Trees) (before : List ActionSchema) → AllByRecursion IsSound before → OfForms (AllByRecursion IsSound) (parts trees before)
@@ -270,7 +223,7 @@ unfolding parts
 parts_given End before all = all
 parts_given (Word line word next) before all = tt
 parts_given (Group line children next) before all =
-    both_give (AllByRecursion IsSound) (AllByRecursion IsSound) IsFormFault (part line children before) (λ found. parts next found) (part_given line children before all) (λ found sound. parts_given next found sound)
+    both_give _ _ _ _ (λ found. parts next found) (part_given line children before all) (λ found sound. parts_given next found sound)
 
 -- the parts of a domain, from the first one on
 pub all_parts_given : (rest : Trees) → OfForms (AllByRecursion IsSound) (parts rest [])
@@ -278,6 +231,4 @@ all_parts_given rest = parts_given rest [] tt
 
 pub domain_given : (trees : Trees) → OfForms (AllByRecursion IsSound) (domain_of_tree trees)
 unfolding domain_of_tree root
-domain_given (Group line (Word a define (Group b title rest)) next) =
-    either_gives (AllByRecursion IsSound) IsFormFault (is_same_word define (codes "define") && is_title title) (parts rest []) (Err (Syntax line)) (all_parts_given rest) tt
-domain_given _ = tt
+domain_given trees = search (rules, either_gives, all_parts_given)

@@ -11,7 +11,7 @@ position_or_len-map test (name ∷ names) = rw (position_or_len-map test names) 
 pub term-variable : (names : List Name) (line : ℕ) (word : List ℕ) (found : Option ℕ) → is_variable word ≡ true → found ≡ position (λ (name : Name). is_same_word word (bytes_of_name name)) names
     → term (words_of names) line word ≡ parameter_at line found
 unfolding term
-term-variable names line word found variable is = rw (variable, is) (ap (parameter_at line) (search (rules, position_or_len-map, length-map)))
+term-variable names line word found variable is = search (rules, position_or_len-map, length-map)
 
 -- a test of words, at names
 pub list_any-names : (test : List ℕ → Bool) (names : List Name) → list_any test (words_of names) ≡ list_any (λ (name : Name). test (bytes_of_name name)) names
@@ -26,7 +26,7 @@ module _ (line : ℕ) (word : List ℕ) (row next : Trees) (names : List Name) (
 
   -- a parameter that stood before
   pub parameter-twice : list_any (λ (name : Name). is_same_word word (bytes_of_name name)) names ≡ true → parameters row (words_of names) ≡ Err (Twice line)
-  parameter-twice seen = at_parameter (words_of names) ∙ rw (list_any-names (is_same_word word) names ∙ seen) refl
+  parameter-twice seen = at_parameter _ ∙ rw (list_any-names (is_same_word word) names ∙ seen) refl
 
   -- a parameter that is new
   pub parameter-new : (name : Name) (now : List Name) → bytes_of_name name ≡ word → list_any (λ (name : Name). is_same_word word (bytes_of_name name)) names ≡ false

@@ -1,6 +1,7 @@
 -- A domain in small letters.
-use Rattle.std.specs.Prelude.{List, map, Result, Ok, Err}
+use Rattle.std.specs.Prelude.{List, map, Result}
 use Rattle.stn_pddl.specs.{Tree.Names.folded, declared.fault.DomainFault.DomainFault, Schemas.{TermSchema, Parameter, Constant, AtomSchema, ActionSchema}}
+use Rattle.stn_plan_laws.specs.Tree.Case.{mapped}
 
 abbrev pub term_in_small : TermSchema → TermSchema
 term_in_small (Parameter place) = Parameter place
@@ -24,7 +25,6 @@ action_in_small action = record {
   end_deletes = map atom_in_small action.end_deletes;
 }
 
--- the same fault, or the actions in small letters
+-- the actions in small letters, or the same fault
 abbrev pub domain_in_small : Result (List ActionSchema) DomainFault → Result (List ActionSchema) DomainFault
-domain_in_small (Ok actions) = Ok (map action_in_small actions)
-domain_in_small (Err fault) = Err fault
+domain_in_small = mapped (map action_in_small)

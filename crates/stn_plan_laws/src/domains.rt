@@ -12,6 +12,7 @@ pub fn faults_by_cause()
 
 /// The law that the case of letters changes only the names: a text in small letters is the domain of the text with its names in
 /// small letters, or has the same fault.
+#[tactic(auto, using(crate::proofs::domains::SmallDomain::small_domain))]
 pub fn small_letters()
     ensures { (text : List ℕ) → domain_of (folded text) ≡ domain_in_small (domain_of text) }
 {}

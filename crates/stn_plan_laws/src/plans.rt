@@ -21,11 +21,13 @@ pub fn planned_times()
 {}
 
 /// The law that the text of a plan has a fault exactly where it has the cause of that fault.
+#[tactic(auto, using(stn_lift::proofs::PlanFacts::plan_cause_for, crate::proofs::plans::FromCauses::plan_fault_of))]
 pub fn plan_faults_by_cause()
     ensures { (text : List ℕ) (fault : PlanFault) → plan.is_plan_memory fault ≡ false → (plan.plan_of text ≡ Err fault) ↔ plan_faults.IsPlanCause text fault }
 {}
 
 /// The law that the steps of a plan have a fault in a domain of these actions exactly where they have the cause of that fault.
+#[tactic(auto, using(crate::proofs::plans::FromCauses::lift_cause_for, crate::proofs::plans::FromCauses::lift_fault_of))]
 pub fn lift_faults_by_cause()
     ensures { (actions : List ActionSchema) (steps : List PlannedStep) (fault : LiftFault) → lifting.is_lift_memory fault ≡ false
         → (lifting.activities actions 0 steps ≡ Err fault) ↔ lifting.IsLiftCause actions steps fault }

@@ -12,6 +12,7 @@ pub fn first_fault()
 
 /// The law that a list which is written, with no more than 32 open brackets and 65,536 bytes, reads as that list, and that each
 /// tree of a text can be written.
+#[tactic(auto, using(crate::proofs::trees::Written::written_read, crate::proofs::trees::Writable::all_writable))]
 pub fn written_reads()
     ensures reads { (line : ℕ) (children : Trees) → IsWritable 32 1 (Group line children End) → length (written 1 (Group line children End)) ≤ most_text
         → tree_of (written 1 (Group line children End)) ≡ Ok (Group line children End) }
@@ -20,6 +21,7 @@ pub fn written_reads()
 
 /// The law that the case of letters changes only the words: a text in small letters has the tree of the text with its words in
 /// small letters, or the same fault.
+#[tactic(auto, using(crate::proofs::trees::Case::small_tree))]
 pub fn small_letters()
     ensures { (text : List ℕ) → tree_of (folded text) ≡ tree_in_small (tree_of text) }
 {}

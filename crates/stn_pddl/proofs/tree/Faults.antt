@@ -1,20 +1,15 @@
 -- The faults of a text, and what a text without one is.
-use Rattle.std.{proofs.{Common.{◌≡◌, ℕ, ◌+◌, ◌-◌, ◌<◌, ◌≤◌, Bool, true, false, cond, nat_lt, List, [], ◌∷◌, length, Result, Ok, Err, refl, ap, subst, arith}, lemmas.{Bool.ltb-true, Result.{MatchResult-at_err, MatchResult-weaker}}}, specs.Result.MatchResult}
+use Rattle.std.{proofs.{Common.{rules, ◌≡◌, ℕ, ◌+◌, ◌-◌, ◌<◌, ◌≤◌, Bool, true, false, cond, nat_lt, List, [], ◌∷◌, length, Result, Ok, Err, refl, ap, subst, arith}, lemmas.{Bool.ltb-true, Result.{MatchResult-at_err, MatchResult-weaker}}}, specs.Result.MatchResult}
 use Rattle.stn_pddl.{specs.{declared.tree.{bytes.Kind.{Kind, TheVariants.{Blank, Open, Close, Letter}}, scan.{TreeFault.{TreeFault, TheVariants.{TooLong, TooDeep}}, Place.{Place, TheVariants.{Before, Inside, After}}}}, Tree.{Bytes.{kind_in, comment_after, line_after}, Trees.{Trees, rows_from}, Scan.{most_text, place_after, scanned, tree_of, IsOneList}, FirstFault.IsOnLine}}, proofs.tree.Scanned.one-list}
 use Rattle.stn_text.{specs.Faults.{◌>>=◌}, proofs.Readings.{bind_ok, both_give, either_gives}}
 
 -- a fault of a byte is on the line of the byte
 on_its_line : (kind : Kind) (line : ℕ) (place : Place) → MatchResult (place_after kind line place) (λ _. Unit {0}) (IsOnLine line)
 unfolding place_after
-on_its_line Blank line place = tt
-on_its_line Open line Before = tt
-on_its_line Open line (Inside depth) = either_gives (λ _. Unit {0}) (IsOnLine line) (nat_lt depth 32) (Ok (Inside (depth + 1))) (Err (TooDeep line)) tt refl
-on_its_line Close line (Inside depth) = either_gives (λ _. Unit {0}) (IsOnLine line) (nat_lt 1 depth) (Ok (Inside (depth - 1))) (Ok After) tt tt
-on_its_line Letter line (Inside depth) = tt
-on_its_line kind line place = refl
+on_its_line kind line place = search (rules, either_gives)
 
 pub place_after-line : (kind : Kind) (line : ℕ) (place : Place) (fault : TreeFault) → place_after kind line place ≡ Err fault → IsOnLine line fault
-place_after-line kind line place fault is = MatchResult-at_err (λ _. Unit {0}) (IsOnLine line) fault is (on_its_line kind line place)
+place_after-line kind line place fault is = MatchResult-at_err (λ _. Unit {0}) _ fault is (on_its_line kind line place)
 
 -- a fault on some line
 abbrev OnSomeLine : TreeFault → Type 0
@@ -26,7 +21,7 @@ scanned-line comment line Before [] = (line, refl)
 scanned-line comment line (Inside depth) [] = (line, refl)
 scanned-line comment line After [] = tt
 scanned-line comment line place (b ∷ bytes) =
-    both_give (λ _. Unit {0}) (λ _. Unit {0}) OnSomeLine (place_after (kind_in comment b) line place) (λ next. scanned (comment_after comment b) (line_after line b) next bytes)
+    both_give (λ _. Unit {0}) (λ _. Unit {0}) _ _ (λ next. scanned (comment_after comment b) (line_after line b) next bytes)
     (MatchResult-weaker (place_after (kind_in comment b) line place) (on_its_line (kind_in comment b) line place) (λ next _. tt) (λ fault here. (line, here)))
     (λ next _. scanned-line (comment_after comment b) (line_after line b) next bytes)
 
@@ -42,7 +37,7 @@ module _ (text : List ℕ) where
       by : (long : Bool) → nat_lt most_text (length text) ≡ long
           → cond long (Err TooLong) (scanned false 1 Before text >>= λ end. Ok (rows_from false 1 text).row) ≡ Err TooLong → most_text < length text
       by true many e = ltb-true _ _ many
-      by false few e = absurd (MatchResult-at_err (λ _. Unit {0}) OnSomeLine TooLong e found).1
+      by false few e = absurd (MatchResult-at_err (λ _. Unit {0}) _ _ e found).1
 
   -- a text that is short enough has the faults of its bytes
   short_test : length text ≤ most_text → nat_lt most_text (length text) ≡ false
@@ -54,11 +49,7 @@ module _ (text : List ℕ) where
 
   pub tree_of-refused : (fault : TreeFault) → length text ≤ most_text → tree_of text ≡ Err fault → scanned false 1 Before text ≡ Err fault
   unfolding tree_of
-  tree_of-refused fault short is = by (scanned false 1 Before text) (rw (short_test short) at is)
-    where
-      by : (end : Result Place TreeFault) → (end >>= λ place. Ok (rows_from false 1 text).row) ≡ Err fault → end ≡ Err fault
-      by (Ok place) e = cc
-      by (Err given) e = let same : given ≡ fault = cc in ap Err same
+  tree_of-refused fault short is = search (rules, short_test)
 
   pub tree_of-Ok : (end : Place) → length text ≤ most_text → scanned false 1 Before text ≡ Ok end → tree_of text ≡ Ok (rows_from false 1 text).row
   unfolding tree_of
@@ -67,16 +58,8 @@ module _ (text : List ℕ) where
   -- the tree of a text is that of its rows
   pub tree_of-rows : (row : Trees) → tree_of text ≡ Ok row → (end : Place) × (scanned false 1 Before text ≡ Ok end) × ((rows_from false 1 text).row ≡ row)
   unfolding tree_of
-  tree_of-rows row is = by (nat_lt most_text (length text)) is
-    where
-      by : (long : Bool) → cond long (Err TooLong) (scanned false 1 Before text >>= λ end. Ok (rows_from false 1 text).row) ≡ Ok row
-          → (end : Place) × (scanned false 1 Before text ≡ Ok end) × ((rows_from false 1 text).row ≡ row)
-      by true e = cc
-      by false e =
-          let step = bind_ok (scanned false 1 Before text) (λ end. Ok (rows_from false 1 text).row) row e in
-          let whole : (rows_from false 1 text).row ≡ row = let given = step.2 in cc in
-          (step.0, step.1, whole)
+  tree_of-rows row is = search (rules, bind_ok)
 
   -- and is one list
   pub tree_of-list : (row : Trees) → tree_of text ≡ Ok row → IsOneList row
-  tree_of-list row is = let found = tree_of-rows row is in subst IsOneList found.2 (one-list text found.0 found.1)
+  tree_of-list row is = search (rules, tree_of-rows, one-list)

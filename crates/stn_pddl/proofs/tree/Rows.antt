@@ -1,5 +1,5 @@
 -- The rows before a byte of each kind.
-use Rattle.std.proofs.{lemmas.{List.{drop_all, drop_more}, Bool.Decides.nat_tests}, Common.{◌≡◌, ◌≢◌, ℕ, suc, ◌+◌, ◌<◌, ◌≤◌, Bool, true, false, cond, eqb, List, [], ◌∷◌, length, get_or, take, drop, refl, sym, ◌∙◌, ap, arith, add-one, drop-cons, ◌⊎◌, inl, inr}}
+use Rattle.std.proofs.{lemmas.{List.{drop_all, drop_more}, Bool.Decides.nat_tests}, Common.{rules, ◌≡◌, ◌≢◌, ℕ, suc, ◌+◌, ◌<◌, ◌≤◌, Bool, true, false, cond, eqb, List, [], ◌∷◌, length, get_or, take, drop, refl, sym, ◌∙◌, ap, arith, add-one, drop-cons, ◌⊎◌, inl, inr}}
 use Rattle.stn_pddl.specs.{declared.tree.bytes.Kind.{Kind, TheVariants.{Blank, Open, Close, Letter, Stray}}, Tree.{Bytes.{kind_of, kind_in, comment_after, line_after}, Trees.{Word, Group, End, Rows, behind_row, before_open, before_close, before_letter, is_letter, begins_word, word_len, rows_from}}}
 
 -- no line feed and no semicolon is a token
@@ -79,8 +79,7 @@ begins-none h = cc
 word-on : (line b : ℕ) (bytes : List ℕ) (more : Bool) → begins_word bytes ≡ more
     → (more ≡ true → rows_from false line bytes ≡ before_word line (take (word_len bytes) bytes) (rows_from false line (drop (word_len bytes) bytes)))
     → before_letter line b more (rows_from false line bytes) ≡ before_word line (b ∷ take (word_len bytes) bytes) (rows_from false line (drop (word_len bytes) bytes))
-word-on line b bytes true is goes_on = ap (before_letter line b true) (goes_on refl)
-word-on line b bytes false is goes_on = rw (word_len-none bytes is) refl
+word-on line b bytes more is goes_on = search (rules, word_len-none)
 
 pub rows-word : (line : ℕ) (bytes : List ℕ) → begins_word bytes ≡ true → rows_from false line bytes ≡ before_word line (take (word_len bytes) bytes) (rows_from false line (drop (word_len bytes) bytes))
 rows-word line [] begins = absurd (begins-none begins)
@@ -102,15 +101,14 @@ module _ (line i : ℕ) (bytes rest : List ℕ) (rows : Rows) (comment : Bool) (
 
   pub opened : kind_in comment (get_or bytes i 0) ≡ Open
       → (rows.row ≡ Group line (rows_from false line rest).row (behind_row (rows_from false line rest)).row) × (behind_row (behind_row (rows_from false line rest)) ≡ behind_row rows)
-  opened is = rw (here ∙ rows-open line (get_or bytes i 0) rest comment is) (refl, refl)
+  opened is = rw (here ∙ rows-open line _ rest _ is) (refl, refl)
 
   pub closed : kind_in comment (get_or bytes i 0) ≡ Close → (rows.row ≡ End) × (rows_from false line rest ≡ behind_row rows)
-  closed is = rw (here ∙ rows-close line (get_or bytes i 0) rest comment is) (refl, refl)
+  closed is = rw (here ∙ rows-close line _ rest _ is) (refl, refl)
 
   pub passed : (k : Kind) → k ≡ kind_in comment (get_or bytes i 0) → (k ≡ Blank) ⊎ (k ≡ Stray)
       → rows_from (comment_after comment (get_or bytes i 0)) (line_after line (get_or bytes i 0)) rest ≡ rows
-  passed k kind (inl is) = sym (here ∙ rows-blank line (get_or bytes i 0) rest comment (sym kind ∙ is))
-  passed k kind (inr is) = sym (here ∙ rows-stray line (get_or bytes i 0) rest comment (sym kind ∙ is))
+  passed k kind p = search (rules, here, rows-blank, rows-stray)
 
 -- a letter stands outside comments, and a word begins there
 pub letter-outside : (comment : Bool) (b : ℕ) → kind_in comment b ≡ Letter → (comment ≡ false) × (kind_of b ≡ Letter)
@@ -118,12 +116,11 @@ letter-outside true b is = cc
 letter-outside false b is = (refl, is)
 
 pub begins-at : (i : ℕ) (bytes word : List ℕ) (comment : Bool) → i < length bytes → word ≡ drop i bytes → kind_in comment (get_or bytes i 0) ≡ Letter → begins_word word ≡ true
-begins-at i bytes word comment within is letter =
-    rw (is, drop-cons bytes i 0 within) (letter-begins _ _ (letter-outside comment _ letter).1)
+begins-at i bytes word comment within is letter = search (rules, drop-cons, letter-begins, letter-outside)
 
 pub line_after-most : (line b : ℕ) → line_after line b ≤ line + 1
 unfolding line_after
-line_after-most line b = elim (eqb b 10) as (λ t. cond t (line + 1) line ≤ line + 1) [ true ↦ omega arith | false ↦ omega arith ]
+line_after-most line b = search rules
 
 -- the end of the text ends every row
 pub at-end : (line i : ℕ) (bytes : List ℕ) (rows : Rows) (comment : Bool) → length bytes ≤ i → rows_from comment line (drop i bytes) ≡ rows

@@ -1,5 +1,5 @@
 -- The scan of a text, byte by byte, and that a text without a fault is one list.
-use Rattle.std.proofs.{Common.{◌≡◌, ℕ, ◌+◌, ◌-◌, ◌<◌, ◌≤◌, Bool, true, false, cond, nat_lt, List, [], ◌∷◌, ◌++◌, length, get_or, drop, Result, Ok, Err, refl, ◌∙◌, ap, arith, add-one, drop-cons}, lemmas.Bool.{ltb-true, ltb-false}}
+use Rattle.std.proofs.{Common.{rules, ◌≡◌, ℕ, ◌+◌, ◌-◌, ◌<◌, ◌≤◌, Bool, true, false, cond, nat_lt, List, [], ◌∷◌, ◌++◌, length, get_or, drop, Result, Ok, Err, refl, ◌∙◌, ap, arith, add-one, drop-cons}, lemmas.Bool.{ltb-true, ltb-false}}
 use Rattle.stn_pddl.specs.{declared.tree.{bytes.Kind.{Kind, TheVariants.{Blank, Open, Close, Letter, Stray}}, scan.{TreeFault.{TreeFault, TheVariants.{Syntax, TooDeep}}, Place.{Place, TheVariants.{Before, Inside, After}}}}, Tree.{Bytes.{kind_in, comment_after, line_after}, Scan.{place_after, ends_at, scanned, IsOneList}, Trees.{Trees, Group, End, Rows, outer, before_byte, begins_word, rows_from}}}
 use Rattle.stn_text.specs.Faults.{◌>>=◌}
 
@@ -7,8 +7,7 @@ use Rattle.stn_text.specs.Faults.{◌>>=◌}
 pub scanned-at : (comment : Bool) (line : ℕ) (place next : Place) (i : ℕ) (text : List ℕ) → i < length text → place_after (kind_in comment (get_or text i 0)) line place ≡ Ok next
     → scanned comment line place (drop i text) ≡ scanned (comment_after comment (get_or text i 0)) (line_after line (get_or text i 0)) next (drop (i + 1) text)
 unfolding scanned
-scanned-at comment line place next i text within is =
-    ap (scanned comment line place) (drop-cons text i 0 within) ∙ rw (is, add-one) refl
+scanned-at comment line place next i text within is = search (rules, drop-cons, add-one)
 
 pub scanned-next : (comment : Bool) (line b : ℕ) (place next : Place) (bytes : List ℕ) → place_after (kind_in comment b) line place ≡ Ok next
     → scanned comment line place (b ∷ bytes) ≡ scanned (comment_after comment b) (line_after line b) next bytes
@@ -45,8 +44,7 @@ refused fault end is = cc
 
 -- whether a bracket may open or close
 chosen : {B : Type 0} (t : Bool) (a b : Result Place TreeFault) → (t ≡ true → a ≡ cond t a b → B) → (t ≡ false → b ≡ cond t a b → B) → B
-chosen true a b if_true if_false = if_true refl refl
-chosen false a b if_true if_false = if_false refl refl
+chosen t a b if_true if_false = search rules
 
 module _ (f : Place → Result Place TreeFault) (end : Place) (rows : Rows) (later : (next : Place) → IsPlace next → f next ≡ Ok end → Completes next rows) where
   completes-open : (line b : ℕ) (more : Bool) (place : Place) → IsPlace place → (place_after Open line place >>= f) ≡ Ok end → Completes place (before_byte Open line b more rows)
@@ -58,7 +56,7 @@ module _ (f : Place → Result Place TreeFault) (end : Place) (rows : Rows) (lat
       outermost : (inner : List Trees) → rows.around ≡ inner ++ End ∷ [] → length inner + 1 ≡ 1 → Completes Before (before_byte Open line b more rows)
       outermost [] around long = (line, rows.row, rw around refl, rw around refl)
       outermost (row ∷ inner) around long = absurd (omega arith)
-  completes-open line b more (Inside depth) at is = chosen (nat_lt depth 32) (Ok (Inside (depth + 1))) (Err (TooDeep line)) opens (λ e same. refused (TooDeep line) end (ap (λ r. r >>= f) same ∙ is))
+  completes-open line b more (Inside depth) at is = chosen _ _ _ opens (λ e same. refused (TooDeep line) end (ap (λ r. r >>= f) same ∙ is))
     where
       inner_ones : (inner : List Trees) → rows.around ≡ inner ++ End ∷ [] → length inner + 1 ≡ depth + 1 → Closes depth (outer rows.around)
       inner_ones [] around long = absurd (omega arith)
@@ -73,7 +71,7 @@ module _ (f : Place → Result Place TreeFault) (end : Place) (rows : Rows) (lat
   completes-close : (line b : ℕ) (more : Bool) (place : Place) → IsPlace place → (place_after Close line place >>= f) ≡ Ok end → Completes place (before_byte Close line b more rows)
   unfolding place_after
   completes-close line b more Before at is = refused (Syntax line) end is
-  completes-close line b more (Inside depth) at is = chosen (nat_lt 1 depth) (Ok (Inside (depth - 1))) (Ok After) closes ends
+  completes-close line b more (Inside depth) at is = chosen _ _ _ closes ends
     where
       closes : nat_lt 1 depth ≡ true → placed (Inside (depth - 1)) ≡ cond (nat_lt 1 depth) (placed (Inside (depth - 1))) (placed After) → Completes (Inside depth) (before_byte Close line b more rows)
       closes e same =
@@ -105,16 +103,14 @@ rows-byte comment line b bytes = refl
 
 completes-end : (comment : Bool) (line : ℕ) (place end : Place) → ends_at line place ≡ Ok end → Completes place (rows_from comment line [])
 unfolding rows_from
-completes-end comment line Before end is = refused (Syntax line) end is
-completes-end comment line (Inside depth) end is = refused (Syntax line) end is
-completes-end comment line After end is = (refl, refl)
+completes-end comment line place end is = search (rules, refused)
 
 -- A text without a fault completes its place.
 pub completes : (bytes : List ℕ) (comment : Bool) (line : ℕ) (place end : Place) → IsPlace place → scanned comment line place bytes ≡ Ok end → Completes place (rows_from comment line bytes)
 unfolding scanned
 completes [] comment line place end at is = completes-end comment line place end is
 completes (b ∷ bytes) comment line place end at is =
-    rw (rows-byte comment line b bytes) (completes-byte (λ next. scanned (comment_after comment b) (line_after line b) next bytes) end (rows_from (comment_after comment b) (line_after line b) bytes) (λ next here so. completes bytes (comment_after comment b) (line_after line b) next end here so) (kind_in comment b) line b (begins_word bytes) place at is)
+    search (rules, rows-byte, completes-byte, (completes bytes (comment_after comment b) (line_after line b)))
 
 pub one-list : (text : List ℕ) (end : Place) → scanned false 1 Before text ≡ Ok end → IsOneList (rows_from false 1 text).row
 one-list text end is = let whole = completes text false 1 Before end tt is in (whole.0, whole.1, whole.2)

@@ -1,24 +1,20 @@
 -- The cause of a fault gives the fault.
-use Rattle.std.proofs.{Common.{◌≡◌, ◌<◌, ℕ, ◌⊎◌, inl, inr, Bool, true, false, cond, nat_lt, ◌&&◌, List, [], length, Ok, Err, refl, sym, ap, ◌∙◌, arith, codes}, lemmas.Bool.Decides.nat_tests}
+use Rattle.std.proofs.{Common.{rules, ◌≡◌, ◌<◌, ℕ, ◌⊎◌, inl, inr, Bool, true, false, cond, nat_lt, ◌&&◌, List, [], length, Ok, Err, refl, sym, ap, ◌∙◌, arith, codes}, lemmas.Bool.Decides.nat_tests}
 use Rattle.stn_text.proofs.Readings.{bind_ok}
 use Rattle.stn_pddl.{specs.{declared.{tree.scan.TreeFault.TreeFault, fault.DomainFault.{DomainFault, TheVariants.{TooLong, Syntax, TooDeep, Memory}}}, Tree.{Names.is_same_word, Trees.{Trees, End, Word, Group}, Scan.{most_text, tree_of}}, Faults.{of_tree, is_memory}, Schemas.ActionSchema, Domains.{part, parts, is_title, root, domain_of_tree, domain_of_bytes, domain_of}, Causes.{row_then, BeginsDomain, IsListAt, IsOtherList, IsRefusedPart, IsFirstRefusedPart, IsDomainCause}}, proofs.Causes.cause_of}
 use Rattle.stn_pddl.specs.declared.tree.scan.TreeFault.TheVariants as tree
 
 refused_row : (row : Trees) (before : List ActionSchema) (fault : DomainFault) → IsRefusedPart row before fault → parts row before ≡ Err fault
 unfolding parts
-refused_row End before fault is = absurd is
-refused_row (Word line word next) before fault is = ap Err (sym is)
-refused_row (Group line children next) before fault is = rw is refl
+refused_row row before fault is = search rules
 
 -- after parts without a fault
 refused_then : (earlier later : Trees) (before given : List ActionSchema) (fault : DomainFault) → parts earlier before ≡ Ok given → IsRefusedPart later given fault
     → parts (row_then earlier later) before ≡ Err fault
 unfolding parts row_then
-refused_then End later before given fault none is = let same : before ≡ given = cc in ap (parts later) same ∙ refused_row later given fault is
+refused_then End later before given fault none is = search (rules)
 refused_then (Word line word next) later before given fault none is = cc
-refused_then (Group line children next) later before given fault none is =
-    let step = bind_ok (part line children before) (λ found. parts next found) given none in
-    cc (refused_then next later step.0 given fault step.2 is)
+refused_then (Group line children next) later before given fault none is = search (rules, (refused_then next later))
 
 root-parts : (line : ℕ) (children rest : Trees) → BeginsDomain children rest → root line children ≡ parts rest []
 unfolding root
@@ -47,7 +43,7 @@ module _ (text : List ℕ) where
 
   by_length : most_text < length text → domain_of text ≡ Err TooLong
   unfolding domain_of tree_of
-  by_length long = let many : nat_lt most_text (length text) ≡ true = grind (arith, nat_tests) in rw many refl
+  by_length long = search (rules)
 
   by_other : (line : ℕ) → IsOtherList text line → domain_of text ≡ Err (Syntax line)
   by_other line is = by_list line is.children is.list ∙ root-other line is.children is.other

@@ -1,12 +1,12 @@
 -- A domain in small letters has the actions of the domain in small letters.
-use Rattle.std.{proofs.{Common.{rules, ◌≡◌, ℕ, ◌&&◌, List, [], ◌∷◌, ◌++◌, map, is_some, Option, Some, None, Result, Ok, Err, ℤ, refl, sym, ap, ◌∙◌, codes}, lemmas.List.map-append}, specs.Option.option_map}
+use Rattle.std.{proofs.{lemmas.{Grind.common_steps, List.map-append}, Common.{arith, rules, ◌≡◌, ℕ, ◌&&◌, List, [], ◌∷◌, ◌++◌, map, is_some, Option, Some, None, Result, Ok, Err, ℤ, refl, sym, ap, ◌∙◌, codes}}, specs.Option.option_map}
 use Rattle.stn_text.specs.Faults.{◌>>=◌}
 use Rattle.stn_pddl.specs.{declared.{tree.scan.TreeFault.TreeFault, fault.DomainFault.{DomainFault, TheVariants.Syntax}, action.{Side.{Side, TheVariants.{Condition, Effect}}, Form.TheVariants.Timed}, word.{Item.Item, Field.Field, Key.Key, Section.Section}}, Tree.{Names.{folded, is_same_word}, Trees.{Trees, End, Word, Group}, Scan.tree_of}, Words.{item_of, key_of, section_of}, Schemas.{ActionSchema, bare_action}, Fields.{Listing, Values, no_values, parameters, parameters_behind_type, constant, duration, value_of, with_value, fields, field_value}, Actions.{timed_value, action_of_lists, action_of_values, named_action, is_taken, action}, Domains.{part, parts, is_title, root, domain_of_tree, domain_of_bytes, domain_of}}
 use Rattle.stn_pddl.specs.declared.word.Item.TheVariants as item
 use Rattle.stn_pddl.specs.declared.word.Field.TheVariants as field
 use Rattle.stn_pddl.specs.declared.word.Key.TheVariants as key
 use Rattle.stn_pddl.specs.declared.word.Section.TheVariants as section
-use Rattle.stn_plan_laws.{specs.{Tree.Case.{in_small, tree_in_small}, Case.{action_in_small, domain_in_small}}, proofs.{trees.Case.tree_of-folded, domains.{SmallWords.{same_first, same_both, same_listed, same_name, same_item, same_key_of, same_section, same_time}, SmallActions.{mapped, mapped-then, mapped-either, small_list}}}}
+use Rattle.stn_plan_laws.{specs.{Tree.Case.{in_small, mapped, tree_in_small}, Case.{action_in_small, domain_in_small}}, proofs.{trees.Case.small_tree as small_row_of, domains.{SmallWords.{same_first, same_both, same_listed, same_name, same_item, same_key_of, same_section, same_time}, SmallActions.{mapped-then, mapped-either, small_list}}}}
 
 -- parameters
 small_parameter : (line : ℕ) (word : List ℕ) (next : Trees) (before : List (List ℕ))
@@ -14,9 +14,7 @@ small_parameter : (line : ℕ) (word : List ℕ) (next : Trees) (before : List (
     → parameters_behind_type line (in_small next) (map folded before) ≡ mapped (map folded) (parameters_behind_type line next before)
     → (k : Item) → item_of word ≡ k → parameters (in_small (Word line word next)) (map folded before) ≡ mapped (map folded) (parameters (Word line word next) before)
 unfolding parameters in_small
-small_parameter line word next before more typed item.Parameter e = search (rules, same_item, same_listed, map-append)
-small_parameter line word next before more typed item.Dash e = rw (same_item word, e, parameters) typed
-small_parameter line word next before more typed item.Other e = rw (same_item word, e, parameters) refl
+small_parameter line word next before more typed k e = search (rules, same_item, same_listed, map-append)
 
 mutual
   unfolding parameters parameters_behind_type in_small
@@ -34,8 +32,7 @@ mutual
 -- the duration
 same_duration : (line : ℕ) (children : Trees) → duration line (in_small children) ≡ duration line children
 unfolding duration constant in_small
-same_duration line (Word a equal (Word b variable (Word at time End))) = rw (same_first equal (codes "="), same_first variable (codes "?duration"), same_time time) refl
-same_duration line children = refl
+same_duration line children = search (rules, same_first, same_time)
 
 -- the values of the keys
 small_listing : Listing → Listing
@@ -55,10 +52,7 @@ same_some (Some listing) = refl
 
 same_value : (name : Field) (values : Values) → is_some (value_of name (small_values values)) ≡ is_some (value_of name values)
 unfolding small_values
-same_value field.Parameters values = same_some values.parameters
-same_value field.Duration values = same_some values.duration
-same_value field.Condition values = same_some values.condition
-same_value field.Effect values = same_some values.effect
+same_value name values = search (rules)
 
 small_with : (name : Field) (listing : Listing) (values : Values) → with_value name (small_listing listing) (small_values values) ≡ small_values (with_value name listing values)
 unfolding small_values
@@ -69,9 +63,7 @@ small_key : (line : ℕ) (word : List ℕ) (next : Trees) (before : Values)
     → ((name : Field) → field_value line name (in_small next) (small_values before) ≡ mapped small_values (field_value line name next before))
     → (k : Key) → key_of word ≡ k → fields (in_small (Word line word next)) (small_values before) ≡ mapped small_values (fields (Word line word next) before)
 unfolding fields in_small
-small_key line word next before more (key.Known name) e = search (rules, same_key_of, same_value)
-small_key line word next before more key.Unknown e = rw (same_key_of word, e, fields) refl
-small_key line word next before more key.NoKey e = rw (same_key_of word, e, fields) refl
+small_key line word next before more k e = search (rules, same_key_of, same_value)
 
 mutual
   unfolding fields field_value in_small small_listing
@@ -91,8 +83,7 @@ mutual
 -- actions
 small_value : (side : Side) (value : Option Listing) (a : ActionSchema) → timed_value side (option_map small_listing value) (action_in_small a) ≡ mapped action_in_small (timed_value side value a)
 unfolding timed_value small_listing
-small_value side None a = refl
-small_value side (Some listing) a = small_list (Timed side) listing.line listing.children a
+small_value side value a = grind (arith, small_list)
 
 small_bare : (name : List ℕ) (names : List (List ℕ)) (millis : ℤ) → bare_action (folded name) (map folded names) millis ≡ action_in_small (bare_action name names millis)
 unfolding action_in_small
@@ -133,11 +124,7 @@ small_action_of line name values (Some listed) (Some timed) = small_lists name l
 
 small_named : (line : ℕ) (name : List ℕ) (rest : Trees) → named_action line (folded name) (in_small rest) ≡ mapped action_in_small (named_action line name rest)
 unfolding named_action small_values
-small_named line name rest =
-    mapped-then small_values action_in_small (fields (in_small rest) no_values) (fields rest no_values)
-    (λ values. action_of_values line (folded name) values values.parameters values.duration) (λ values. action_of_values line name values values.parameters values.duration)
-    (small_fields rest no_values)
-    (λ values. small_action_of line name values values.parameters values.duration)
+small_named line name rest = search (rules, (small_fields rest no_values), small_action_of)
 
 same_taken : (name : List ℕ) (actions : List ActionSchema) → is_taken (folded name) (map action_in_small actions) ≡ is_taken name actions
 unfolding is_taken action_in_small
@@ -153,16 +140,7 @@ small_action line (Word at name rest) earlier = search (rules, same_name, same_t
 -- the parts of a domain
 small_part : (line : ℕ) (children : Trees) (before : List ActionSchema) → part line (in_small children) (map action_in_small before) ≡ mapped (map action_in_small) (part line children before)
 unfolding part in_small
-small_part line End before = refl
-small_part line (Group at children next) before = refl
-small_part line (Word at word rest) before = by (section_of word) refl
-  where
-    by : (k : Section) → section_of word ≡ k → part line (in_small (Word at word rest)) (map action_in_small before) ≡ mapped (map action_in_small) (part line (Word at word rest) before)
-    by section.Action e =
-        rw (same_section word, e, part) (mapped-then action_in_small (map action_in_small) (action line (in_small rest) (map action_in_small before)) (action line rest before)
-        (λ found. Ok (map action_in_small before ++ found ∷ [])) (λ found. Ok (before ++ found ∷ []))
-        (small_action line rest before) (λ found. ap Ok (sym (map-append action_in_small before (found ∷ [])))))
-    by other e = rw (same_section word, e, part) refl
+small_part line children before = search (rules, same_section, small_action, map-append)
 
 small_parts : (trees : Trees) (before : List ActionSchema) → parts (in_small trees) (map action_in_small before) ≡ mapped (map action_in_small) (parts trees before)
 unfolding parts in_small
@@ -174,16 +152,11 @@ small_parts (Group line children next) before =
 
 same_title : (children : Trees) → is_title (in_small children) ≡ is_title children
 unfolding is_title in_small
-same_title (Word a domain (Word b name End)) = rw (same_first domain (codes "domain"), same_name name) refl
-same_title children = refl
+same_title children = search (rules, same_first, same_name)
 
 small_root : (line : ℕ) (children : Trees) → root line (in_small children) ≡ mapped (map action_in_small) (root line children)
 unfolding root in_small
-small_root line (Word a define (Group b title rest)) =
-    mapped-either (map action_in_small) (is_same_word define (codes "define") && is_title title) (is_same_word (folded define) (codes "define") && is_title (in_small title))
-    (parts rest []) (Err (Syntax line)) (parts (in_small rest) []) (Err (Syntax line))
-    (ap (λ t. t && is_title (in_small title)) (same_first define (codes "define")) ∙ ap (λ t. is_same_word define (codes "define") && t) (same_title title))
-    (small_parts rest []) refl
+small_root line (Word a define (Group b title rest)) = search (rules, same_first, same_title, (small_parts rest []))
 small_root line children = refl
 
 small_tree : (row : Trees) → domain_of_tree (in_small row) ≡ mapped (map action_in_small) (domain_of_tree row)
@@ -196,10 +169,6 @@ small_bytes : (read : Result Trees TreeFault) → domain_of_bytes (tree_in_small
 small_bytes (Ok row) = small_tree row
 small_bytes (Err fault) = refl
 
-same_mapped : (found : Result (List ActionSchema) DomainFault) → mapped (map action_in_small) found ≡ domain_in_small found
-same_mapped (Ok actions) = refl
-same_mapped (Err fault) = refl
-
-pub domain_of-folded : (text : List ℕ) → domain_of (folded text) ≡ domain_in_small (domain_of text)
+pub small_domain : (text : List ℕ) → domain_of (folded text) ≡ domain_in_small (domain_of text)
 unfolding domain_of
-domain_of-folded text = ap domain_of_bytes (tree_of-folded text) ∙ small_bytes (tree_of text) ∙ same_mapped (domain_of text)
+small_domain text = ap domain_of_bytes (small_row_of text) ∙ small_bytes (tree_of text)

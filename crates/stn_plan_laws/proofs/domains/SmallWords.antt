@@ -1,5 +1,5 @@
 -- Words in small letters stand for what the words stand for.
-use Rattle.std.{proofs.{lemmas.{List.length-map, Str.Ascii.lowercase-lowercase}, Common.{◌≡◌, ℕ, zero, suc, ◌+◌, ◌<◌, Bool, true, false, cond, ◌&&◌, eqb, List, [], ◌∷◌, map, take, drop, Some, None, refl, ap, ◌∙◌, arith, position, codes}}, specs.{Char.{to_ascii_lowercase, is_ascii_digit}, List.{list_any, prefix_len, position_or_len}, Str.{bytes_eq, all_ascii_digits}}}
+use Rattle.std.{proofs.{lemmas.{List.length-map, Str.Ascii.lowercase-lowercase}, Common.{rules, ◌≡◌, ℕ, zero, suc, ◌+◌, ◌<◌, Bool, true, false, cond, ◌&&◌, eqb, List, [], ◌∷◌, map, take, drop, Some, None, refl, ap, ◌∙◌, arith, position, codes}}, specs.{Char.{to_ascii_lowercase, is_ascii_digit}, List.{list_any, prefix_len, position_or_len}, Str.{bytes_eq, all_ascii_digits}}}
 use Rattle.stn_time.specs.TimeOf.{is_numeral, fraction_of, parts_with, time_of}
 use Rattle.stn_pddl.specs.{Tree.Names.{folded, is_same_word}, Words.{begins_with_byte, is_variable, is_key, is_name, connectives, comparisons, assignments, is_other_logic, head_of, item_of, key_of, skipped, section_of}}
 use Rattle.stn_plan_laws.proofs.trees.Case.{same_test}
@@ -14,7 +14,7 @@ same_first a b = ap (λ w. bytes_eq w (folded b)) (folded-folded a)
 
 pub same_both : (a b : List ℕ) → is_same_word (folded a) (folded b) ≡ is_same_word a b
 unfolding is_same_word
-same_both a b = ap (λ w. bytes_eq w (folded (folded b))) (folded-folded a) ∙ ap (bytes_eq (folded a)) (folded-folded b)
+same_both a b = simp folded-folded
 
 same_any : (word : List ℕ) (words : List (List ℕ)) → list_any (is_same_word (folded word)) words ≡ list_any (is_same_word word) words
 same_any word [] = refl
@@ -58,7 +58,7 @@ same_head word = grind (arith, same_first, same_logic, same_name)
 
 pub same_item : (word : List ℕ) → item_of (folded word) ≡ item_of word
 unfolding item_of
-same_item word = rw (same_variable word, length-map word to_ascii_lowercase, same_first word (codes "-")) refl
+same_item word = simp (same_variable, length-map, same_first)
 
 pub same_key_of : (word : List ℕ) → key_of (folded word) ≡ key_of word
 unfolding key_of
@@ -66,7 +66,7 @@ same_key_of word = simp (same_first, same_key)
 
 pub same_section : (word : List ℕ) → section_of (folded word) ≡ section_of word
 unfolding section_of
-same_section word = rw (same_any word skipped, same_first word (codes ":durative-action"), same_key word) refl
+same_section word = search (rules, same_first, same_key)
 
 -- a digit is no letter
 same_digit : (b : ℕ) → is_ascii_digit (to_ascii_lowercase b) ≡ is_ascii_digit b
@@ -81,12 +81,7 @@ same_digits (b ∷ bytes) = rw (same_digit b, same_digits bytes) refl
 
 small_digits : (bytes : List ℕ) → all_ascii_digits bytes ≡ true → folded bytes ≡ bytes
 small_digits [] is = refl
-small_digits (b ∷ bytes) is = by (is_ascii_digit b) refl is (λ rest. small_digits bytes rest)
-  where
-    by : (digit : Bool) → is_ascii_digit b ≡ digit → (digit && all_ascii_digits bytes) ≡ true → (all_ascii_digits bytes ≡ true → folded bytes ≡ bytes)
-        → folded (b ∷ bytes) ≡ b ∷ bytes
-    by true this rest more = ap (λ c. c ∷ folded bytes) (small_digit b this) ∙ ap (λ l. b ∷ l) (more rest)
-    by false this rest more = cc
+small_digits (b ∷ bytes) is = search (rules, (small_digits bytes))
 
 same_len : (bytes : List ℕ) → prefix_len is_ascii_digit (folded bytes) ≡ prefix_len is_ascii_digit bytes
 same_len [] = refl
@@ -119,14 +114,7 @@ numeral-digits [] is = refl
 numeral-digits (b ∷ bytes) is = small_digits (b ∷ bytes) is
 
 same_fraction : (bytes : List ℕ) → fraction_of (folded bytes) ≡ fraction_of bytes
-same_fraction [] = refl
-same_fraction (b ∷ digits) =
-    rw (same_test b 46 (omega arith), same_numeral digits) (by (eqb b 46) (is_numeral digits) refl)
-  where
-    by : (point numeral : Bool) → is_numeral digits ≡ numeral → cond (point && numeral) (Some (folded digits)) None ≡ cond (point && numeral) (Some digits) None
-    by true true is = ap Some (numeral-digits digits is)
-    by true false is = refl
-    by false numeral is = refl
+same_fraction bytes = search (rules, same_numeral, numeral-digits)
 
 same_parts : (negative : Bool) (bytes : List ℕ) → parts_with negative (folded bytes) ≡ parts_with negative bytes
 same_parts negative bytes = grind (arith, same_len, same_front, folded-drop, same_fraction)

@@ -1,5 +1,5 @@
 -- The cause of a fault gives the fault: of the text of a plan, and of the steps of a plan in a domain.
-use Rattle.std.{proofs.{Common.{◌≡◌, ◌<◌, ◌≤◌, ◌+◌, ℕ, true, false, nat_lt, List, [], ◌∷◌, ◌++◌, length, Option, Result, Ok, Err, IsOk, refl, sym, ap, subst, ◌∙◌, arith, All}, lemmas.{Bool.{lt-ltb, le-ltb}, List.Elements.{All-head, All-tail}}}, specs.Option.option_to_list}
+use Rattle.std.{proofs.{Common.{rules, ◌≡◌, ◌<◌, ◌≤◌, ◌+◌, ℕ, true, false, nat_lt, List, [], ◌∷◌, ◌++◌, length, Option, Result, Ok, Err, IsOk, refl, sym, ap, subst, ◌∙◌, arith, All}, lemmas.{Bool.{lt-ltb, le-ltb}, List.Elements.{All-head, All-tail}}}, specs.Option.option_to_list}
 use Rattle.stn_text.specs.Faults.{◌>>=◌, Unless}
 use Rattle.stn_pddl.specs.Schemas.{ActionSchema}
 use Rattle.stn_lift.{specs.{declared.{plan.fault.PlanFault.PlanFault, fault.LiftFault.LiftFault}, Plan.{Lines.lines_of, Steps.{PlannedStep, most_text, line_step, steps_of, plan_of}, Faults.{IsFirstLineFault, IsPlanCause as IsPlanCause}}, Activities.{Activity, activity_of, activities, IsFirstRefusedStep, IsLiftCause as IsLiftCause}}, proofs.{Steps.cause_of, PlanFacts.plan_of-many}}
@@ -14,12 +14,7 @@ lines_then : (earlier later : List (ℕ × List ℕ)) (fault : PlanFault) → Al
 unfolding steps_of
 lines_then [] later fault none is = is
 lines_then (line ∷ earlier) later fault none is =
-    by (line_step line) (All-head (λ line. IsOk (line_step line)) line earlier none) (lines_then earlier later fault (All-tail (λ line. IsOk (line_step line)) line earlier none) is)
-  where
-    by : (first : Result (Option PlannedStep) PlanFault) → IsOk first → steps_of (earlier ++ later) ≡ Err fault
-        → (first >>= λ step. steps_of (earlier ++ later) >>= λ steps. Ok (option_to_list step ++ steps)) ≡ Err fault
-    by (Ok step) ok is = ap (λ r. r >>= λ steps. Ok (option_to_list step ++ steps)) is
-    by (Err given) ok is = cc
+    search (rules, All-head, (lines_then earlier later fault (All-tail (λ line. IsOk (line_step line)) line earlier none) is))
 
 first_line : (line : ℕ × List ℕ) (lines : List (ℕ × List ℕ)) (fault : PlanFault) → line_step line ≡ Err fault → steps_of (line ∷ lines) ≡ Err fault
 unfolding steps_of
@@ -28,7 +23,7 @@ first_line line lines fault is = ap (λ r. r >>= λ step. steps_of lines >>= λ 
 module _ (text : List ℕ) where
   short_text : (fault : PlanFault) → length text ≤ most_text → steps_of (lines_of text) ≡ Err fault → plan_of text ≡ Err fault
   unfolding plan_of
-  short_text fault short is = let fits : nat_lt most_text (length text) ≡ false = le-ltb _ _ short in rw (fits, is) refl
+  short_text fault short is = search (rules)
 
   by_line : (fault : PlanFault) → (length text ≤ most_text) × IsFirstLineFault (lines_of text) fault → plan_of text ≡ Err fault
   by_line fault (short, is) =
@@ -49,33 +44,21 @@ steps_then : (actions : List ActionSchema) (before : ℕ) (earlier later : List 
     → activities actions (before + length earlier) later ≡ Err fault → activities actions before (earlier ++ later) ≡ Err fault
 unfolding activities
 steps_then actions before [] later fault none is = subst (λ n. activities actions n later ≡ Err fault) (omega arith) is
-steps_then actions before (step ∷ earlier) later fault none is =
-    by (activity_of actions (before + 1) step) none (steps_then actions (before + 1) earlier later fault) (subst (λ n. activities actions n later ≡ Err fault) (omega arith) is)
-  where
-    ok_behind : (one : Activity) (others : Result (List Activity) LiftFault) → IsOk (others >>= λ found. Ok (one ∷ found)) → IsOk others
-    ok_behind one (Ok found) ok = refl
-    ok_behind one (Err given) ok = cc
-
-    by : (first : Result Activity LiftFault) → IsOk (first >>= λ one. activities actions (before + 1) earlier >>= λ others. Ok (one ∷ others))
-        → (IsOk (activities actions (before + 1) earlier) → activities actions (before + 1 + length earlier) later ≡ Err fault → activities actions (before + 1) (earlier ++ later) ≡ Err fault)
-        → activities actions (before + 1 + length earlier) later ≡ Err fault
-        → (first >>= λ one. activities actions (before + 1) (earlier ++ later) >>= λ others. Ok (one ∷ others)) ≡ Err fault
-    by (Ok one) ok behind is = ap (λ r. r >>= λ others. Ok (one ∷ others)) (behind (ok_behind one (activities actions (before + 1) earlier) ok) is)
-    by (Err given) ok behind is = cc
+steps_then actions before (step ∷ earlier) later fault none is = search (rules, (steps_then actions (before + 1) earlier later fault))
 
 first_step : (actions : List ActionSchema) (before : ℕ) (step : PlannedStep) (steps : List PlannedStep) (fault : LiftFault) → activity_of actions (before + 1) step ≡ Err fault
     → activities actions before (step ∷ steps) ≡ Err fault
 unfolding activities
-first_step actions before step steps fault is = ap (λ r. r >>= λ first. activities actions (before + 1) steps >>= λ others. Ok (first ∷ others)) is
+first_step actions before step steps fault is = cc
 
 module _ (actions : List ActionSchema) (steps : List PlannedStep) where
   by_step : (fault : LiftFault) → IsFirstRefusedStep actions steps fault → activities actions 0 steps ≡ Err fault
   by_step fault is =
-      ap (activities actions 0) is.whole ∙ steps_then actions 0 is.earlier (is.step ∷ is.later) fault is.none_before (subst (λ n. activities actions n (is.step ∷ is.later) ≡ Err fault) (omega arith) (first_step actions (length is.earlier) is.step is.later fault is.refused))
+      cc (steps_then actions 0 is.earlier (is.step ∷ is.later) fault is.none_before (subst (λ n. activities actions n (is.step ∷ is.later) ≡ Err fault) (omega arith) (first_step actions (length is.earlier) is.step is.later fault is.refused)))
 
   pub lift_fault_of : (fault : LiftFault) → lifted.is_lift_memory fault ≡ false → IsLiftCause actions steps fault → activities actions 0 steps ≡ Err fault
   lift_fault_of lifting.Memory some is = cc
   lift_fault_of fault some is = by_step _ is
 
   pub lift_cause_for : (fault : LiftFault) → lifted.is_lift_memory fault ≡ false → activities actions 0 steps ≡ Err fault → IsLiftCause actions steps fault
-  lift_cause_for fault some is = cause_of actions steps fault (subst (λ memory. Unless memory (activities actions 0 steps ≡ Err fault)) (sym some) is)
+  lift_cause_for fault some is = search (rules, cause_of)

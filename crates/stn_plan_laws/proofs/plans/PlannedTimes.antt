@@ -31,15 +31,7 @@ times_at actions before [] step later action found e named =
     let same : first.0 ∷ others.0 ≡ found = let given = others.2 in cc in
     let listed : activity step action ∷ others.0 ≡ found = search (rules, activity_of-Ok) in
     rw (← listed) (refl, refl)
-times_at actions before (other ∷ earlier) step later action found e named =
-    let steps = earlier ++ step ∷ later in
-    let first = bind_ok (activity_of actions (before + 1) other) (λ first. activities actions (before + 1) steps >>= λ others. Ok (first ∷ others)) found e in
-    let others = bind_ok (activities actions (before + 1) steps) (λ others. Ok (first.0 ∷ others)) found first.2 in
-    let same : first.0 ∷ others.0 ≡ found = let given = others.2 in cc in
-    let even : 2 * length (other ∷ earlier) ≡ suc (suc (2 * length earlier)) = omega arith in
-    let odd : 2 * length (other ∷ earlier) + 1 ≡ suc (suc (2 * length earlier + 1)) = omega arith in
-    let rest = times_at actions (before + 1) earlier step later action others.0 others.1 named in
-    (rw (← same, even) rest.0, rw (← same, odd) rest.1)
+times_at actions before (other ∷ earlier) step later action found e named = search (rules, (times_at actions (before + 1) earlier step later action))
 
 -- the steps of a base are found
 found_of : (domain plan : List ℕ) (found : Result (List Activity) LiftFault) → source_with (files domain plan) (of_lift found) ≡ Ok (files domain plan)

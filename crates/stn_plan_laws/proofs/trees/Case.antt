@@ -13,7 +13,7 @@ unfolding kind_of
 letter b low high = search rules
 
 same_kind : (b : ℕ) → kind_of (to_ascii_lowercase b) ≡ kind_of b
-same_kind b = small_by (λ n. kind_of n ≡ kind_of b) b refl (λ low high. letter (b + 32) (omega arith) (omega arith) ∙ sym (letter b low (omega arith)))
+same_kind b = search (rules, letter)
 
 pub same_test : (b n : ℕ) → n < 65 → eqb (to_ascii_lowercase b) n ≡ eqb b n
 same_test b n small = search rules
@@ -44,9 +44,7 @@ scanned-folded : (text : List ℕ) (comment : Bool) (line : ℕ) (place : Place)
 unfolding scanned
 scanned-folded [] comment line place = refl
 scanned-folded (b ∷ bytes) comment line place =
-    rw (same_kind_in comment b, same_comment comment b, same_line line b)
-    (same_steps (place_after (kind_in comment b) line place) (λ next. scanned (comment_after comment b) (line_after line b) next (folded bytes))
-    (λ next. scanned (comment_after comment b) (line_after line b) next bytes) (λ next. scanned-folded bytes (comment_after comment b) (line_after line b) next))
+    search (rules, same_kind_in, same_comment, same_line, (scanned-folded bytes (comment_after comment b) (line_after line b)))
 
 -- the rows of both
 small_rows : Rows → Rows
@@ -55,34 +53,14 @@ small_rows rows = record { row = in_small rows.row; around = map in_small rows.a
 before_byte-small : (kind : Kind) (line b : ℕ) (more : Bool) (row : Trees) (around : List Trees)
     → before_byte kind line (to_ascii_lowercase b) more (small_rows (record { row = row; around = around })) ≡ small_rows (before_byte kind line b more (record { row = row; around = around }))
 unfolding in_small small_rows
-before_byte-small Blank line b more row around = refl
-before_byte-small Open line b more row [] = refl
-before_byte-small Open line b more row (next ∷ around) = refl
-before_byte-small Close line b more row around = refl
-before_byte-small Letter line b true End around = refl
-before_byte-small Letter line b true (Word at word next) around = refl
-before_byte-small Letter line b true (Group at children next) around = refl
-before_byte-small Letter line b false row around = refl
-before_byte-small Stray line b more row around = refl
+before_byte-small kind line b more row around = search rules
 
 rows-folded : (text : List ℕ) (comment : Bool) (line : ℕ) → rows_from comment line (folded text) ≡ small_rows (rows_from comment line text)
 unfolding rows_from small_rows in_small
 rows-folded [] comment line = refl
 rows-folded (b ∷ bytes) comment line =
-    let rows = rows_from (comment_after comment b) (line_after line b) bytes in
-    rw (same_kind_in comment b, same_comment comment b, same_line line b, same_begins bytes, rows-folded bytes (comment_after comment b) (line_after line b))
-    (before_byte-small (kind_in comment b) line b (begins_word bytes) rows.row rows.around)
+    search (rules, same_kind_in, same_comment, same_line, same_begins, (rows-folded bytes (comment_after comment b) (line_after line b)))
 
-pub tree_of-folded : (text : List ℕ) → tree_of (folded text) ≡ tree_in_small (tree_of text)
+pub small_tree : (text : List ℕ) → tree_of (folded text) ≡ tree_in_small (tree_of text)
 unfolding tree_of small_rows
-tree_of-folded text =
-    rw (scanned-folded text false 1 Before, rows-folded text false 1, long) (by (nat_lt most_text (length text)) (scanned false 1 Before text))
-  where
-    long : nat_lt most_text (length (folded text)) ≡ nat_lt most_text (length text)
-    long = ap (nat_lt most_text) (length-map text to_ascii_lowercase)
-
-    by : (many : Bool) (end : Result Place TreeFault)
-        → cond many (Err TooLong) (end >>= λ place. Ok (in_small (rows_from false 1 text).row)) ≡ tree_in_small (cond many (Err TooLong) (end >>= λ place. Ok (rows_from false 1 text).row))
-    by true end = refl
-    by false (Ok place) = refl
-    by false (Err fault) = refl
+small_tree text = search (rules, scanned-folded, rows-folded, length-map)

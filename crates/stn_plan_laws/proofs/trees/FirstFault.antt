@@ -13,12 +13,7 @@ closed : (line depth : ℕ) → scanned false line (Inside depth) (closing depth
 unfolding closing scanned place_after kind_of comment_after line_after
 closed line zero = refl
 closed line (suc zero) = refl
-closed line (suc (suc depth)) = by (nat_lt 1 (suc (suc depth))) (grind (arith, nat_tests)) (closed line (suc depth))
-  where
-    by : (deep : Bool) → deep ≡ true → scanned false line (Inside (suc depth)) (closing (suc depth)) ≡ Ok After
-        → (cond deep (Ok (Inside (suc (suc depth) - 1))) (Ok After) >>= λ next. scanned false line next (closing (suc depth))) ≡ Ok After
-    by true is behind = let less : suc (suc depth) - 1 ≡ suc depth = omega arith in rw less behind
-    by false is behind = cc
+closed line (suc (suc depth)) = search (rules, nat_tests, (closed line (suc depth)))
 
 -- from each place outside a comment a text can go on
 goes_on_outside : (line : ℕ) (place : Place) → (rest : List ℕ) × IsOk (scanned false line place rest)
@@ -33,9 +28,7 @@ goes_on true line place = let behind = goes_on_outside (line + 1) place in (10 �
 goes_on false line place = goes_on_outside line place
 
 ends_at-line : (line : ℕ) (place : Place) (fault : TreeFault) → ends_at line place ≡ Err fault → fault ≡ Syntax line
-ends_at-line line Before fault is = let same : Syntax line ≡ fault = cc in sym same
-ends_at-line line (Inside depth) fault is = let same : Syntax line ≡ fault = cc in sym same
-ends_at-line line After fault is = cc
+ends_at-line line place fault is = search rules
 
 -- the fault of the bytes from a place on
 record IsFaultFrom (comment : Bool) (line : ℕ) (place : Place) (front : List ℕ) (byte : ℕ) (fault : TreeFault) : Type 0 where
@@ -53,7 +46,7 @@ data IsFirstFrom (comment : Bool) (line : ℕ) (place : Place) (text : List ℕ)
 module _ (comment : Bool) (line b : ℕ) (place next : Place) (is : place_after (kind_in comment b) line place ≡ Ok next) (bytes : List ℕ) (fault : TreeFault) where
   further : IsFirstFrom (comment_after comment b) (line_after line b) next bytes fault → IsFirstFrom comment line place (b ∷ bytes) fault
   further (byte_from front byte rest whole found) = byte_from (b ∷ front) byte rest (ap (λ l. b ∷ l) whole) (search (rules, scanned-next))
-  further (end_from ends same) = end_from (ends.0, rw (scanned-next comment line b place next (bytes ++ ends.0) is) ends.1) same
+  further (end_from ends same) = search (rules, scanned-next)
 
 first_from : (comment : Bool) (line : ℕ) (place : Place) (text : List ℕ) (fault : TreeFault) → scanned comment line place text ≡ Err fault
     → IsFirstFrom comment line place text fault

@@ -30,32 +30,13 @@ earlier depth at before (Group line children next ∷ rows) le are = (earlier_ro
 
 line_after-least : (line b : ℕ) → line ≤ line_after line b
 unfolding line_after
-line_after-least line b = by (b == 10)
-  where
-    by : (feed : Bool) → line ≤ cond feed (line + 1) line
-    by true = omega arith
-    by false = omega arith
+line_after-least line b = search rules
 
 -- a list in front of the rows
 opened-rows : (depth line : ℕ) (more : Bool) (b : ℕ) (row : Trees) (around : List Trees) → depth < 32 → AreWritable (depth + 1) line (row ∷ around)
     → AreWritable depth line ((before_byte Open line b more (record { row = row; around = around })).row ∷ (before_byte Open line b more (record { row = row; around = around })).around)
 unfolding AreWritable IsWritable end_line
-opened-rows depth line more b row [] few are =
-    ((omega arith, omega arith, inside are.0, tt), tt)
-  where
-    inside : IsWritable (32 - (depth + 1)) line row → IsWritable ((32 - depth) - 1) line row
-    inside is = let same : 32 - (depth + 1) ≡ (32 - depth) - 1 = omega arith in subst (λ n. IsWritable n line row) same is
-opened-rows depth line more b row (next ∷ around) few are =
-    ((omega arith, omega arith, inside are.0, behind are.1.0), rest are.1.1)
-  where
-    inside : IsWritable (32 - (depth + 1)) line row → IsWritable ((32 - depth) - 1) line row
-    inside is = let same : 32 - (depth + 1) ≡ (32 - depth) - 1 = omega arith in subst (λ n. IsWritable n line row) same is
-
-    behind : IsWritable (32 - ((depth + 1) - 1)) (end_line line row) next → IsWritable (32 - depth) (end_line line row) next
-    behind is = let same : 32 - ((depth + 1) - 1) ≡ 32 - depth = omega arith in subst (λ n. IsWritable n (end_line line row) next) same is
-
-    rest : AreWritable (((depth + 1) - 1) - 1) (end_line (end_line line row) next) around → AreWritable (depth - 1) (end_line (end_line line row) next) around
-    rest others = let same : ((depth + 1) - 1) - 1 ≡ depth - 1 = omega arith in subst (λ n. AreWritable n (end_line (end_line line row) next) around) same others
+opened-rows depth line more b row around few are = search rules
 
 -- a letter in front of the rows
 one_letter : (b : ℕ) → kind_of b ≡ Letter → IsWord (b ∷ [])
@@ -69,10 +50,7 @@ letter-more b word is word_is = (letter-begins b word is, word_len-letter b word
 letter-rows : (depth line b : ℕ) (more : Bool) (row : Trees) (around : List Trees) → kind_of b ≡ Letter → AreWritable depth line (row ∷ around)
     → AreWritable depth line ((before_byte Letter line b more (record { row = row; around = around })).row ∷ (before_byte Letter line b more (record { row = row; around = around })).around)
 unfolding AreWritable IsWritable end_line
-letter-rows depth line b true End around is are = are
-letter-rows depth line b true (Word at word next) around is are = ((are.0.0, letter-more b word is are.0.1, are.0.2), are.1)
-letter-rows depth line b true (Group at children next) around is are = are
-letter-rows depth line b false row around is are = ((omega arith, one_letter b is, are.0), are.1)
+letter-rows depth line b more row around is are = search (rules, letter-more, one_letter)
 
 -- the rows of a scan without a fault
 module _ (f : Place → Result Place TreeFault) (end : Place) (line b : ℕ) (more : Bool) (rows : Rows) where
@@ -97,16 +75,7 @@ module _ (f : Place → Result Place TreeFault) (end : Place) (line b : ℕ) (mo
 
   closed-place : (place : Place) → Behind → (place_after Close line place >>= f) ≡ Ok end → Here (depth_of place) Close
   unfolding place_after depth_of AreWritable IsWritable end_line
-  closed-place Before behind is = refused (Syntax line) is
-  closed-place (Inside depth) behind is = by (nat_lt 1 depth) refl is
-    where
-      by : (deep : Bool) → nat_lt 1 depth ≡ deep → (cond deep (Ok (Inside (depth - 1))) (Ok After) >>= f) ≡ Ok end → Here depth Close
-      by true is_deep e = (tt, behind (Inside (depth - 1)) e)
-      by false is_flat e =
-          let flat : depth ≤ 1 = ltb-false _ _ is_flat in
-          let same : 0 ≡ depth - 1 = omega arith in
-          (tt, subst (λ n. AreWritable n line (rows.row ∷ rows.around)) same (behind After e))
-  closed-place After behind is = refused (Syntax line) is
+  closed-place place behind is = search (rules, refused)
 
   byte-place : (kind : Kind) (place : Place) → (kind ≡ Letter → kind_of b ≡ Letter) → Behind → (place_after kind line place >>= f) ≡ Ok end → Here (depth_of place) kind
   unfolding place_after depth_of
@@ -130,6 +99,6 @@ rows-writable (b ∷ bytes) comment line place end is =
     (rows-writable bytes (comment_after comment b) (line_after line b) next end so))
     is
 
-pub tree_of-writable : (text : List ℕ) (row : Trees) → tree_of text ≡ Ok row → IsWritable 32 1 row
+pub all_writable : (text : List ℕ) (row : Trees) → tree_of text ≡ Ok row → IsWritable 32 1 row
 unfolding AreWritable depth_of
-tree_of-writable text row is = search (rules, tree_of-rows, rows-writable)
+all_writable text row is = search (rules, tree_of-rows, rows-writable)

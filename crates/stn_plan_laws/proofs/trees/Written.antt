@@ -1,5 +1,5 @@
 -- A row of trees that is written reads as that row.
-use Rattle.std.proofs.{lemmas.{Grind.common_steps, Bool.Decides.nat_tests}, Common.{◌≡◌, ◌≢◌, ℕ, zero, suc, ◌+◌, ◌-◌, ◌<◌, ◌≤◌, Bool, true, false, cond, nat_lt, List, [], ◌∷◌, ◌++◌, length, replicate, Result, Ok, Err, refl, ap, ◌∙◌, append_assoc, arith}}
+use Rattle.std.proofs.{lemmas.{Grind.common_steps, Bool.Decides.nat_tests}, Common.{rules, ◌≡◌, ◌≢◌, ℕ, zero, suc, ◌+◌, ◌-◌, ◌<◌, ◌≤◌, Bool, true, false, cond, nat_lt, List, [], ◌∷◌, ◌++◌, length, replicate, Result, Ok, Err, refl, ap, ◌∙◌, append_assoc, arith}}
 use Rattle.stn_text.specs.Bytes.{line_feed}
 use Rattle.stn_pddl.{specs.{declared.tree.{bytes.Kind.{Kind, TheVariants.{Blank, Letter}}, scan.{TreeFault.{TreeFault, TheVariants.TooDeep}, Place.{Place, TheVariants.{Before, Inside, After}}}}, Tree.{Bytes.{kind_of, comment_after, line_after}, Scan.{most_text, place_after, scanned, tree_of}, Trees.{Trees, End, Word, Group, Rows, before_open, is_letter, begins_word, word_len, rows_from}}}, proofs.tree.{Rows.{comment_after-token, line_after-token, rows-open, rows-close, rows-blank, rows-word}, Scanned.scanned-next, Faults.tree_of-Ok}}
 use Rattle.stn_plan_laws.specs.Tree.Written.{end_line, written, IsWritable}
@@ -18,13 +18,13 @@ next_line at count = omega arith
 rows-feeds : (count at : ℕ) (bytes : List ℕ) → rows_from false at (feeds count ++ bytes) ≡ rows_from false (at + count) bytes
 unfolding feeds comment_after line_after kind_of
 rows-feeds zero at bytes = ap (λ line. rows_from false line bytes) (let same : at ≡ at + 0 = omega arith in same)
-rows-feeds (suc count) at bytes = cc (rows-blank at 10 (feeds count ++ bytes) false refl, rows-feeds count (at + 1) bytes, next_line at count)
+rows-feeds (suc count) at bytes = search (rules, rows-blank, feeds, (rows-feeds count (at + 1) bytes))
 
 scanned-feeds : (count at : ℕ) (place : Place) (bytes : List ℕ) → scanned false at place (feeds count ++ bytes) ≡ scanned false (at + count) place bytes
 unfolding feeds comment_after line_after kind_of place_after
-scanned-feeds zero at place bytes = ap (λ line. scanned false line place bytes) (let same : at ≡ at + 0 = omega arith in same)
+scanned-feeds zero at place bytes = search rules
 scanned-feeds (suc count) at place bytes =
-    scanned-next false at 10 place place (feeds count ++ bytes) refl ∙ scanned-feeds count (at + 1) place bytes ∙ ap (λ line. scanned false line place bytes) (next_line at count)
+    cc (scanned-next false at 10 place place (feeds count ++ bytes) refl, next_line at count, (scanned-feeds count (at + 1) place bytes))
 
 -- a space
 rows-space : (line : ℕ) (bytes : List ℕ) → rows_from false line (32 ∷ bytes) ≡ rows_from false line bytes
@@ -38,18 +38,12 @@ scanned-space line place bytes = scanned-next false line 32 place place bytes re
 -- a word and a space
 letter-of : (b : ℕ) (word : List ℕ) → word_len (b ∷ word) ≡ suc (length word) → (kind_of b ≡ Letter) × (word_len word ≡ length word)
 unfolding word_len
-letter-of b word is = by (kind_of b) is
-  where
-    by : (kind : Kind) → cond (is_letter kind) (word_len word + 1) 0 ≡ suc (length word) → (kind ≡ Letter) × (word_len word ≡ length word)
-    by Letter e = (refl, omega (arith, e))
-    by other e = absurd (omega (arith, e))
+letter-of b word is = search rules
 
 word_len-space : (word bytes : List ℕ) → word_len word ≡ length word → word_len (word ++ 32 ∷ bytes) ≡ length word
 unfolding word_len kind_of
 word_len-space [] bytes is = refl
-word_len-space (b ∷ word) bytes is =
-    let both = letter-of b word is in
-    rw both.0 (omega (arith, word_len-space word bytes both.1))
+word_len-space (b ∷ word) bytes is = search (rules, (word_len-space word bytes))
 
 begins-space : (word bytes : List ℕ) → begins_word word ≡ true → begins_word (word ++ bytes) ≡ true
 unfolding begins_word
@@ -69,7 +63,7 @@ scanned-letters line depth (b ∷ word) bytes is =
 
 -- how a tree is written before what comes after it
 word-then : (feed word next tail : List ℕ) → (feed ++ (word ++ 32 ∷ next)) ++ tail ≡ feed ++ (word ++ 32 ∷ (next ++ tail))
-word-then feed word next tail = append_assoc feed (word ++ 32 ∷ next) tail ∙ ap (λ l. feed ++ l) (append_assoc word (32 ∷ next) tail)
+word-then feed word next tail = simp append_assoc
 
 group-then : (feed children next tail : List ℕ) → (feed ++ (40 ∷ (children ++ (41 ∷ next)))) ++ tail ≡ feed ++ (40 ∷ (children ++ (41 ∷ (next ++ tail))))
 group-then feed children next tail = simp append_assoc
@@ -117,7 +111,7 @@ scanned-written : (room depth at : ℕ) (row : Trees) (tail : List ℕ) → IsWr
 unfolding written end_line IsWritable feeds
 scanned-written room depth at End tail is some few = refl
 scanned-written room depth at (Word line word next) tail is some few =
-    cc (word-then (feeds (line - at)) word (written line next) tail, scanned-feeds (line - at) at (Inside depth) (word ++ 32 ∷ (written line next ++ tail)), reached at line is.0, scanned-letters line depth word (32 ∷ (written line next ++ tail)) is.1.1, scanned-space line (Inside depth) (written line next ++ tail), scanned-written room depth line next tail is.2 some few)
+    search (rules, word-then, feeds, scanned-feeds, scanned-letters, scanned-space, (scanned-written room depth line next tail is.2 some few))
 scanned-written room depth at (Group line children next) tail is some few =
     let last = end_line line children in
     let behind : List ℕ = written last next ++ tail in
@@ -142,22 +136,13 @@ module _ (line : ℕ) (children : Trees) where
 
     rows-list : rows_from false 1 text ≡ record { row = Group line children End; around = [] }
     unfolding text written rows_from feeds
-    rows-list =
-        let inside : List ℕ = written line children ++ 41 ∷ [] in
-        rows-feeds (line - 1) 1 (40 ∷ inside)
-        ∙ ap (λ n. rows_from false n (40 ∷ inside)) (reached 1 line parts.0)
-        ∙ rows-group line inside
-        ∙ ap (before_open line) (rows-written 31 line children [] parts.2)
+    rows-list = search (rules, rows-feeds, reached, parts, rows-group, rows-written)
 
     scanned-list : scanned false 1 Before text ≡ Ok After
     unfolding text written scanned feeds kind_of place_after comment_after line_after
-    scanned-list =
-        let inside : List ℕ = written line children ++ 41 ∷ [] in
-        scanned-feeds (line - 1) 1 Before (40 ∷ inside)
-        ∙ ap (λ n. scanned false n Before (40 ∷ inside)) (reached 1 line parts.0)
-        ∙ scanned-written 31 1 line children (41 ∷ []) parts.2 (omega arith) (omega arith)
+    scanned-list = search (rules, scanned-feeds, reached, parts, scanned-written)
 
-  pub written-reads : IsWritable 32 1 (Group line children End) → length (written 1 (Group line children End)) ≤ most_text
+  pub written_read : IsWritable 32 1 (Group line children End) → length (written 1 (Group line children End)) ≤ most_text
       → tree_of (written 1 (Group line children End)) ≡ Ok (Group line children End)
   unfolding text
-  written-reads is short = tree_of-Ok text After short (scanned-list is) ∙ ap (λ (rows : Rows). Ok rows.row) (rows-list is)
+  written_read is short = cc (tree_of-Ok text After short (scanned-list is), rows-list is)

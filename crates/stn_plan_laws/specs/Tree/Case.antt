@@ -8,7 +8,11 @@ in_small End = End
 in_small (Word line word next) = Word line (folded word) (in_small next)
 in_small (Group line children next) = Group line (in_small children) (in_small next)
 
--- the same fault, or the row in small letters
+-- the same fault, or what a function makes of the value
+abbrev pub mapped : {A B F : Type 0} → (A → B) → Result A F → Result B F
+mapped f (Ok found) = Ok (f found)
+mapped f (Err fault) = Err fault
+
+-- the row in small letters, or the same fault
 abbrev pub tree_in_small : Result Trees TreeFault → Result Trees TreeFault
-tree_in_small (Ok row) = Ok (in_small row)
-tree_in_small (Err fault) = Err fault
+tree_in_small = mapped in_small

@@ -1,6 +1,6 @@
 use Rattle.std.proofs.{Common.{◌≡◌, ◌≤◌, ◌∙◌, length, map, Ok, sym, ap, arith, rules}, lemmas.{List.length-map, Result.err_from_is_err_and}}
 use Rattle.stn_net.specs.Event.{most_steps}
-use Rattle.stn_pddl.specs.{Tree.Scan.most_text, Domains.domain_of}
+use Rattle.stn_pddl.specs.{Domains.domain_of}
 use Rattle.stn_lift.{specs.{Plan.Steps.plan_of, Activities.activities, PlanSource.{files, IsBase}, Timelines.{IsWholeTimeline, numbered_bounds}, Views.numbers_of}, proofs.{LiftedBase.{few_found, is_whole, base_lifted}, Steps.cause_of, Texts.texts_lifted, base.lift.{Given.Over, Goals.{In_ok-timeline, In_ok-from_slice-2}}}}
 use Rattle.stn_lift.proofs.base.lift.Goals as goal
 
@@ -43,8 +43,6 @@ based g c =
     let (is, small) = found g (goal.at.In_ok-from_slice-2 g c).In_ok-timeline in
     let domain_is : domain_of domain ≡ Ok actions = rw c.in_ok-from_slice.ensures.items c.text.ensures.given in
     let plan_is : plan_of plan ≡ Ok planned = search rules in
-    let short_domain : length domain ≤ most_text = rw c.in_ok-from_slice.ensures.items c.text.ensures.short in
-    let short_plan : length plan ≤ most_text = search rules in
     search (rules, base_lifted)
 
 pub invariant_of-result : goal.invariant_of-result

@@ -8,6 +8,4 @@ touches-Decides one other =
     search rules
 
 pub returns : goal.returns
-returns c = λ one other.
-    let both = Decides-or (touches is_same_atom one other) (touches is_same_atom other one) (touches-Decides one other) (touches-Decides other one) in
-    (both.0, both.1)
+returns c = search (rules, Decides-or, touches-Decides)

@@ -1,8 +1,4 @@
-use Rattle.std.proofs.Common.{append_assoc}
-use Rattle.std.proofs.lemmas.List.{map-append}
-use Rattle.std.proofs.lemmas.List.{take_more}
-use Rattle.std.proofs.lemmas.Grind.{common_steps}
-use Rattle.std.proofs.{Common.{rules, ◌≡◌, ◌<◌, ◌++◌, ◌∷◌, map, length, take, get_or, sym, subst, []}, lemmas.List.{get_or-map, length-map}}
+use Rattle.std.proofs.{Common.{append_assoc, rules, ◌≡◌, ◌<◌, ◌++◌, ◌∷◌, map, length, take, get_or, sym, subst, []}, lemmas.{List.{map-append, take_more, get_or-map, length-map}, Grind.common_steps}}
 use Rattle.stn_pddl.specs.{Sound.IsSoundAtom, Views.{atom_schema, atoms_schema}}
 use Rattle.stn_lift.{specs.{Plan.Views.word_of, Footprints.ground, Numbering.AreNumbersOf}, proofs.NumberLists.{kept_along, numbers_kept, numbers_push, all_said}}
 use Rattle.stn_lift.proofs.atoms.Atoms.append_numbers.Goals as goal

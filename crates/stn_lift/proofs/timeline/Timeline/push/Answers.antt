@@ -14,7 +14,6 @@ returns g c = λ steps was.
     rw (c.deref-6.ensures.value, c.deref-7.ensures.value, c.deref-8.ensures.value, c.deref-9.ensures.value, c.deref-10.ensures.value) at c.in_ok-end.ensures.numbered in
     timeline_pushed c.args.atoms.now c.footprint.new.atoms c.footprint-2.new.atoms steps step _ _ _ _ _ _ (numbers_of c.in_ok-start.start) (numbers_of c.in_ok-end.end)
     c.in_ok-start.ensures.kept c.in_ok-end.ensures.kept c.in_ok-end.ensures.unambiguous start end
-    (record { time = c.requires.timely.time; duration = c.requires.sound.duration; last = c.requires.last })
     (c.in_ok-append_footprint-2.ensures.durations ∙ c.in_ok-append_footprint.ensures.durations ∙ c.in_ok-append_times.ensures.durations)
     (c.in_ok-append_footprint-2.ensures.times ∙ c.in_ok-append_footprint.ensures.times ∙ c.in_ok-append_times.ensures.times)
     (c.in_ok-append_footprint-2.ensures.footprints
