@@ -1,8 +1,8 @@
-use Rattle.std.{proofs.{Common.{◌≡◌, ℕ, ℤ, pos, true, cond, eqb, List, ◌++◌, inl, inr, refl, sym, ap, subst, ◌∙◌}, lemmas.{Bool.{and_parts, Decides.eqb_tells}, List.Elements.{All-append, All-weaker, All-filter}}}, specs.Prelude.{◌↔◌, All, flat_map}}
+use Rattle.std.{proofs.{Common.{rules, ◌≡◌, ℕ, ℤ, pos, true, cond, eqb, List, ◌++◌, inl, inr, refl, sym, ap, subst, ◌∙◌}, lemmas.{Bool.{eq-eqb, Decides.eqb_tells}, List.Elements.{All-append, All-weaker, All-filter}}}, specs.Prelude.{◌↔◌, All, flat_map}}
 use Rattle.stn_site.proofs.Live.{All-passing, All-filter_passing}
 use Rattle.stn_time.proofs.Each.{All-left, All-right}
-use Rattle.stn_net.specs.{Difference.Difference, Schedule.{Meets, IsSchedule, HasSchedule}, Windows.Window.IsInWindow}
-use Rattle.stn_guard.{specs.{Owners.{is_at, is_owned, own_bounds}, Guard.Guards}, proofs.Owned.{all_pieces, at_cases, at_owner}}
+use Rattle.stn_net.{proofs.Closure.schedule_before, specs.{Difference.Difference, Schedule.{Meets, IsSchedule, HasSchedule}, Windows.Window.IsInWindow}}
+use Rattle.stn_guard.{specs.{Owners.{is_at, is_owned, own_bounds}, Guard.Guards}, proofs.Owned.{all_pieces, at_owner}}
 
 -- each event takes the time that its owner gives it
 abbrev glued : (ℕ → ℕ) → (ℕ → ℕ → ℤ) → ℕ → ℤ
@@ -10,23 +10,12 @@ glued owner times event = cond (eqb event 0) (pos 0) (times (owner event) event)
 
 -- what is at a site takes the time that the site gives it
 glued_at : (owner : ℕ → ℕ) (times : ℕ → ℕ → ℤ) (site event : ℕ) → times site 0 ≡ pos 0 → is_at owner site event ≡ true → glued owner times event ≡ times site event
-glued_at owner times site event origin at = elim (at_cases owner site event at) [
-  | inl source ↦ elim (eqb_tells event 0) [
-    | inl there ↦ ap (λ t. cond t (pos 0) (times (owner event) event)) there.0 ∙ sym origin ∙ ap (times site) (sym source)
-    | inr beside ↦ absurd (beside.1 source)
-  ]
-  | inr own ↦ elim (eqb_tells event 0) [
-    | inl there ↦ absurd (own.0 there.1)
-    | inr beside ↦ ap (λ t. cond t (pos 0) (times (owner event) event)) beside.0 ∙ ap (λ s. times s event) own.1
-  ]
-]
+glued_at owner times site event origin at = search rules
 
 -- so they meet what the site's times meet of the site's own bounds
 glued_meets : (owner : ℕ → ℕ) (times : ℕ → ℕ → ℤ) (site : ℕ) (bound : Difference) → times site 0 ≡ pos 0 → is_owned owner site bound ≡ true
     → Meets (times site) bound → Meets (glued owner times) bound
-glued_meets owner times site bound origin own met =
-    let at = and_parts (is_at owner site bound.from) (is_at owner site bound.to) own in
-    rw (glued_at owner times site bound.from origin at.0, glued_at owner times site bound.to origin at.1) met
+glued_meets owner times site bound origin own met = search rules
 
 -- times that meet the site's own bounds
 pub own_met : (owner : ℕ → ℕ) (site : ℕ) (bounds : List Difference) (time : ℕ → ℤ) → IsSchedule (own_bounds owner site bounds) time
@@ -95,10 +84,7 @@ own_windows owner bounds guard guards event time = (
       let times : ℕ → ℕ → ℤ = chosen own.0 guards.possible.0 (owner event) in
       let each : (site : ℕ) → IsSchedule (own_bounds owner site (bounds ++ guard)) (times site) =
       (λ site. chosen_schedule owner (bounds ++ guard) own.0 guards.possible.0 (owner event) site own.1 guards.possible.1) in
-      let mine : times (owner event) event ≡ own.0 event = (elim (eqb_tells (owner event) (owner event)) [
-        | inl same ↦ ap (λ t. cond t own.0 guards.possible.0 event) same.0
-        | inr differs ↦ absurd (differs.1 refl)
-      ]) in (
+      let mine : times (owner event) event ≡ own.0 event = ap (λ t. cond t own.0 guards.possible.0 event) (eq-eqb (owner event) (owner event) refl) in (
         glued owner times,
         glued_schedule owner bounds guard times guards each,
         glued_at owner times (owner event) event (each (owner event)).origin (at_owner owner event) ∙ mine ∙ own.2,
@@ -107,6 +93,4 @@ own_windows owner bounds guard guards event time = (
 
 -- only bounds that have a schedule are guarded
 pub guarded_possible : (owner : ℕ → ℕ) (bounds guard : List Difference) → Guards owner bounds guard → HasSchedule bounds
-guarded_possible owner bounds guard guards =
-    let whole = guards.possible in
-    (whole.0, record { origin = whole.1.origin; met = All-left (Meets whole.0) bounds guard whole.1.met })
+guarded_possible owner bounds guard guards = search (rules, schedule_before)

@@ -1,4 +1,5 @@
 pub mod Owned
+pub mod Ranges
 pub mod Gluing
 pub mod Split
 pub mod Made

@@ -1,9 +1,9 @@
 -- The guard that is made of bounds guards them.
-use Rattle.std.{proofs.{Common.{◌≡◌, ◌≢◌, ℕ, zero, suc, ◌+◌, ◌-◌, ◌<◌, ◌≤◌, ℤ, pos, neg_ℤ, ◌≤ℤ◌, Bool, true, false, ◌&&◌, ◌||◌, eqb, List, [], ◌∷◌, ◌++◌, length, get_or, take, map, inl, inr, refl, sym, ap, subst, arith}, lemmas.{Int.ints, Bool.{eq-eqb, and_from, or_right, Decides.eqb_tells}, List.{Folds.list_any_at, FromFn.{length-map-range_with_len, get_or-map-range_with_len}, Elements.{All-nil, All-cons, All-head, All-tail, All-append, All-take, All-filter}}}}, specs.{Prelude.{All, filter}, List.range_with_len}}
-use Rattle.stn_site.proofs.Live.{All-passing, All-filter_passing}
+use Rattle.std.{proofs.{Common.{rules, ◌≡◌, ◌≢◌, ℕ, zero, suc, ◌+◌, ◌-◌, ◌<◌, ◌≤◌, ℤ, pos, ◌≤ℤ◌, Bool, true, false, ◌&&◌, List, [], ◌∷◌, ◌++◌, length, get_or, take, map, inl, inr, refl, sym, subst, arith}, lemmas.{Int.ints, Bool.{eq-eqb, and_from, or_right, Decides.eqb_tells}, List.{Folds.list_any_at, FromFn.{length-map-range_with_len, get_or-map-range_with_len}, Elements.{All-head, All-append, All-take, All-filter}}}}, specs.{Prelude.All, List.range_with_len}}
+use Rattle.stn_site.proofs.Live.{All-passing}
 use Rattle.stn_time.{proofs.Each.{All-left, All-right}, specs.Time.horizon}
 use Rattle.stn_net.specs.{Difference.{Difference, NamesEvents}, Horizon.{horizon_bound, horizon_bounds}, Schedule.{Meets, IsSchedule, HasSchedule}, Windows.Window.IsInWindow}
-use Rattle.stn_guard.{specs.{declared.splitting.Arc.Arc, Owners.{is_owned, own_bounds, is_shared}, Guard.Guards, Making.{arcs_of, shared_arcs, window_bound, names_event, says_more, AreSharedWindows, IsGuardOf}}, proofs.{Owned.{all_pieces, all_of_pieces, at_owner, at_origin, own_or_shared, shared_parts}, Gluing.own_met, Split.{Implies, IsApart, AreLeft, are_left}}}
+use Rattle.stn_guard.{specs.{Splitting.Implies, Owners.{is_owned, own_bounds, is_shared}, Guard.Guards, Making.{shared_arcs, window_bound, names_event, says_more, AreSharedWindows, IsGuardOf}}, proofs.{Ranges.all_in_range, Owned.{sides_all, sides_each, at_owner, at_origin, own_or_shared, shared_parts}, Gluing.own_met, Split.{IsApart, AreLeft, are_left}}}
 
 -- each horizon bound is one of them
 pub all_horizon : (P : Difference → Type 0) (events : ℕ) → All P (horizon_bounds events) → (event : ℕ) → 0 < event → event ≤ events → P (horizon_bound event)
@@ -17,26 +17,14 @@ all_horizon P (suc events) all event after most = elim (eqb_tells event (suc eve
 
 -- a schedule meets both sides of each bound
 pub arcs_implied : (owner : ℕ → ℕ) (bounds : List Difference) → All (Implies bounds) (shared_arcs owner bounds)
-arcs_implied owner bounds =
-    all_pieces arcs_of (Implies bounds) (filter (is_shared owner) bounds)
-    (All-filter (is_shared owner) (λ b. All (Implies bounds) (arcs_of b)) bounds (λ k d h. sides (get_or bounds k d) (λ time schedule. schedule.met k d h)))
-  where
-    sides : (b : Difference) → ((time : ℕ → ℤ) → IsSchedule bounds time → Meets time b) → All (Implies bounds) (arcs_of b)
-    sides b met =
-        let upper : Arc = record { from = b.from; to = b.to; weight = b.hi } in
-        let lower : Arc = record { from = b.to; to = b.from; weight = neg_ℤ b.lo } in
-        All-cons (Implies bounds) upper (lower ∷ []) (λ time schedule. (let m = met time schedule in omega (arith, ints, m.1)))
-        (All-cons (Implies bounds) lower [] (λ time schedule. (let m = met time schedule in omega (arith, ints, m.0))) (All-nil (Implies bounds)))
+arcs_implied owner bounds = sides_all owner bounds (Implies bounds) (λ k d h shared. (
+  (λ time schedule. (let met = schedule.met k d h in omega (arith, ints, met.1))),
+  (λ time schedule. (let met = schedule.met k d h in omega (arith, ints, met.0))),
+))
 
 -- a shared bound names its events
 named_ends : (owner : ℕ → ℕ) (bounds : List Difference) → All (λ b. is_shared owner b ≡ true → (names_event owner bounds b.from ≡ true) × (names_event owner bounds b.to ≡ true)) bounds
-named_ends owner bounds = λ k d h shared.
-    let b = get_or bounds k d in (
-      list_any_at (λ bound. is_shared owner bound && (eqb bound.from b.from || eqb bound.to b.from)) bounds k d h
-          (and_from _ _ shared (ap (λ t. t || eqb b.to b.from) (eq-eqb b.from b.from refl))),
-      list_any_at (λ bound. is_shared owner bound && (eqb bound.from b.to || eqb bound.to b.to)) bounds k d h
-          (and_from _ _ shared (or_right (eqb b.from b.to) (eqb b.to b.to) (eq-eqb b.to b.to refl))),
-    )
+named_ends owner bounds = search (rules, list_any_at, eq-eqb, or_right)
 
 -- a bound that says no more than the horizon
 says_less : (b : Difference) → says_more b ≡ false → (b.lo ≤ℤ pos 0) × (horizon ≤ℤ b.hi)
@@ -59,11 +47,8 @@ module _ (owner : ℕ → ℕ) (events : ℕ) (bounds within windows : List Diff
       subst (λ b. told b ≡ true → P b) at (passing (event - 1) (window_at event) place) (and_from _ _ named more)
 
   -- what holds of the window of each event holds of all windows
-  windows_all : (P : Difference → Type 0) → ((event : ℕ) → 0 < event → event ≤ events → P (window_at event)) → All P windows
-  windows_all P each = subst (All P) (sym are.windows_are) (All-filter told P (map window_at (range_with_len 1 events))
-      (λ k d h.
-      let few : k < events = omega (arith, length-map-range_with_len window_at 1 events) in
-      subst P (sym (get_or-map-range_with_len window_at 1 events k (1 + k) d few refl)) (each (1 + k) (omega arith) (omega arith))))
+  pub windows_all : (P : Difference → Type 0) → ((event : ℕ) → 0 < event → event ≤ events → P (window_at event)) → All P windows
+  windows_all P each = subst (All P) (sym are.windows_are) (All-filter told P (map window_at (range_with_len 1 events)) (all_in_range window_at events P each))
 
   -- times that meet the windows and the horizon come within them
   times_within : (time : ℕ → ℤ) → time 0 ≡ pos 0 → All (Meets time) windows → ((event : ℕ) → 0 < event → event ≤ events → Meets time (horizon_bound event))
@@ -100,11 +85,6 @@ module _ (owner : ℕ → ℕ) (events : ℕ) (bounds guard : List Difference) (
   left : AreLeft bounds (shared_arcs owner bounds) split
   left = are_left bounds (shared_arcs owner bounds) split is.made.are_split is.possible (arcs_implied owner bounds)
 
-  -- of each shared bound, both sides are apart once they are split
-  apart : All (λ b. is_shared owner b ≡ true → All (IsApart split) (arcs_of b)) bounds
-  apart = All-passing (is_shared owner) (λ b. All (IsApart split) (arcs_of b)) bounds
-      (all_of_pieces arcs_of (IsApart split) (filter (is_shared owner) bounds) left.apart)
-
   -- what is met of each horizon bound
   horizon_met : (P : Difference → Type 0) → All P bounds → (event : ℕ) → 0 < event → event ≤ events → P (horizon_bound event)
   horizon_met P all = all_horizon P events (subst (All P) is.begins (All-take P events bounds all))
@@ -127,11 +107,9 @@ module _ (owner : ℕ → ℕ) (events : ℕ) (bounds guard : List Difference) (
   shared_met time origin met far = λ k d h shared.
       let b = get_or bounds k d in
       let there = shared_within time origin met far k d h shared in
-      let sides = apart k d h shared in
-      let upper : Arc = record { from = b.from; to = b.to; weight = b.hi } in
-      let lower : Arc = record { from = b.to; to = b.from; weight = neg_ℤ b.lo } in
-      let above = All-head (IsApart split) upper (lower ∷ []) sides there.0.0 there.1.0 there.0.1 there.1.1 in
-      let below = All-head (IsApart split) lower [] (All-tail (IsApart split) upper (lower ∷ []) sides) there.1.0 there.0.0 there.1.1 there.0.1 in
+      let sides = sides_each owner bounds (IsApart split) left.apart k d h shared in
+      let above = sides.0 there.0.0 there.1.0 there.0.1 there.1.1 in
+      let below = sides.1 there.1.0 there.0.0 there.1.1 there.0.1 in
       let from_same = there.0.2 in
       let to_same = there.1.2 in
       (omega (arith, ints, below), omega (arith, ints, above))
@@ -148,17 +126,8 @@ module _ (owner : ℕ → ℕ) (events : ℕ) (bounds guard : List Difference) (
       let met = All-left (Meets time) bounds guard schedule.met in
       let within = shared_within time schedule.origin (All-right (Meets time) bounds guard schedule.met) (horizon_met (Meets time) met) in
       left.after time (record { origin = schedule.origin; met = met })
-      (all_pieces arcs_of Within (filter (is_shared owner) bounds) (All-filter_passing (is_shared owner) (λ b. All Within (arcs_of b)) bounds
-      (λ k d h shared. sides (get_or bounds k d) (within k d h shared))))
-    where
-      Within : Arc → Type 0
-      Within arc = IsInWindow split arc.from (time arc.from) × IsInWindow split arc.to (time arc.to)
-
-      sides : (b : Difference) → IsInWindow split b.from (time b.from) × IsInWindow split b.to (time b.to) → All Within (arcs_of b)
-      sides b there =
-          let upper : Arc = record { from = b.from; to = b.to; weight = b.hi } in
-          let lower : Arc = record { from = b.to; to = b.from; weight = neg_ℤ b.lo } in
-          All-cons Within upper (lower ∷ []) there (All-cons Within lower [] (there.1, there.0) (All-nil Within))
+      (sides_all owner bounds (λ arc. IsInWindow split arc.from (time arc.from) × IsInWindow split arc.to (time arc.to))
+      (λ k d h shared. let there = within k d h shared in (there, (there.1, there.0))))
 
   -- a guard's bound is the own of its event's owner
   guard_met : (time : ℕ → ℤ) → ((site : ℕ) → IsSchedule (own_bounds owner site (bounds ++ guard)) time) → All (Meets time) guard

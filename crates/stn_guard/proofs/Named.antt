@@ -1,7 +1,7 @@
 -- Windows that are kept, one by one.
-use Rattle.std.{proofs.{Common.{◌≡◌, inl, inr, ℕ, zero, suc, ◌+◌, ◌-◌, ◌<◌, ◌≤◌, ℤ, pos, Bool, cond, eqb, List, ◌++◌, refl, sym, subst, ap, ◌∙◌, arith}, lemmas.{Int.ints, Bool.{cases_eq, Decides.eqb_tells}, List.FromFn.filter_of_map_range_with_len_more}}, specs.Prelude.◌≤ℤ◌}
+use Rattle.std.{proofs.{Common.{rules, ◌≡◌, inl, inr, ℕ, ◌+◌, ◌-◌, ◌≤◌, ℤ, pos, Bool, cond, eqb, List, ◌++◌, refl, sym, subst, ap, ◌∙◌, arith}, lemmas.{Int.ints, Bool.{cases_eq, eq-eqb, ne_eqb}, List.FromFn.filter_of_map_range_with_len_more}}, specs.Prelude.◌≤ℤ◌}
 use Rattle.stn_net.specs.{Difference.Difference, Schedule.HasSchedule, Windows.Window.{IsInWindow, IsWindow}}
-use Rattle.stn_guard.specs.{Making.window_bound, Splitting.{is_kept, kept, windows_of}}
+use Rattle.stn_guard.{specs.{Making.window_bound, Splitting.{is_kept, kept, windows_of}}, proofs.Ranges.same_in_range}
 
 -- the windows of one event more
 windows_more : (named : List Bool) (ends : ℕ → ℤ × ℤ) (before : ℕ) → windows_of named ends (before + 1) ≡ windows_of named ends before ++ kept named (window_bound (before + 1) (ends (before + 1)))
@@ -9,12 +9,7 @@ windows_more named ends before = filter_of_map_range_with_len_more (is_kept name
 
 -- they depend on the ends of their events alone
 windows_same : (named : List Bool) (one other : ℕ → ℤ × ℤ) (events : ℕ) → ((event : ℕ) → event ≤ events → one event ≡ other event) → windows_of named one events ≡ windows_of named other events
-windows_same named one other zero same = refl
-windows_same named one other (suc before) same =
-    let next : before + 1 ≡ suc before = omega arith in
-    subst (λ n. windows_of named one n ≡ windows_of named other n) next
-    (windows_more named one before ∙ ap (λ front. front ++ kept named (window_bound (before + 1) (one (before + 1)))) (windows_same named one other before (λ event most. same event (omega arith)))
-    ∙ ap (λ ends. windows_of named other before ++ kept named (window_bound (before + 1) ends)) (same (before + 1) (omega arith)) ∙ sym (windows_more named other before))
+windows_same named one other events same = search (rules, same_in_range)
 
 -- the windows of the first events, in these bounds
 pub record AreNamedTo (bounds : List Difference) (named : List Bool) (before : ℕ) (found : List Difference) : Type 0 where
@@ -53,13 +48,7 @@ named_more bounds named before window old new so_far (ends, is, window_is) more 
     }
   where
     at_last : (event number : ℕ) → event ≡ number → cond (eqb event number) ends (so_far.ends event) ≡ ends
-    at_last event number same = elim (eqb_tells event number) [
-      | inl is ↦ ap (λ t. cond t ends (so_far.ends event)) is.0
-      | inr differs ↦ absurd (omega (arith, differs.1))
-    ]
+    at_last event number same = ap (λ t. cond t ends (so_far.ends event)) (eq-eqb event number same)
 
     at_others : (event : ℕ) → event ≤ before → cond (eqb event (before + 1)) ends (so_far.ends event) ≡ so_far.ends event
-    at_others event most = elim (eqb_tells event (before + 1)) [
-      | inl is ↦ absurd (omega (arith, is.1))
-      | inr differs ↦ ap (λ t. cond t ends (so_far.ends event)) differs.0
-    ]
+    at_others event most = ap (λ t. cond t ends (so_far.ends event)) (ne_eqb event (before + 1) (λ same. omega (arith, same)))

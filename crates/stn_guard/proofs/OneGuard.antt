@@ -1,7 +1,7 @@
 -- One guard is made of bounds and owners.
-use Rattle.std.{proofs.{Common.{◌≡◌, ℕ, ◌+◌, ◌<◌, ℤ, List, [], ◌∷◌, ◌++◌, map, refl, sym, ap, subst, ◌∙◌, arith}, lemmas.List.{same_lists, FromFn.{length-map-range_with_len, get_or-map-range_with_len}, Elements.{All-head, All-tail, All-weaker}}}, specs.{Prelude.{All, filter, ◌&&◌}, List.range_with_len}}
+use Rattle.std.{proofs.{Common.{◌≡◌, ℕ, ◌+◌, ℤ, List, [], ◌∷◌, ◌++◌, refl, sym, ap, subst, ◌∙◌}, lemmas.List.Elements.{All-head, All-tail, All-weaker}}, specs.Prelude.All}
 use Rattle.stn_net.{specs.{Difference.Difference, Schedule.HasSchedule, Windows.Window.IsWindow}, proofs.WindowEnds.one_window}
-use Rattle.stn_guard.{specs.{declared.splitting.Arc.Arc, Making.{shared_arcs, window_bound, split_of, names_event, says_more, IsSplit, AreSplit, AreSharedWindows, IsGuardOf}}, proofs.{Split.{Implies, split_left, are_left}, Made.arcs_implied}}
+use Rattle.stn_guard.{specs.{declared.splitting.Arc.Arc, Splitting.Implies, Making.{shared_arcs, window_bound, split_of, IsSplit, AreSplit, AreSharedWindows, IsGuardOf}}, proofs.{Ranges.same_in_range, Split.{split_left, are_left}, Made.arcs_implied}}
 
 pub one_pair : (bounds : List Difference) (event : ℕ) (one other : ℤ × ℤ) → HasSchedule bounds → IsWindow bounds event one.0 one.1 → IsWindow bounds event other.0 other.1 → one ≡ other
 one_pair bounds event one other possible these those =
@@ -27,20 +27,7 @@ one_end (arc ∷ arcs) bounds one other possible implied these those =
 one_list : (owner : ℕ → ℕ) (events : ℕ) (bounds within one other : List Difference) → HasSchedule within
     → AreSharedWindows owner events bounds within one → AreSharedWindows owner events bounds within other → one ≡ other
 one_list owner events bounds within one other possible these those =
-    these.windows_are ∙ ap (filter (λ bound. names_event owner bounds bound.to && says_more bound)) (same_lists (map first (range_with_len 1 events)) (map second (range_with_len 1 events))
-    (length-map-range_with_len first 1 events ∙ sym (length-map-range_with_len second 1 events))
-    (λ k d h.
-    let few : k < events = omega (arith, length-map-range_with_len first 1 events) in
-    get_or-map-range_with_len first 1 events k (1 + k) d few refl
-    ∙ ap (window_bound (1 + k)) (one_pair within (1 + k) (these.ends (1 + k)) (those.ends (1 + k)) possible (these.true_ends (1 + k) (omega arith)) (those.true_ends (1 + k) (omega arith)))
-    ∙ sym (get_or-map-range_with_len second 1 events k (1 + k) d few refl)))
-    ∙ sym those.windows_are
-  where
-    first : ℕ → Difference
-    first event = window_bound event (these.ends event)
-
-    second : ℕ → Difference
-    second event = window_bound event (those.ends event)
+    cc (same_in_range (λ event. window_bound event (these.ends event)) events (λ event. window_bound event (those.ends event)) (λ event after most. ap (window_bound event) (one_pair within event (these.ends event) (those.ends event) possible (these.true_ends event most) (those.true_ends event most))))
 
 pub one_made : (owner : ℕ → ℕ) (events : ℕ) (bounds one other : List Difference) → HasSchedule bounds
     → IsGuardOf owner events bounds one → IsGuardOf owner events bounds other → one ≡ other

@@ -1,7 +1,8 @@
-use Rattle.std.{proofs.{Common.{◌≡◌, ℕ, true, not, ◌&&◌, ◌||◌, eqb, List, [], ◌∷◌, inl, inr, refl, sym, ap, subst, ◌∙◌}, lemmas.{Bool.{false≢true, and_parts, and_from, Decides.eqb_tells}, List.Elements.{All-nil, All-cons, All-head, All-tail, All-append}}}, specs.Prelude.{◌⊎◌, ◌≢◌, All, flat_map}}
+use Rattle.std.{proofs.{Common.{rules, ◌≡◌, ℕ, true, not, ◌&&◌, eqb, List, [], ◌∷◌, get_or, filter, inl, inr, refl, sym, ap, subst, ◌∙◌}, lemmas.{Bool.{false≢true, and_parts, and_from, or_left, or_right, eq-eqb, Decides.eqb_tells}, List.Elements.{All-from_recursion, recursion_from_All, All-nil, All-cons, All-head, All-tail, All-append}}}, specs.Prelude.{◌⊎◌, ◌≢◌, All, flat_map}}
 use Rattle.stn_time.proofs.Each.{All-left, All-right}
 use Rattle.stn_net.specs.Difference.{Difference}
-use Rattle.stn_guard.specs.Owners.{is_at, is_owned, is_shared}
+use Rattle.stn_site.proofs.Live.{All-passing, All-filter_passing}
+use Rattle.stn_guard.specs.{declared.splitting.Arc.Arc, Owners.{is_at, is_owned, is_shared}, Making.{upper, lower, arcs_of, shared_arcs}}
 
 -- what holds of all of the pieces, one after the other
 pub all_pieces : {X Y : Type 0} (f : X → List Y) (P : Y → Type 0) (xs : List X) → All (λ x. All P (f x)) xs → All P (flat_map f xs)
@@ -14,34 +15,26 @@ all_of_pieces {X} f P [] all = All-nil (λ (x : X). All P (f x))
 all_of_pieces {X} f P (x ∷ xs) all =
     All-cons (λ (y : X). All P (f y)) x xs (All-left P (f x) (flat_map f xs) all) (all_of_pieces f P xs (All-right P (f x) (flat_map f xs) all))
 
--- an event that is at a site is the origin, or the site owns it
-pub at_cases : (owner : ℕ → ℕ) (site event : ℕ) → is_at owner site event ≡ true → (event ≡ 0) ⊎ ((event ≢ 0) × (owner event ≡ site))
-at_cases owner site event at = elim (eqb_tells event 0) [
-  | inl origin ↦ inl origin.1
-  | inr beside ↦ inr (
-    beside.1,
-    elim (eqb_tells (owner event) site) [
-      | inl own ↦ own.1
-      | inr other ↦ absurd (false≢true (sym (ap (λ t. t || eqb (owner event) site) beside.0 ∙ other.0) ∙ at))
-    ],
-  )
-]
+-- what holds of both sides of each shared bound holds of all sides, and the other way round
+module _ (owner : ℕ → ℕ) (bounds : List Difference) (P : Arc → Type 0) where
+  pub sides_all : All (λ bound. is_shared owner bound ≡ true → P (upper bound) × P (lower bound)) bounds → All P (shared_arcs owner bounds)
+  sides_all each =
+      all_pieces arcs_of P (filter (is_shared owner) bounds)
+      (All-filter_passing (is_shared owner) (λ bound. All P (arcs_of bound)) bounds
+      (λ k d h shared. let both = each k d h shared in All-from_recursion P (arcs_of (get_or bounds k d)) (both.0, (both.1, tt))))
 
--- an event is at its owner
+  pub sides_each : All P (shared_arcs owner bounds) → All (λ bound. is_shared owner bound ≡ true → P (upper bound) × P (lower bound)) bounds
+  sides_each all k d h shared =
+      let pieces = all_of_pieces arcs_of P (filter (is_shared owner) bounds) all in
+      let both = recursion_from_All P (arcs_of (get_or bounds k d)) (All-passing (is_shared owner) (λ bound. All P (arcs_of bound)) bounds pieces k d h shared) in
+      (both.0, both.1.0)
+
+-- an event is at its owner, and the origin at each site
 pub at_owner : (owner : ℕ → ℕ) (event : ℕ) → is_at owner (owner event) event ≡ true
-at_owner owner event = elim (eqb_tells event 0) [
-  | inl origin ↦ ap (λ t. t || eqb (owner event) (owner event)) origin.0
-  | inr beside ↦ ap (λ t. t || eqb (owner event) (owner event)) beside.0 ∙ elim (eqb_tells (owner event) (owner event)) [
-    | inl own ↦ own.0
-    | inr other ↦ absurd (other.1 refl)
-  ]
-]
+at_owner owner event = or_right (eqb event 0) (eqb (owner event) (owner event)) (eq-eqb (owner event) (owner event) refl)
 
 pub at_origin : (owner : ℕ → ℕ) (site event : ℕ) → event ≡ 0 → is_at owner site event ≡ true
-at_origin owner site event e = elim (eqb_tells event 0) [
-  | inl origin ↦ ap (λ t. t || eqb (owner event) site) origin.0
-  | inr beside ↦ absurd (beside.1 e)
-]
+at_origin owner site event e = or_left (eqb event 0) (eqb (owner event) site) (eq-eqb event 0 e)
 
 -- a bound is its events' owner's own, or shared
 pub own_or_shared : (owner : ℕ → ℕ) (bound : Difference) → ((site : ℕ) × (is_owned owner site bound ≡ true)) ⊎ (is_shared owner bound ≡ true)
@@ -64,20 +57,8 @@ shared_parts owner bound shared =
     (not_equal bound.from 0 parts.0, not_equal bound.to 0 more.0, not_equal (owner bound.from) (owner bound.to) more.1)
   where
     not_equal : (a b : ℕ) → not (eqb a b) ≡ true → a ≢ b
-    not_equal a b e same = elim (eqb_tells a b) [
-      | inl equal ↦ false≢true (sym (ap not equal.0) ∙ e)
-      | inr differ ↦ differ.1 same
-    ]
+    not_equal a b e same = false≢true (sym (ap not (eq-eqb a b same)) ∙ e)
 
 -- a shared bound is no site's own
 pub shared_not_own : (owner : ℕ → ℕ) (bound : Difference) (site : ℕ) → is_shared owner bound ≡ true → is_owned owner site bound ≡ true → ⊥
-shared_not_own owner bound site shared own =
-    let parts = shared_parts owner bound shared in
-    let at = and_parts (is_at owner site bound.from) (is_at owner site bound.to) own in
-    elim (at_cases owner site bound.from at.0) [
-      | inl origin ↦ parts.0 origin
-      | inr from ↦ elim (at_cases owner site bound.to at.1) [
-        | inl origin ↦ parts.1 origin
-        | inr to ↦ parts.2 (from.1 ∙ sym to.1)
-      ]
-    ]
+shared_not_own owner bound site shared own = search rules

@@ -1,5 +1,5 @@
 -- Records that are put to a content one after the other.
-use Rattle.std.{proofs.{Common.{◌≡◌, inl, inr, ⊎_elim, ℕ, true, false, not, List, [], ◌∷◌, ◌++◌, map, Some, refl, sym, ap, subst, ◌∙◌}, lemmas.{List.{map_push, Elements.{All-nil, All-cons, All-head, All-tail, All-append}}, Bool.and_parts}}, specs.Prelude.All}
+use Rattle.std.{proofs.{Common.{rules, ◌≡◌, inl, inr, ⊎_elim, ℕ, true, false, not, List, [], ◌∷◌, ◌++◌, map, Some, refl, sym, ap, subst, ◌∙◌}, lemmas.{List.{map_push, Elements.{All-nil, All-cons, All-head, All-tail, All-append}}, Bool.and_parts}}, specs.Prelude.All}
 use Rattle.stn_site.{proofs.{Live.{All-passing, All-filter_passing, LiveHold, live_from_bounds, bounds_from_live, new_hold, old_hold}, Changes.{IsGrown, grown_with_record}, Items.addition_items}, specs.{Bounds.{live_bounds, all_bounds}, Held.Held, Calls.{added, took, Leaves, AllLeave}}}
 use Rattle.stn_time.proofs.Each.{All-left, All-right}
 use Rattle.stn_net.specs.{Difference.Difference, Schedule.Meets}
@@ -135,10 +135,4 @@ added_guards owner old new bounds ids adds guards =
 -- a site that took a content to which it put records has added them
 pub took_each : (old new : Held) (all : Content) (bounds : List Difference) (ids : List SiteCounter) → PutsEach old.site old.state bounds ids all → Leaves old (took all) new
     → (IsPart all old.state → new ≡ old) → AddsEach old bounds ids new
-took_each old new all bounds ids puts leaves again =
-    let is : new.state ≡ all = absorbed old.state all new.state leaves.state (put_part old.site old.state puts.records all puts.put) in record {
-      records = puts.records;
-      bounds_are = puts.bounds_are;
-      ids_are = puts.ids_are;
-      leave = adds_all old new all puts.records leaves.site leaves.source is (λ same. again (λ item there. subst (λ (s : Content). HasItem s item) same there)) puts.put;
-    }
+took_each old new all bounds ids puts leaves again = search (rules, absorbed, put_part, adds_all)

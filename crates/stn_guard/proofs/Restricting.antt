@@ -1,37 +1,30 @@
 -- What splitting one arc does to windows.
-use Rattle.std.proofs.{Common.{◌≡◌, ℤ, ◌-ℤ◌, ◌≤ℤ◌, ◌<ℤ◌, Bool, true, false, cond, List, [], ◌∷◌, ◌++◌, refl, sym, ap, subst, ◌∙◌, arith, append-nil, append_assoc}, lemmas.{Int.ints, List.Elements.All-head}}
+use Rattle.std.proofs.{Common.{rules, ◌≡◌, ℤ, ◌-ℤ◌, ◌≤ℤ◌, ◌<ℤ◌, true, false, cond, [], ◌∷◌, ◌++◌, refl, sym, ap, subst, ◌∙◌, arith, append-nil, append_assoc}, lemmas.{Int.ints, List.Elements.All-head}}
 use Rattle.stn_net.{proofs.Closure.schedule_before, specs.{Difference.Difference, Schedule.HasSchedule, Windows.Window.IsWindow}}
 use Rattle.stn_conflict.specs.Listing.{ListedBounds}
-use Rattle.stn_guard.{specs.{declared.splitting.Arc.Arc, Making.{window_bound, is_implied, split_time}, Splitting.{MeetsArc, LeavesTime, CanSplit, Splits}}, proofs.Split.{HasEnds, middle_leaves_time, splitting, splitting_possible}}
+use Rattle.stn_guard.{specs.{declared.splitting.Arc.Arc, Making.{window_bound, is_implied, split_time, split_of}, Splitting.{Implies, LeavesTime, CanSplit, Splits}}, proofs.Split.{HasEnds, middle_leaves_time, splitting, splitting_possible}}
 
 module _ (arc : Arc) (old : ListedBounds) (from to : ℤ × ℤ) (can : CanSplit (arc ∷ []) old) (from_window : IsWindow old.bounds arc.from from.0 from.1) (to_window : IsWindow old.bounds arc.to to.0 to.1) where
   -- what is known of the windows of the arc's events
   pub known : HasEnds old.bounds arc from to
-  known = record {
-    possible = can.possible;
-    implied = λ time schedule. All-head (MeetsArc time) arc [] (can.implied time schedule);
-    from_window = from_window;
-    to_window = to_window;
-  }
+  known = record { possible = can.possible; implied = All-head (Implies old.bounds) arc [] can.implied; from_window = from_window; to_window = to_window }
+
+  -- bounds with what splits the arc
+  splits_by : (new : ListedBounds) → new.events ≡ old.events → new.bounds ≡ old.bounds ++ split_of arc from to → Splits (arc ∷ []) old new
+  splits_by new events bounds = search rules
 
   -- where the windows imply the arc, nothing changes
   pub nothing_to_split : (to.1 -ℤ from.0) ≤ℤ arc.weight → Splits (arc ∷ []) old old
   nothing_to_split within =
       let implied : is_implied arc from to ≡ true = grind (arith, ints) in
-      record {
-        split = (
-          old.bounds,
-          record {
-            from = from;
-            to = to;
-            from_window = from_window;
-            to_window = to_window;
-            split_is = sym (append-nil old.bounds) ∙ ap (λ t. old.bounds ++ cond t [] (splitting arc from to (split_time arc from to))) (sym implied);
-          },
-          refl,
-        );
-        events = refl;
-      }
+      splits_by old refl (sym (append-nil old.bounds) ∙ ap (λ t. old.bounds ++ cond t [] (splitting arc from to (split_time arc from to))) (sym implied))
+
+  -- that `to` comes by the time in the middle, and `from` no earlier than `weight` before that
+  abbrev pub comes_by : Difference
+  comes_by = window_bound arc.to (to.0, split_time arc from to)
+
+  abbrev pub comes_after : Difference
+  comes_after = window_bound arc.from (split_time arc from to -ℤ arc.weight, from.1)
 
   module _ (wider : arc.weight <ℤ (to.1 -ℤ from.0)) where
     -- the time in the middle leaves both events a time
@@ -39,33 +32,16 @@ module _ (arc : Arc) (old : ListedBounds) (from to : ℤ × ℤ) (can : CanSplit
     leaves_known = middle_leaves_time old.bounds arc from to known wider
 
     -- both bounds can be taken, one after the other
-    pub both_possible : HasSchedule ((old.bounds ++ window_bound arc.to (to.0, split_time arc from to) ∷ []) ++ window_bound arc.from (split_time arc from to -ℤ arc.weight, from.1) ∷ [])
+    pub both_possible : HasSchedule ((old.bounds ++ comes_by ∷ []) ++ comes_after ∷ [])
     both_possible =
-        subst HasSchedule (sym (append_assoc old.bounds (window_bound arc.to (to.0, split_time arc from to) ∷ []) (window_bound arc.from (split_time arc from to -ℤ arc.weight, from.1) ∷ [])))
-        (splitting_possible old.bounds arc from to (split_time arc from to) known leaves_known)
+        subst HasSchedule (sym (append_assoc old.bounds (comes_by ∷ []) (comes_after ∷ []))) (splitting_possible old.bounds arc from to (split_time arc from to) known leaves_known)
 
-    pub first_possible : HasSchedule (old.bounds ++ window_bound arc.to (to.0, split_time arc from to) ∷ [])
-    first_possible =
-        let whole = both_possible in
-        (whole.0, schedule_before (old.bounds ++ window_bound arc.to (to.0, split_time arc from to) ∷ []) (window_bound arc.from (split_time arc from to -ℤ arc.weight, from.1) ∷ []) whole.0 whole.1)
+    pub first_possible : HasSchedule (old.bounds ++ comes_by ∷ [])
+    first_possible = let whole = both_possible in (whole.0, schedule_before (old.bounds ++ comes_by ∷ []) (comes_after ∷ []) whole.0 whole.1)
 
     -- and split it
-    pub two_to_split : (new : ListedBounds) → new.events ≡ old.events
-        → new.bounds ≡ (old.bounds ++ window_bound arc.to (to.0, split_time arc from to) ∷ []) ++ window_bound arc.from (split_time arc from to -ℤ arc.weight, from.1) ∷ []
-        → Splits (arc ∷ []) old new
+    pub two_to_split : (new : ListedBounds) → new.events ≡ old.events → new.bounds ≡ (old.bounds ++ comes_by ∷ []) ++ comes_after ∷ [] → Splits (arc ∷ []) old new
     two_to_split new events bounds =
         let implied : is_implied arc from to ≡ false = grind (arith, ints) in
-        record {
-          split = (
-            old.bounds ++ splitting arc from to (split_time arc from to),
-            record {
-              from = from;
-              to = to;
-              from_window = from_window;
-              to_window = to_window;
-              split_is = ap (λ t. old.bounds ++ cond t [] (splitting arc from to (split_time arc from to))) (sym implied);
-            },
-            bounds ∙ append_assoc old.bounds (window_bound arc.to (to.0, split_time arc from to) ∷ []) (window_bound arc.from (split_time arc from to -ℤ arc.weight, from.1) ∷ []),
-          );
-          events = events;
-        }
+        splits_by new events (bounds ∙ append_assoc old.bounds (comes_by ∷ []) (comes_after ∷ [])
+        ∙ ap (λ t. old.bounds ++ cond t [] (splitting arc from to (split_time arc from to))) (sym implied))

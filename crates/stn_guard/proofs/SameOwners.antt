@@ -1,8 +1,7 @@
 -- Owners that agree on the events that bounds name have the same guard.
-use Rattle.std.{proofs.{Common.{◌≡◌, ℕ, ◌+◌, ◌<◌, ◌≤◌, Bool, not, ◌&&◌, ◌||◌, eqb, List, [], ◌∷◌, ◌++◌, get_or, map, inl, inr, refl, sym, ap, subst, ◌∙◌, arith}, lemmas.{Bool.Decides.eqb_tells, List.{FromFn.{length-map-range_with_len, get_or-map-range_with_len}, Elements.{All-head, All-tail, All-append}}}, Math.Nat.pos_of_ne-zero}, specs.{Prelude.{All, flat_map}, List.{list_any, range_with_len}}}
-use Rattle.stn_site.proofs.Live.{All-filter_passing}
+use Rattle.std.{proofs.{Common.{rules, ◌≡◌, ℕ, ◌+◌, ◌<◌, ◌≤◌, Bool, ◌&&◌, ◌||◌, eqb, List, [], ◌∷◌, ◌++◌, get_or, map, refl, sym, ap, subst, ◌∙◌, arith}, lemmas.List.Elements.{All-head, All-tail, All-append}}, specs.{Prelude.{All, flat_map}, List.{list_any, range_with_len}}}
 use Rattle.stn_net.specs.{Difference.{Difference, NamesEvents}, Schedule.IsSchedule}
-use Rattle.stn_guard.{specs.{Owners.{is_at, is_owned, own_bounds, is_shared}, Guard.Guards, Making.{arcs_of, shared_arcs, window_bound, names_event, says_more, AreSplit, AreSharedWindows, IsGuardOf}}, proofs.Whole.filter_same}
+use Rattle.stn_guard.{specs.{Owners.{is_at, is_owned, own_bounds, is_shared}, Guard.Guards, Making.{arcs_of, shared_arcs, window_bound, names_event, says_more, AreSplit, AreSharedWindows, IsGuardOf}}, proofs.{Made.windows_all, Whole.filter_same}}
 
 any_same : {X : Type 0} (p q : X → Bool) (xs : List X) → All (λ x. p x ≡ q x) xs → list_any p xs ≡ list_any q xs
 any_same p q [] same = refl
@@ -11,36 +10,17 @@ any_same p q (x ∷ xs) same = λ i. All-head (λ y. p y ≡ q y) x xs same i ||
 -- a guard names the events
 pub guard_named : (owner : ℕ → ℕ) (events : ℕ) (bounds within guard : List Difference) → AreSharedWindows owner events bounds within guard → All (NamesEvents events) guard
 guard_named owner events bounds within guard windows =
-    subst (All (NamesEvents events)) (sym windows.windows_are)
-    (All-filter_passing (λ bound. names_event owner bounds bound.to && says_more bound) (NamesEvents events) (map at (range_with_len 1 events))
-    (λ k d h passes.
-    let few : k < events = omega (arith, length-map-range_with_len at 1 events) in
-    subst (NamesEvents events) (sym (get_or-map-range_with_len at 1 events k (1 + k) d few refl)) (record { from = omega arith; to = omega arith })))
-  where
-    at : ℕ → Difference
-    at event = window_bound event (windows.ends event)
+    windows_all owner events bounds within guard windows (NamesEvents events) (λ event after most. record { from = omega arith; to = most })
 
 module _ (one other : ℕ → ℕ) (events : ℕ) (same : (event : ℕ) → 0 < event → event ≤ events → one event ≡ other event) where
   same_at : (site event : ℕ) → event ≤ events → is_at one site event ≡ is_at other site event
-  same_at site event within = elim (eqb_tells event 0) [
-    | inl origin ↦ ap (λ t. t || eqb (one event) site) origin.0 ∙ sym (ap (λ t. t || eqb (other event) site) origin.0)
-    | inr beside ↦ ap (λ n. eqb event 0 || eqb n site) (same event (pos_of_ne-zero beside.1) within)
-  ]
+  same_at site event within = search rules
 
   same_own : (site : ℕ) (bound : Difference) → NamesEvents events bound → is_owned one site bound ≡ is_owned other site bound
   same_own site bound named = λ i. same_at site bound.from named.from i && same_at site bound.to named.to i
 
   same_shared : (bound : Difference) → NamesEvents events bound → is_shared one bound ≡ is_shared other bound
-  same_shared bound named = elim (eqb_tells bound.from 0) [
-    | inl origin ↦ ap (λ t. not t && (not (eqb bound.to 0) && not (eqb (one bound.from) (one bound.to)))) origin.0
-        ∙ sym (ap (λ t. not t && (not (eqb bound.to 0) && not (eqb (other bound.from) (other bound.to)))) origin.0)
-    | inr from ↦ elim (eqb_tells bound.to 0) [
-      | inl origin ↦ ap (λ t. not (eqb bound.from 0) && (not t && not (eqb (one bound.from) (one bound.to)))) origin.0
-          ∙ sym (ap (λ t. not (eqb bound.from 0) && (not t && not (eqb (other bound.from) (other bound.to)))) origin.0)
-      | inr to ↦ λ i. not (eqb bound.from 0) && (not (eqb bound.to 0)
-          && not (eqb (same bound.from (pos_of_ne-zero from.1) named.from i) (same bound.to (pos_of_ne-zero to.1) named.to i)))
-    ]
-  ]
+  same_shared bound named = search rules
 
   module _ (bounds : List Difference) (named : All (NamesEvents events) bounds) where
     same_arcs : shared_arcs one bounds ≡ shared_arcs other bounds

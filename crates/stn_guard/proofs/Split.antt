@@ -1,18 +1,12 @@
 -- What splitting an arc leaves.
-use Rattle.std.{proofs.{Common.{◌≡◌, ℕ, ℤ, pos, negsuc, ◌+ℤ◌, ◌-ℤ◌, ◌≤ℤ◌, ◌<ℤ◌, Bool, true, false, cond, List, [], ◌∷◌, ◌++◌, refl, sym, subst, arith, append-nil}, lemmas.{Int.{ints, clamps}, List.Elements.{All-nil, All-cons, All-head, All-tail, All-append, All-weaker}}}, specs.{Prelude.All, Int.{int_min, int_max, int_div_euclid}}}
-use Rattle.stn_net.{proofs.{Closure.schedule_before, WindowEnds.lesser_schedule}, specs.{Difference.Difference, Schedule.{Meets, IsSchedule, HasSchedule}, Windows.Window.{IsInWindow, IsWindow}}}
-use Rattle.stn_time.proofs.Each.{All-right}
-use Rattle.stn_net.{specs.{Difference.Difference, Schedule.{Meets, IsSchedule, HasSchedule}, Windows.Window.{IsInWindow, IsWindow}}, proofs.WindowEnds.lesser_schedule}
-use Rattle.stn_guard.specs.{declared.splitting.Arc.Arc, Making.{window_bound, is_implied, split_time, IsSplit, AreSplit}, Splitting.{LeavesTime, MeetsArc}}
+use Rattle.std.{proofs.{Common.{rules, ◌≡◌, ℕ, ℤ, pos, negsuc, ◌+ℤ◌, ◌-ℤ◌, ◌≤ℤ◌, ◌<ℤ◌, Bool, true, false, cond, List, [], ◌∷◌, ◌++◌, refl, sym, subst, arith, append-nil}, lemmas.{Int.{ints, clamps}, List.Elements.{All-from_recursion, recursion_from_All, All-cons, All-head, All-tail, All-weaker}}}, specs.{Prelude.All, Int.{int_min, int_max, int_div_euclid}}}
+use Rattle.stn_net.{proofs.{Closure.schedule_before, Schedules.{met_behind, schedule_with}, WindowEnds.lesser_schedule}, specs.{Difference.Difference, Schedule.{Meets, IsSchedule, HasSchedule}, Windows.Window.{IsInWindow, IsWindow}}}
+use Rattle.stn_guard.specs.{declared.splitting.Arc.Arc, Making.{window_bound, is_implied, split_time, IsSplit, AreSplit}, Splitting.{Implies, LeavesTime}}
 
 -- half of a number, rounded down
 pub half_of : (z : ℤ) → ((int_div_euclid z (pos 2) +ℤ int_div_euclid z (pos 2)) ≤ℤ z) × (z ≤ℤ ((int_div_euclid z (pos 2) +ℤ int_div_euclid z (pos 2)) +ℤ pos 1))
 half_of (pos n) = (omega (arith, ints), omega (arith, ints))
 half_of (negsuc n) = (omega (arith, ints), omega (arith, ints))
-
--- every schedule of the bounds meets the arc
-abbrev pub Implies : List Difference → Arc → Type 0
-Implies bounds arc = (time : ℕ → ℤ) → IsSchedule bounds time → MeetsArc time arc
 
 -- what is known of the windows of an arc's events
 pub record HasEnds (bounds : List Difference) (arc : Arc) (from to : ℤ × ℤ) : Type 0 where
@@ -51,11 +45,8 @@ middle_leaves_time bounds arc from to ends wider =
     let to_greatest : greatest ≤ℤ to.1 = omega (arith, ints, clamps) in
     let from_greatest : greatest ≤ℤ (from.1 +ℤ arc.weight) = omega (arith, ints, clamps) in
     let ordered : least ≤ℤ greatest = omega (arith, ints, clamps) in
-    within arc from to least greatest (int_div_euclid (least +ℤ greatest) (pos 2)) (half_of (least +ℤ greatest)) to_least from_least to_greatest from_greatest ordered
-  where
-    within : (arc : Arc) (from to : ℤ × ℤ) (least greatest time : ℤ) → ((time +ℤ time) ≤ℤ (least +ℤ greatest)) × ((least +ℤ greatest) ≤ℤ ((time +ℤ time) +ℤ pos 1))
-        → to.0 ≤ℤ least → (from.0 +ℤ arc.weight) ≤ℤ least → greatest ≤ℤ to.1 → greatest ≤ℤ (from.1 +ℤ arc.weight) → least ≤ℤ greatest → LeavesTime arc from to time
-    within arc from to least greatest time middle a b c d ordered = record {
+    let middle = half_of (least +ℤ greatest) in
+    record {
       to_first = omega (arith, ints, middle.0, middle.1);
       to_last = omega (arith, ints, middle.0, middle.1);
       from_first = omega (arith, ints, middle.0, middle.1);
@@ -66,50 +57,9 @@ middle_leaves_time bounds arc from to ends wider =
 abbrev pub splitting : Arc → ℤ × ℤ → ℤ × ℤ → ℤ → List Difference
 splitting arc from to time = window_bound arc.to (to.0, time) ∷ window_bound arc.from (time -ℤ arc.weight, from.1) ∷ []
 
--- some schedule meets both
-pub splitting_possible : (bounds : List Difference) (arc : Arc) (from to : ℤ × ℤ) (time : ℤ) → HasEnds bounds arc from to → LeavesTime arc from to time
-    → HasSchedule (bounds ++ splitting arc from to time)
-splitting_possible bounds arc from to time ends leaves =
-    let early = takes_first bounds arc.to to.0 to.1 ends.possible ends.to_window in
-    let late = takes_last bounds arc.from from.0 from.1 ends.possible ends.from_window in
-    let delay = time -ℤ to.0 in
-    let first = leaves.to_first in
-    let both : ℕ → ℤ = λ event. int_min (late.0 event) (early.0 event +ℤ delay) in
-    let schedule : IsSchedule bounds both = lesser_schedule bounds late.0 early.0 delay late.1 early.1 (omega (arith, ints)) in
-    let origin = schedule.origin in
-    let met = ends.implied early.0 early.1 in
-    let early_at = early.2 in
-    let late_at = late.2 in
-    let last = leaves.from_last in
-    let to_there = (ends.to_window (both arc.to)).0 (both, schedule, refl) in
-    let from_there = (ends.from_window (both arc.from)).0 (both, schedule, refl) in
-    let to_by : both arc.to ≤ℤ time = omega (arith, ints, clamps) in
-    let from_by : (time -ℤ arc.weight) ≤ℤ both arc.from = omega (arith, ints, clamps) in (
-      both,
-      record {
-        origin = origin;
-        met = All-append (Meets both) bounds (splitting arc from to time) schedule.met
-            (All-cons (Meets both) (window_bound arc.to (to.0, time)) (window_bound arc.from (time -ℤ arc.weight, from.1) ∷ []) (meets_window both arc.to to.0 time origin to_there.0 to_by)
-            (All-cons (Meets both) (window_bound arc.from (time -ℤ arc.weight, from.1)) [] (meets_window both arc.from (time -ℤ arc.weight) from.1 origin from_by from_there.1) (All-nil (Meets both))));
-      },
-    )
-  where
-    meets_window : (times : ℕ → ℤ) (event : ℕ) (first last : ℤ) → times 0 ≡ pos 0 → first ≤ℤ times event → times event ≤ℤ last → Meets times (window_bound event (first, last))
-    meets_window times event first last origin after before = (omega (arith, ints), omega (arith, ints))
-
--- so `to` never comes more than `weight` after `from`, even in two schedules
+-- `to` never comes more than `weight` after `from`, even in two schedules
 abbrev pub IsApart : List Difference → Arc → Type 0
 IsApart bounds arc = (one other : ℕ → ℤ) → IsSchedule bounds one → IsSchedule bounds other → (other arc.to -ℤ one arc.from) ≤ℤ arc.weight
-
-splitting_apart : (bounds : List Difference) (arc : Arc) (from to : ℤ × ℤ) (time : ℤ) → IsApart (bounds ++ splitting arc from to time) arc
-splitting_apart bounds arc from to time one other is_one is_other =
-    let ones = All-right (Meets one) bounds (splitting arc from to time) is_one.met in
-    let others = All-right (Meets other) bounds (splitting arc from to time) is_other.met in
-    let from_met = All-head (Meets one) (window_bound arc.from (time -ℤ arc.weight, from.1)) [] (All-tail (Meets one) (window_bound arc.to (to.0, time)) (window_bound arc.from (time -ℤ arc.weight, from.1) ∷ []) ones) in
-    let to_met = All-head (Meets other) (window_bound arc.to (to.0, time)) (window_bound arc.from (time -ℤ arc.weight, from.1) ∷ []) others in
-    let a = is_one.origin in
-    let b = is_other.origin in
-    omega (arith, ints, from_met.0, to_met.1)
 
 -- what is left once an arc is split
 pub record IsLeft (bounds : List Difference) (arc : Arc) (next : List Difference) : Type 0 where
@@ -118,28 +68,54 @@ pub record IsLeft (bounds : List Difference) (arc : Arc) (next : List Difference
   pub apart : IsApart next arc
   pub after : (time from to : ℕ → ℤ) → IsSchedule bounds time → IsSchedule next from → time arc.from ≡ from arc.from → IsSchedule next to → time arc.to ≡ to arc.to → IsSchedule next time
 
-splitting_left : (bounds : List Difference) (arc : Arc) (from to : ℤ × ℤ) (time : ℤ) → HasSchedule (bounds ++ splitting arc from to time)
-    → IsLeft bounds arc (bounds ++ splitting arc from to time)
-splitting_left bounds arc from to time possible = record {
-  possible = possible;
-  before = schedule_before bounds (splitting arc from to time);
-  apart = splitting_apart bounds arc from to time;
-  after = λ times one other schedule is_one from_same is_other to_same.
-      let ones = All-right (Meets one) bounds (splitting arc from to time) is_one.met in
-      let others = All-right (Meets other) bounds (splitting arc from to time) is_other.met in
-      let from_met = All-head (Meets one) (window_bound arc.from (time -ℤ arc.weight, from.1)) [] (All-tail (Meets one) (window_bound arc.to (to.0, time)) (window_bound arc.from (time -ℤ arc.weight, from.1) ∷ []) ones) in
-      let to_met = All-head (Meets other) (window_bound arc.to (to.0, time)) (window_bound arc.from (time -ℤ arc.weight, from.1) ∷ []) others in
-      record {
-        origin = schedule.origin;
-        met = All-append (Meets times) bounds (splitting arc from to time) schedule.met
-            (All-cons (Meets times) (window_bound arc.to (to.0, time)) (window_bound arc.from (time -ℤ arc.weight, from.1) ∷ []) (same_window times other arc.to to.0 time schedule.origin is_other.origin to_same to_met)
-            (All-cons (Meets times) (window_bound arc.from (time -ℤ arc.weight, from.1)) [] (same_window times one arc.from (time -ℤ arc.weight) from.1 schedule.origin is_one.origin from_same from_met) (All-nil (Meets times))));
-      };
-}
-  where
-    same_window : (times other : ℕ → ℤ) (event : ℕ) (first last : ℤ) → times 0 ≡ pos 0 → other 0 ≡ pos 0 → times event ≡ other event
-        → Meets other (window_bound event (first, last)) → Meets times (window_bound event (first, last))
-    same_window times other event first last a b e met = (omega (arith, ints, met.0), omega (arith, ints, met.1))
+module _ (bounds : List Difference) (arc : Arc) (from to : ℤ × ℤ) (time : ℤ) where
+  -- the events come within the two bounds
+  abbrev KeepsSplit : (ℕ → ℤ) → Type 0
+  KeepsSplit times = ((to.0 ≤ℤ times arc.to) × (times arc.to ≤ℤ time)) × (((time -ℤ arc.weight) ≤ℤ times arc.from) × (times arc.from ≤ℤ from.1))
+
+  split_schedule : (times : ℕ → ℤ) → IsSchedule bounds times → KeepsSplit times → IsSchedule (bounds ++ splitting arc from to time) times
+  split_schedule times schedule keeps =
+      let origin = schedule.origin in
+      schedule_with bounds (splitting arc from to time) times schedule
+      (All-from_recursion (Meets times) (splitting arc from to time)
+      ((omega (arith, ints, keeps.0.0), omega (arith, ints, keeps.0.1)), ((omega (arith, ints, keeps.1.0), omega (arith, ints, keeps.1.1)), tt)))
+
+  split_kept : (times : ℕ → ℤ) → IsSchedule (bounds ++ splitting arc from to time) times → KeepsSplit times
+  split_kept times schedule =
+      let met = recursion_from_All (Meets times) (splitting arc from to time) (met_behind bounds (splitting arc from to time) times schedule) in
+      let origin = schedule.origin in
+      ((omega (arith, ints, met.0.0), omega (arith, ints, met.0.1)), (omega (arith, ints, met.1.0.0), omega (arith, ints, met.1.0.1)))
+
+  -- some schedule meets both
+  pub splitting_possible : HasEnds bounds arc from to → LeavesTime arc from to time → HasSchedule (bounds ++ splitting arc from to time)
+  splitting_possible ends leaves =
+      let early = takes_first bounds arc.to to.0 to.1 ends.possible ends.to_window in
+      let late = takes_last bounds arc.from from.0 from.1 ends.possible ends.from_window in
+      let delay = time -ℤ to.0 in
+      let first = leaves.to_first in
+      let both : ℕ → ℤ = λ event. int_min (late.0 event) (early.0 event +ℤ delay) in
+      let schedule : IsSchedule bounds both = lesser_schedule bounds late.0 early.0 delay late.1 early.1 (omega (arith, ints)) in
+      let met = ends.implied early.0 early.1 in
+      let early_at = early.2 in
+      let late_at = late.2 in
+      let last = leaves.from_last in
+      let to_there = (ends.to_window (both arc.to)).0 (both, schedule, refl) in
+      let from_there = (ends.from_window (both arc.from)).0 (both, schedule, refl) in
+      let to_by : both arc.to ≤ℤ time = omega (arith, ints, clamps) in
+      let from_by : (time -ℤ arc.weight) ≤ℤ both arc.from = omega (arith, ints, clamps) in
+      (both, split_schedule both schedule ((to_there.0, to_by), (from_by, from_there.1)))
+
+  splitting_left : HasSchedule (bounds ++ splitting arc from to time) → IsLeft bounds arc (bounds ++ splitting arc from to time)
+  splitting_left possible = record {
+    possible = possible;
+    before = schedule_before bounds (splitting arc from to time);
+    apart = λ one other is_one is_other.
+        let early = (split_kept one is_one).1.0 in
+        let late = (split_kept other is_other).0.1 in
+        omega (arith, ints, early, late);
+    after = λ times one other schedule is_one from_same is_other to_same.
+        split_schedule times schedule (rw (from_same, to_same) ((split_kept other is_other).0, (split_kept one is_one).1));
+  }
 
 implied_left : (bounds : List Difference) (arc : Arc) (from to : ℤ × ℤ) → HasEnds bounds arc from to → (to.1 -ℤ from.0) ≤ℤ arc.weight → IsLeft bounds arc bounds
 implied_left bounds arc from to ends within = record {
@@ -155,10 +131,7 @@ implied_left bounds arc from to ends within = record {
 left_at : (bounds : List Difference) (arc : Arc) (from to : ℤ × ℤ) (test : Bool) → is_implied arc from to ≡ test → HasEnds bounds arc from to
     → IsLeft bounds arc (bounds ++ cond test [] (splitting arc from to (split_time arc from to)))
 left_at bounds arc from to true e ends = subst (IsLeft bounds arc) (sym (append-nil bounds)) (implied_left bounds arc from to ends (grind (arith, ints)))
-left_at bounds arc from to false e ends =
-    let wider : arc.weight <ℤ (to.1 -ℤ from.0) = grind (arith, ints) in
-    let leaves = middle_leaves_time bounds arc from to ends wider in
-    splitting_left bounds arc from to (split_time arc from to) (splitting_possible bounds arc from to (split_time arc from to) ends leaves)
+left_at bounds arc from to false e ends = search (rules, ints, middle_leaves_time, splitting_left, splitting_possible)
 
 pub ends_of_split : (bounds : List Difference) (arc : Arc) (next : List Difference) (split : IsSplit bounds arc next) → HasSchedule bounds → Implies bounds arc → HasEnds bounds arc split.from split.to
 ends_of_split bounds arc next split possible implied = record { possible = possible; implied = implied; from_window = split.from_window; to_window = split.to_window }
@@ -177,12 +150,7 @@ pub record AreLeft (bounds : List Difference) (arcs : List Arc) (split : List Di
       → All (λ arc. IsInWindow split arc.from (time arc.from) × IsInWindow split arc.to (time arc.to)) arcs → IsSchedule split time
 
 pub are_left : (bounds : List Difference) (arcs : List Arc) (split : List Difference) → AreSplit bounds arcs split → HasSchedule bounds → All (Implies bounds) arcs → AreLeft bounds arcs split
-are_left bounds [] split are possible implied = subst (AreLeft bounds []) (sym are) (record {
-  possible = possible;
-  before = λ time schedule. schedule;
-  apart = All-nil (IsApart bounds);
-  after = λ time schedule within. schedule;
-})
+are_left bounds [] split are possible implied = search rules
 are_left bounds (arc ∷ arcs) split are possible implied =
     let next = are.0 in
     let first = split_left bounds arc next are.1 possible (All-head (Implies bounds) arc arcs implied) in

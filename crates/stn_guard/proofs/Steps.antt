@@ -1,14 +1,9 @@
 -- The windows as they come on, arc by arc.
-use Rattle.std.{proofs.{Common.{◌≡◌, ◌≢◌, ℕ, ◌+◌, ◌<◌, ℤ, neg_ℤ, Bool, true, false, cond, List, [], ◌∷◌, ◌++◌, length, get_or, take, drop, refl, sym, ap, subst, ◌∙◌, append-nil}, lemmas.List.{take-append-drop, take_more, Concat.flat_map-append, Elements.{All-nil, All-cons, All-weaker, filter-append}}}, specs.Prelude.{All, filter, flat_map}}
-use Rattle.stn_site.proofs.Live.{All-filter_passing}
+use Rattle.std.{proofs.{Common.{rules, ◌≡◌, ℕ, ◌+◌, ◌<◌, Bool, true, false, cond, List, [], ◌∷◌, ◌++◌, length, get_or, take, drop, refl, sym, ap, subst, ◌∙◌, append-nil}, lemmas.List.{take-append-drop, take_more, Concat.flat_map-append, Elements.filter-append}}, specs.Prelude.{All, flat_map}}
 use Rattle.stn_time.proofs.Each.{All-left, All-right}
-use Rattle.stn_net.specs.{Difference.{Difference, NamesEvents}, Schedule.{IsSchedule, HasSchedule}}
+use Rattle.stn_net.specs.{Difference.{Difference, NamesEvents}, Schedule.HasSchedule}
 use Rattle.stn_conflict.specs.Listing.{ListedBounds}
-use Rattle.stn_guard.{specs.{declared.splitting.Arc.Arc, Owners.is_shared, Making.{arcs_of, shared_arcs, AreSplit}, Splitting.{MeetsArc, NamesEnds, CanSplit, Splits}}, proofs.{Owned.{all_pieces, shared_parts}, Split.{Implies, are_left}, Made.arcs_implied}}
-
--- each of the arcs is implied
-pub each_implied : (bounds : List Difference) (arcs : List Arc) → ((time : ℕ → ℤ) → IsSchedule bounds time → All (MeetsArc time) arcs) → All (Implies bounds) arcs
-each_implied bounds arcs implied = λ k d h time schedule. implied time schedule k d h
+use Rattle.stn_guard.{specs.{declared.splitting.Arc.Arc, Owners.is_shared, Making.{arcs_of, shared_arcs, AreSplit}, Splitting.{Implies, NamesEnds, CanSplit, Splits}}, proofs.{Owned.{sides_all, shared_parts}, Split.are_left, Made.arcs_implied}}
 
 -- arcs that are split one after the other
 pub split_on : (these those : List Arc) (bounds middle split : List Difference) → AreSplit bounds these middle → AreSplit middle those split → AreSplit bounds (these ++ those) split
@@ -18,7 +13,7 @@ split_on (arc ∷ these) those bounds middle split first second = (first.0, firs
 pub can_front : (these those : List Arc) (listed : ListedBounds) → CanSplit (these ++ those) listed → CanSplit these listed
 can_front these those listed can = record {
   possible = can.possible;
-  implied = λ time schedule. All-left (MeetsArc time) these those (can.implied time schedule);
+  implied = All-left (Implies listed.bounds) these those can.implied;
   named = All-left (NamesEnds listed.events) these those can.named;
 }
 
@@ -26,26 +21,22 @@ can_front these those listed can = record {
 pub can_behind : (these those : List Arc) (old new : ListedBounds) → CanSplit (these ++ those) old → Splits these old new → CanSplit those new
 can_behind these those old new can splits =
     let front = can_front these those old can in
-    let left = are_left old.bounds these new.bounds splits.split front.possible (each_implied old.bounds these front.implied) in
+    let left = are_left old.bounds these new.bounds splits.split front.possible front.implied in
     record {
       possible = left.possible;
-      implied = λ time schedule. All-right (MeetsArc time) these those (can.implied time (left.before time schedule));
+      implied = λ k d below time schedule. All-right (Implies old.bounds) these those can.implied k d below time (left.before time schedule);
       named = rw splits.events (All-right (NamesEnds old.events) these those can.named);
     }
 
 pub splits_on : (these those : List Arc) (old middle new : ListedBounds) → Splits these old middle → Splits those middle new → Splits (these ++ those) old new
-splits_on these those old middle new first second = record {
-  split = split_on these those old.bounds middle.bounds new.bounds first.split second.split;
-  events = second.events ∙ first.events;
-}
+splits_on these those old middle new first second = search (rules, split_on)
 
 pub splits_none : (listed : ListedBounds) → Splits [] listed listed
 splits_none listed = record { split = refl; events = refl }
 
 -- the sides of the shared bounds of two lists, and of one bound more
 pub arcs_append : (owner : ℕ → ℕ) (these those : List Difference) → shared_arcs owner (these ++ those) ≡ shared_arcs owner these ++ shared_arcs owner those
-arcs_append owner these those =
-    ap (flat_map arcs_of) (filter-append (is_shared owner) these those) ∙ flat_map-append arcs_of (filter (is_shared owner) these) (filter (is_shared owner) those)
+arcs_append owner these those = search (rules, filter-append, flat_map-append)
 
 pieces : (test : Bool) (bound : Difference) → flat_map arcs_of (cond test (bound ∷ []) []) ≡ cond test (arcs_of bound) []
 pieces true bound = append-nil (arcs_of bound)
@@ -53,8 +44,7 @@ pieces false bound = refl
 
 pub arcs_more : (owner : ℕ → ℕ) (bounds : List Difference) (place : ℕ) (bound : Difference) → place < length bounds → bound ≡ get_or bounds place bound
     → shared_arcs owner (take (place + 1) bounds) ≡ shared_arcs owner (take place bounds) ++ shared_arcs owner (bound ∷ [])
-arcs_more owner bounds place bound within is =
-    ap (shared_arcs owner) (take_more bounds place bound within ∙ ap (λ b. take place bounds ++ b ∷ []) (sym is)) ∙ arcs_append owner (take place bounds) (bound ∷ [])
+arcs_more owner bounds place bound within is = cc (take_more bounds place bound within, arcs_append owner (take place bounds) (bound ∷ []))
 
 -- those of one bound
 pub arcs_of_one : (owner : ℕ → ℕ) (bound : Difference) (test : Bool) → is_shared owner bound ≡ test → shared_arcs owner (bound ∷ []) ≡ cond test (arcs_of bound) []
@@ -75,18 +65,13 @@ can_here owner bounds place bound old now within is can splits =
 -- the sides of the shared bounds can be split
 pub can_shared : (owner : ℕ → ℕ) (events : ℕ) (bounds : List Difference) → HasSchedule bounds → All (NamesEvents events) bounds
     → CanSplit (shared_arcs owner bounds) (record { events = events; bounds = bounds })
-can_shared owner events bounds possible all_named =
-    let implied = arcs_implied owner bounds in
-    record {
-      possible = possible;
-      implied = λ time schedule. All-weaker (Implies bounds) (MeetsArc time) (λ arc given. given time schedule) (shared_arcs owner bounds) implied;
-      named = all_pieces arcs_of (NamesEnds events) (filter (is_shared owner) bounds)
-          (All-filter_passing (is_shared owner) (λ b. All (NamesEnds events) (arcs_of b)) bounds (λ k d h shared. sides (get_or bounds k d) (all_named k d h) (shared_parts owner (get_or bounds k d) shared)));
-    }
-  where
-    sides : (b : Difference) → NamesEvents events b → (b.from ≢ 0) × (b.to ≢ 0) × (owner b.from ≢ owner b.to) → All (NamesEnds events) (arcs_of b)
-    sides b named parts =
-        let upper : Arc = record { from = b.from; to = b.to; weight = b.hi } in
-        let lower : Arc = record { from = b.to; to = b.from; weight = neg_ℤ b.lo } in
-        All-cons (NamesEnds events) upper (lower ∷ []) (record { from_beside = parts.0; from_within = named.from; to_beside = parts.1; to_within = named.to })
-        (All-cons (NamesEnds events) lower [] (record { from_beside = parts.1; from_within = named.to; to_beside = parts.0; to_within = named.from }) (All-nil (NamesEnds events)))
+can_shared owner events bounds possible all_named = record {
+  possible = possible;
+  implied = arcs_implied owner bounds;
+  named = sides_all owner bounds (NamesEnds events) (λ k d h shared.
+      let named = all_named k d h in
+      let parts = shared_parts owner (get_or bounds k d) shared in (
+        record { from_beside = parts.0; from_within = named.from; to_beside = parts.1; to_within = named.to },
+        record { from_beside = parts.1; from_within = named.to; to_beside = parts.0; to_within = named.from },
+      ));
+}

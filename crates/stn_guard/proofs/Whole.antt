@@ -1,17 +1,14 @@
 -- The windows once all shared bounds were split are the guard.
-use Rattle.std.{proofs.{Common.{◌≡◌, ℕ, take, replicate, ◌+◌, ◌<◌, ◌≤◌, ℤ, Bool, false, cond, ◌&&◌, ◌||◌, eqb, List, [], ◌∷◌, ◌++◌, length, get_or, map, refl, sym, ap, subst, ◌∙◌, arith}, lemmas.List.{length-take, take-append-le, Folds.list_any-append, FromFn.{length-map-range_with_len, get_or-map-range_with_len}, Elements.{All-head, All-tail, All-weaker}}}, specs.{Prelude.{All, Option, Some, MatchOption, filter}, List.range_with_len}}
+use Rattle.std.{proofs.{Common.{rules, ◌≡◌, ℕ, replicate, ◌+◌, ◌<◌, ℤ, Bool, false, ◌&&◌, ◌||◌, List, [], ◌∷◌, ◌++◌, length, get_or, map, refl, sym, ap, subst, ◌∙◌, arith}, lemmas.List.{Folds.list_any-append, Elements.{All-head, All-tail}}}, specs.{Prelude.{All, filter}, List.range_with_len}}
 use Rattle.stn_site.proofs.Flags.{get_or-replicate_same}
-use Rattle.stn_time.proofs.Each.{All-left, All-right}
-use Rattle.stn_net.{specs.{Difference.{Difference, NamesEvents}, Schedule.HasSchedule, Horizon.horizon_bounds}, proofs.Horizons.length-horizon_bounds}
+use Rattle.stn_net.specs.{Difference.{Difference, NamesEvents}, Schedule.HasSchedule}
 use Rattle.stn_conflict.specs.Listing.{ListedBounds}
-use Rattle.stn_guard.{specs.{declared.splitting.Arc.Arc, Owners.is_shared, Making.{shared_arcs, window_bound, names_event, says_more, AreSplit, IsGuardOf}, Splitting.{AreNamedWindows, HasOwners, CanSplit, Splits, is_kept, windows_of}}, proofs.{Split.are_left, Steps.{each_implied, can_behind, can_front, splits_on, can_shared, arcs_append}}}
+use Rattle.stn_guard.{specs.{declared.splitting.Arc.Arc, Making.{shared_arcs, window_bound, names_event, says_more, AreSplit, IsGuardOf}, Splitting.{AreNamedWindows, HasOwners, CanSplit, Splits, is_kept, windows_of}}, proofs.{Ranges.all_in_range, Split.are_left, Steps.{can_behind, can_front, splits_on, can_shared, arcs_append}}}
 
 -- tests that agree on the elements of a list keep the same ones
 pub filter_same : {X : Type 0} (p q : X → Bool) (xs : List X) → All (λ x. p x ≡ q x) xs → filter p xs ≡ filter q xs
 filter_same p q [] same = refl
-filter_same p q (x ∷ xs) same =
-    ap (λ t. cond t (x ∷ filter p xs) (filter p xs)) (All-head (λ y. p y ≡ q y) x xs same)
-    ∙ ap (λ rest. cond (q x) (x ∷ rest) rest) (filter_same p q xs (All-tail (λ y. p y ≡ q y) x xs same))
+filter_same p q (x ∷ xs) same = cc (All-head (λ y. p y ≡ q y) x xs same, filter_same p q xs (All-tail (λ y. p y ≡ q y) x xs same))
 
 -- these are the events that a shared bound names
 abbrev pub AreNamed : (ℕ → ℕ) → List Difference → List Bool → Type 0
@@ -19,20 +16,13 @@ AreNamed owner bounds named = (event : ℕ) → event < length named → get_or 
 
 pub named_both : (owner : ℕ → ℕ) (base extra : List Difference) (first second : List Bool) → length second ≡ length first → AreNamed owner base first
     → ((event : ℕ) → event < length first → get_or second event false ≡ (get_or first event false || names_event owner extra event)) → AreNamed owner (base ++ extra) second
-named_both owner base extra first second long these more = λ event within.
-    let there : event < length first = omega (arith, long) in
-    more event there ∙ ap (λ t. t || names_event owner extra event) (these event there)
-    ∙ sym (list_any-append (λ bound. is_shared owner bound && ((eqb bound.from event) || (eqb bound.to event))) base extra)
+named_both owner base extra first second long these more = search (rules, list_any-append)
 
 pub windows_named : (owner : ℕ → ℕ) (bounds : List Difference) (named : List Bool) (ends : ℕ → ℤ × ℤ) (events : ℕ) → length named ≡ events + 1 → AreNamed owner bounds named
     → windows_of named ends events ≡ filter (λ bound. names_event owner bounds bound.to && says_more bound) (map (λ event. window_bound event (ends event)) (range_with_len 1 events))
 windows_named owner bounds named ends events long are =
     filter_same (is_kept named) (λ bound. names_event owner bounds bound.to && says_more bound) (map at (range_with_len 1 events))
-    (λ k d h.
-    let few : k < events = omega (arith, length-map-range_with_len at 1 events) in
-    subst (λ bound. is_kept named bound ≡ (names_event owner bounds bound.to && says_more bound))
-    (sym (get_or-map-range_with_len at 1 events k (1 + k) d few refl))
-    (ap (λ t. t && says_more (at (1 + k))) (are (1 + k) (omega (arith, long)))))
+    (all_in_range at events (λ bound. is_kept named bound ≡ (names_event owner bounds bound.to && says_more bound)) (λ event after most. ap (λ t. t && says_more (at event)) (are event (omega (arith, long)))))
   where
     at : ℕ → Difference
     at event = window_bound event (ends event)
@@ -54,14 +44,7 @@ whole_guard owner events base extra middle new named guard first second long are
 
 -- each bound of a part has owners
 owned : (owners : List ℕ) (events : ℕ) (bounds : List Difference) → length owners ≡ events + 1 → All (NamesEvents events) bounds → All (HasOwners owners) bounds
-owned owners events bounds long named =
-    All-weaker (NamesEvents events) (HasOwners owners) (λ b is. record { from = omega (arith, long, is.from); to = omega (arith, long, is.to) }) bounds named
-
-pub owned_front : (owners : List ℕ) (events : ℕ) (base extra : List Difference) → length owners ≡ events + 1 → All (NamesEvents events) (base ++ extra) → All (HasOwners owners) base
-owned_front owners events base extra long named = owned owners events base long (All-left (NamesEvents events) base extra named)
-
-pub owned_behind : (owners : List ℕ) (events : ℕ) (base extra : List Difference) → length owners ≡ events + 1 → All (NamesEvents events) (base ++ extra) → All (HasOwners owners) extra
-owned_behind owners events base extra long named = owned owners events extra long (All-right (NamesEvents events) base extra named)
+owned owners events bounds long named = search rules
 
 -- the sides of both parts can be split
 can_both : (owner : ℕ → ℕ) (events : ℕ) (base extra : List Difference) → HasSchedule (base ++ extra) → All (NamesEvents events) (base ++ extra)
@@ -76,12 +59,11 @@ can_first owner events base extra possible named =
 
 pub can_second : (owner : ℕ → ℕ) (events : ℕ) (base extra : List Difference) (new : ListedBounds) → HasSchedule (base ++ extra) → All (NamesEvents events) (base ++ extra)
     → Splits (shared_arcs owner base) (record { events = events; bounds = base ++ extra }) new → CanSplit (shared_arcs owner extra) new
-can_second owner events base extra new possible named splits =
-    can_behind (shared_arcs owner base) (shared_arcs owner extra) (record { events = events; bounds = base ++ extra }) new (can_both owner events base extra possible named) splits
+can_second owner events base extra new possible named splits = search (rules, can_behind, can_both)
 
 -- once arcs were split, there is a schedule still
 pub still_possible : (arcs : List Arc) (old new : ListedBounds) → CanSplit arcs old → Splits arcs old new → HasSchedule new.bounds
-still_possible arcs old new can splits = (are_left old.bounds arcs new.bounds splits.split can.possible (each_implied old.bounds arcs can.implied)).possible
+still_possible arcs old new can splits = (are_left old.bounds arcs new.bounds splits.split can.possible can.implied).possible
 
 -- what is noted of both parts, in a list that was false
 pub noted : (owner : ℕ → ℕ) (base extra : List Difference) (n : ℕ) (items none first again second last : List Bool) → items ≡ replicate n false → none ≡ items
@@ -90,13 +72,4 @@ pub noted : (owner : ℕ → ℕ) (base extra : List Difference) (n : ℕ) (item
     → length second ≡ length again → ((event : ℕ) → event < length again → get_or second event false ≡ (get_or again event false || names_event owner extra event))
     → last ≡ second → AreNamed owner (base ++ extra) last
 noted owner base extra n items none first again second last filled is long these same still those end =
-    let at_first : AreNamed owner base first = (λ event within.
-    these event (omega (arith, long)) ∙ ap (λ t. t || names_event owner base event) (ap (λ xs. get_or xs event false) (is ∙ filled) ∙ get_or-replicate_same n false event)) in
-    let then : AreNamed owner base again = subst (AreNamed owner base) (sym same) at_first in
-    subst (AreNamed owner (base ++ extra)) (sym end) (named_both owner base extra again second still then those)
-
--- the horizon bounds stand first in both parts together
-pub begins_both : (events : ℕ) (base extra : List Difference) → take events base ≡ horizon_bounds events → take events (base ++ extra) ≡ horizon_bounds events
-begins_both events base extra begins =
-    let within : events ≤ length base = omega (arith, ap length begins, length-take events base, length-horizon_bounds events) in
-    take-append-le events base extra within ∙ begins
+    search (rules, get_or-replicate_same, named_both)

@@ -4,10 +4,15 @@ use Rattle.stn_time.specs.Time.{horizon}
 use Rattle.stn_net.specs.{Difference.Difference, Windows.Window.IsWindow}
 use Rattle.stn_guard.specs.{declared.splitting.Arc.Arc, Owners.is_shared}
 
--- what both sides of a bound say, the upper first
+-- what each side of a bound says, and both, the upper first
+abbrev pub upper : Difference → Arc
+upper bound = record { from = bound.from; to = bound.to; weight = bound.hi }
+
+abbrev pub lower : Difference → Arc
+lower bound = record { from = bound.to; to = bound.from; weight = neg_ℤ bound.lo }
+
 abbrev pub arcs_of : Difference → List Arc
-arcs_of bound = record { from = bound.from; to = bound.to; weight = bound.hi }
-    ∷ record { from = bound.to; to = bound.from; weight = neg_ℤ bound.lo } ∷ []
+arcs_of bound = upper bound ∷ lower bound ∷ []
 
 -- the sides of the shared bounds, in the order of the bounds
 abbrev pub shared_arcs : (ℕ → ℕ) → List Difference → List Arc

@@ -27,10 +27,14 @@ pub record LeavesTime (arc : Arc) (from to : ℤ × ℤ) (time : ℤ) : Type 0 w
 abbrev pub MeetsArc : (ℕ → ℤ) → Arc → Type 0
 MeetsArc time arc = (time arc.to -ℤ time arc.from) ≤ℤ arc.weight
 
+-- every schedule of the bounds meets the arc
+abbrev pub Implies : List Difference → Arc → Type 0
+Implies bounds arc = (time : ℕ → ℤ) → IsSchedule bounds time → MeetsArc time arc
+
 -- the bounds have a schedule and imply the arcs, which are about their events
 pub record CanSplit (arcs : List Arc) (listed : ListedBounds) : Type 0 where
   pub possible : HasSchedule listed.bounds
-  pub implied : (time : ℕ → ℤ) → IsSchedule listed.bounds time → All (MeetsArc time) arcs
+  pub implied : All (Implies listed.bounds) arcs
   pub named : All (NamesEnds listed.events) arcs
 
 -- the bounds are the old ones and what splits the arcs

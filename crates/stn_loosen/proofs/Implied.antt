@@ -1,33 +1,21 @@
 -- Which bounds a matrix shows to be implied, and the matrix with one bound more.
-use Rattle.std.proofs.{Common.{rules, ◌≡◌, ◌≢◌, ℤ, ◌≤ℤ◌, neg_ℤ, ◌↔◌, Bool, IsTrue, List, [], ◌∷◌, ◌++◌, length, sym, ap, subst, ◌∙◌, append_assoc, length-append, arith}, lemmas.Int.ints}
-use Rattle.stn_net.{specs.{Difference.{Difference, NamesEvents}, Horizon.horizon_bounds, Schedule.{IsSchedule, HasSchedule}, Matrix.{Table.{Table, far_of}, Tightest.{IsTightest, IsExact}}}, proofs.Closure.schedule_before}
+use Rattle.std.proofs.{Common.{rules, ◌≡◌, ◌≢◌, ◌↔◌, Bool, IsTrue, List, [], ◌∷◌, ◌++◌, length, sym, ap, subst, ◌∙◌, append_assoc, length-append, arith}, lemmas.Int.ints}
+use Rattle.stn_net.{specs.{Difference.{Difference, NamesEvents}, Horizon.horizon_bounds, Schedule.{IsSchedule, HasSchedule}, Matrix.{Table.Table, Tightest.IsExact}}, proofs.Closure.schedule_before}
 use Rattle.stn_conflict.specs.Listing.{ListedBounds}
 use Rattle.stn_records.specs.Content.{most_known}
 use Rattle.stn_loosen.specs.{Loosened.Imply, Making.{loosening_of, made_bounds, with_more, AreTaken, IsShown, IsSearched}}
-
--- both tightest differences are within the bound exactly where it is implied
-pub implied_from : (bounds : List Difference) (bound : Difference) (there back : ℤ) → IsTightest bounds bound.from bound.to there → IsTightest bounds bound.to bound.from back
-    → there ≤ℤ bound.hi → back ≤ℤ neg_ℤ bound.lo → Imply bounds bound
-implied_from bounds bound there back forth home above below time s =
-    (omega (arith, ints, home.bound time s), omega (arith, ints, forth.bound time s))
-
-pub upper_from : (bounds : List Difference) (bound : Difference) (there : ℤ) → IsTightest bounds bound.from bound.to there → Imply bounds bound → there ≤ℤ bound.hi
-upper_from bounds bound there forth implied = search rules
-
-pub lower_from : (bounds : List Difference) (bound : Difference) (back : ℤ) → IsTightest bounds bound.to bound.from back → Imply bounds bound → back ≤ℤ neg_ℤ bound.lo
-lower_from bounds bound back home implied =
-    let met = implied home.attained.0 home.attained.1 in
-    omega (arith, ints, met.0, home.attained.2)
 
 -- just what the table shows is implied by the bounds for which it is exact
 pub shown_taken : (records : List Difference) (table : Table) (bound : Difference) → AreTaken records table → NamesEvents table.events bound
     → (IsShown table bound ↔ Imply (made_bounds (loosening_of table records)) bound)
 shown_taken records table bound taken named =
-    let bounds : List Difference = made_bounds (loosening_of table records) in
     let forth = taken.exact.far bound.from bound.to named.from named.to in
     let back = taken.exact.far bound.to bound.from named.to named.from in (
-      λ shown. implied_from bounds bound (far_of table bound.from bound.to) (far_of table bound.to bound.from) forth back shown.0 shown.1,
-      λ implied. (upper_from bounds bound (far_of table bound.from bound.to) forth implied, lower_from bounds bound (far_of table bound.to bound.from) back implied),
+      λ shown time s. (omega (arith, ints, back.bound time s, shown.1), omega (arith, ints, forth.bound time s, shown.0)),
+      λ implied. (
+        (let met = implied forth.attained.0 forth.attained.1 in omega (arith, ints, met.1, forth.attained.2)),
+        (let met = implied back.attained.0 back.attained.1 in omega (arith, ints, met.0, back.attained.2)),
+      ),
     )
 
 -- and it is implied with more bounds, too

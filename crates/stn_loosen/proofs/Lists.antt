@@ -1,11 +1,18 @@
 -- Parts of lists, and the key that a closure gives.
-use Rattle.std.{proofs.{Common.{rules, ◌≡◌, ℕ, ◌+◌, List, ◌++◌, length, take, drop, append_assoc}, lemmas.{List.{take_at, drop_at}, Fn.always_returns_same}}, specs.Fn.{Called, ComputesKey}}
+use Rattle.std.{proofs.{Common.{◌≡◌, List, ◌++◌, All}, lemmas.Fn.always_returns_same}, specs.Fn.{Called, ComputesKey}}
+use Rattle.stn_time.proofs.Each.{All-left, All-right}
 use denote.{Param.Members.Mut, Ref.Bor}
 
-module _ {X : Type 0} (xs ys zs : List X) where
-  -- the middle one of three lists
-  pub middle : (first count : ℕ) → first ≡ length xs → count ≡ length ys → take count (drop first ((xs ++ ys) ++ zs)) ≡ ys
-  middle first count is are = search (rules, append_assoc, drop_at, take_at)
+-- what holds of all elements of three lists
+module _ {X : Type 0} (xs ys zs : List X) (P : X → Type 0) (all : All P (xs ++ (ys ++ zs))) where
+  pub in_first : All P xs
+  in_first = All-left P xs (ys ++ zs) all
+
+  pub in_second : All P ys
+  in_second = All-left P ys zs (All-right P xs (ys ++ zs) all)
+
+  pub in_third : All P zs
+  in_third = All-right P ys zs (All-right P xs (ys ++ zs) all)
 
 -- a key that the calls of a closure give
 pub key_given : {X K F : Type 0} {g : Mut F (Bor X × Unit {0}) K} {f : F} (key : X → K) (Q : (X → K) → Type 0) → ((other : X → K) → ComputesKey g other f → Q other)

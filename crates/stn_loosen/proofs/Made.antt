@@ -1,8 +1,7 @@
 -- Records that are made one after the other.
-use Rattle.std.{proofs.{Common.{rules, ◌≡◌, ℕ, ℤ, ◌+◌, ◌<◌, inr, List, [], ◌∷◌, ◌++◌, map, length, take, drop, get_or, refl, sym, ap, subst, ◌∙◌, arith, append_assoc, append-nil, length-append}, lemmas.List.{map_more, map-append, take_more, take-append-drop, Elements.{All-from_recursion, recursion_from_All}}}, specs.List.AllByRecursion}
-use Rattle.stn_time.proofs.Each.{each_parted}
+use Rattle.std.proofs.{Common.{rules, ◌≡◌, ℕ, ◌+◌, ◌<◌, inr, List, [], ◌∷◌, ◌++◌, map, length, take, drop, get_or, refl, sym, ap, subst, ◌∙◌, arith, append_assoc, append-nil, length-append}, lemmas.List.{map_more, map-append, take_more, take-append-drop}}
 use Rattle.stn_net.{specs.{Difference.Difference, Horizon.horizon_bounds, Schedule.{Meets, IsSchedule, HasSchedule}}, proofs.{Closure.schedule_before, Schedules.{met_behind, schedule_with}}}
-use Rattle.stn_loosen.{specs.{Slack.{Slack, loose}, Loosened.AreKept, Making.{Loosening, made_bounds, with_more, AreMadeBehind, IsCauseOf, IsCauseWith}, Stepped.{IsCauseBehind, IsCauseIn}, declared.fault.LoosenFault.{LoosenFault, TheVariants.{Full, NotRobust, Memory}}}, proofs.Kept.{AreKept-join, kept_hold}}
+use Rattle.stn_loosen.{specs.{Slack.{Slack, loose}, Making.{Loosening, made_bounds, with_more, AreMadeBehind, IsCauseOf, IsCauseWith}, Stepped.{IsCauseBehind, IsCauseIn}, declared.fault.LoosenFault.{LoosenFault, TheVariants.{Full, NotRobust, Memory}}}, proofs.{Lists.{in_first, in_second}, Kept.{AreKept-join, kept_schedule}}}
 
 -- all bounds, where there are more
 pub bounds_more : (made : Loosening) (more : List Difference) → made_bounds (with_more made more) ≡ made_bounds made ++ more
@@ -39,27 +38,18 @@ none_made old = ([], nothing_more old, refl)
 
 module _ (old middle : Loosening) (first second : List Difference) (made : AreMadeBehind old first middle) where
   pub made_behind : (new : Loosening) → AreMadeBehind middle second new → AreMadeBehind old (first ++ second) new
-  made_behind new other = (
-    made.0 ++ other.0,
-    other.1 ∙ ap (λ m. with_more m other.0) made.1 ∙ ap (λ l. record old { records = l }) (append_assoc old.records made.0 other.0),
-    AreKept-join (made_bounds old) first second made.0 other.0 made.2 (subst (λ l. AreKept l second other.0) (ap made_bounds made.1 ∙ bounds_more old made.0) other.2),
-  )
+  made_behind new other = search (rules, append_assoc, AreKept-join)
 
   -- what can be made behind these, and more, can be made behind the first
   pub possible_behind : (others : List Difference) → HasSchedule (made_bounds (with_more old (first ++ (second ++ others)))) → HasSchedule (made_bounds (with_more middle second))
   possible_behind others s =
-      let time : ℕ → ℤ = s.0 in
-      let front : List Difference = made_bounds old in
-      let all : List Difference = first ++ (second ++ others) in
-      let whole : IsSchedule (front ++ all) time = subst (λ l. IsSchedule l time) (bounds_more old all) s.1 in
-      let met = each_parted (Meets time) first (second ++ others) (recursion_from_All (Meets time) all (met_behind front all time whole)) in
-      let more : AllByRecursion (Meets time) second = (each_parted (Meets time) second others met.1).0 in
-      let kept : AllByRecursion (Meets time) made.0 = kept_hold (Meets time) front first made.0 made.2 met.0 in
-      let here : IsSchedule (front ++ made.0) time = schedule_with front made.0 time (schedule_before front all time whole) (All-from_recursion (Meets time) made.0 kept) in
-      let there : IsSchedule (made_bounds middle) time = search (rules, bounds_more) in (
-        time,
-        subst (λ l. IsSchedule l time) (sym (bounds_more middle second)) (schedule_with (made_bounds middle) second time there (All-from_recursion (Meets time) second more)),
-      )
+      let front = made_bounds old in
+      let whole : IsSchedule (front ++ (first ++ (second ++ others))) s.0 = subst (λ l. IsSchedule l s.0) (bounds_more old (first ++ (second ++ others))) s.1 in
+      let met = met_behind front (first ++ (second ++ others)) s.0 whole in
+      let here = kept_schedule front first made.0 made.2 s.0
+      (schedule_with front first s.0 (schedule_before front (first ++ (second ++ others)) s.0 whole) (in_first first second others (Meets s.0) met)) in
+      let there : IsSchedule (made_bounds middle) s.0 = subst (λ l. IsSchedule l s.0) (sym (ap made_bounds made.1 ∙ bounds_more old made.0)) here in
+      (s.0, subst (λ l. IsSchedule l s.0) (sym (bounds_more middle second)) (schedule_with (made_bounds middle) second s.0 there (in_second first second others (Meets s.0) met)))
 
   pub cause_behind : (others : List Difference) (fault : LoosenFault) → IsCauseBehind middle second fault → IsCauseBehind old (first ++ (second ++ others)) fault
   cause_behind others Full p = p

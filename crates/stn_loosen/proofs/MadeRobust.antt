@@ -1,9 +1,13 @@
 -- The records of the robust plan, made behind those of the loosened plan.
-use Rattle.std.proofs.lemmas.Grind.{common_steps}
-use Rattle.std.{specs.{Prelude.{All, IfOk, OnOk, Result, Ok, Err}, List.AllByRecursion}, proofs.{Common.{arith, ◌≡◌, ℕ, List, [], ◌∷◌, ◌++◌, length, take, drop, refl, sym, ap, subst, ◌∙◌, append_assoc}, lemmas.List.{take_at, drop_at, length-map, Elements.All-from_recursion}}}
-use Rattle.stn_net.specs.{Difference.{Difference, NamesEvents}, Horizon.horizon_bounds, Schedule.HasSchedule}
+use Rattle.std.{proofs.{lemmas.{Grind.common_steps, List.{take_at, drop_at, length-map, Elements.All-append}}, Common.{rules, arith, ◌≡◌, ℕ, List, ◌++◌, length, take, drop, refl, sym, ap, subst, ◌∙◌, append_assoc}}, specs.Prelude.{All, IfOk, OnOk, Result, Ok, Err}}
+use Rattle.stn_net.{proofs.Widest.horizon_named, specs.{Difference.{Difference, NamesEvents}, Horizon.horizon_bounds, Schedule.HasSchedule}}
 use Rattle.stn_lift.specs.PlanSource.{PlanSource, events_of, IsSoundSource}
-use Rattle.stn_loosen.{specs.{declared.fault.LoosenFault.{LoosenFault, TheVariants.{Full, NotRobust, Memory}}, Slack.{Slack, IsSlack, loose}, Moved.moved_bounds, Robust.{loose_bounds, HasPromise, AreRobust}, Making.{Loosening, made_bounds, AreMadeBehind}, Stepped.{AreSteps, IsCauseBehind}, Whole.{IsMadeRobust, IsCauseAfter}, Loosened.{durations_of, AreKept, AreLoosened, bounds_with, loose_durations}}, proofs.{Kept.kept_hold, Sides.{upper_named, lower_named}, Steps.source_steps, Robustness.{sources_moved, moved_possible, records_promise}, Settings.{IsMetIn, each_weaker}}}
+use Rattle.stn_loosen.{specs.{declared.fault.LoosenFault.{LoosenFault, TheVariants.{Full, NotRobust, Memory}}, Slack.{Slack, IsSlack, loose}, Moved.moved_bounds, Robust.{HasPromise, AreRobust}, Making.{Loosening, made_bounds, AreMadeBehind, IsMadeRobust, IsCauseAfter}, Stepped.{AreSteps, IsCauseBehind}, Loosened.{durations_of, AreKept, AreLoosened, bounds_with, loose_durations}}, proofs.{Kept.kept_hold, Looser.{kept_of, orders_named}, Sides.sides_named, Steps.source_steps, Robustness.{moved_possible, records_promise}}}
+
+-- the bounds of which the moved ones are made name events
+sources_named : (source : PlanSource) → IsSoundSource source → (slack : Slack) (loosened : List Difference) (are : AreLoosened source slack loosened)
+    → All (NamesEvents (events_of source)) (are.made.kept ++ horizon_bounds (events_of source))
+sources_named source sound slack loosened are = search (rules, All-append, kept_of, orders_named, horizon_named)
 
 -- the durations and the other bounds of the loosened plan, as robust loosening takes them
 pub record AreParted (source : PlanSource) (slack : Slack) (old : Loosening) (durations bounds : List Difference) : Type 0 where
@@ -26,20 +30,15 @@ module _ {source : PlanSource} {slack : Slack} {old : Loosening} {durations boun
   bounds_behind : bounds ≡ p.are.made.kept ++ horizon_bounds (events_of source)
   bounds_behind = p.bounds_are ∙ ap (λ l. l ++ horizon_bounds (events_of source)) (ap (drop p.steps) p.are.made.whole ∙ drop_at (loose_durations slack source) p.are.made.kept p.steps many)
 
-  pub are_steps : AreSteps 0 durations
-  are_steps = subst (AreSteps 0) (sym durations_first) (source_steps slack source)
+  pub are_steps : AreSteps durations
+  are_steps = subst AreSteps (sym durations_first) (source_steps slack source)
 
   sides : moved_bounds durations bounds ≡ moved_bounds (loose_durations slack source) (p.are.made.kept ++ horizon_bounds (events_of source))
   sides = cc (durations_first, bounds_behind)
 
   pub bounds_named : All (NamesEvents old.events) bounds
-  bounds_named =
-      let whole : List Difference = p.are.made.kept ++ horizon_bounds (events_of source) in
-      subst (λ n. All (NamesEvents n) bounds) (sym p.same)
-      (subst (λ l. All (NamesEvents (events_of source)) l) (sym bounds_behind)
-      (All-from_recursion (NamesEvents (events_of source)) whole
-      (each_weaker (IsMetIn (loose_bounds source slack) (events_of source)) (NamesEvents (events_of source)) (λ bound met. met.named) whole
-      (sources_moved source p.sound slack p.slack_is p.are.orders old.records p.are.sorted.same p.are.made))))
+  bounds_named = subst (λ n. All (NamesEvents n) bounds) (sym p.same)
+      (subst (All (NamesEvents (events_of source))) (sym bounds_behind) (sources_named source p.sound slack old.records p.are))
 
   pub made_robust : (new : Loosening) → AreMadeBehind old (moved_bounds durations bounds) new → IsMadeRobust source slack old.records new.records
   made_robust new made = record {
@@ -62,28 +61,20 @@ module _ {source : PlanSource} {slack : Slack} {old : Loosening} {durations boun
   pub cause_after : (fault : LoosenFault) → IsCauseBehind old (moved_bounds durations bounds) fault → IsCauseAfter source slack fault
   cause_after Full none = none
   cause_after NotRobust none = λ promise.
-      let s = moved_possible source p.sound slack p.slack_is p.are.orders old.records p.are.sorted.same p.are.made promise in
+      let s = moved_possible source p.sound slack p.slack_is old.records p.are promise in
       none (subst (λ n. HasSchedule (horizon_bounds n ++ (old.records ++ moved_bounds durations bounds))) (sym p.same)
       (subst (λ l. HasSchedule (bounds_with source (old.records ++ l))) (sym sides)
       (subst (λ l. HasSchedule l) (append_assoc (horizon_bounds (events_of source)) old.records (moved_bounds (loose_durations slack source) (p.are.made.kept ++ horizon_bounds (events_of source)))) s)))
   cause_after Memory none = tt
 
-pub sides_named : (durations : List Difference) → AreSteps 0 durations → (events : ℕ) (bounds : List Difference) → AllByRecursion (NamesEvents events) bounds
-    → AllByRecursion (NamesEvents events) (moved_bounds durations bounds)
-sides_named durations are events [] named = tt
-sides_named durations are events (bound ∷ bounds) named =
-    (upper_named durations are events bound named.0, (lower_named durations are events bound named.0, sides_named durations are events bounds named.1))
-
 -- the records of the robust plan name its events, where those of the loosened one do
-pub records_named : (source : PlanSource) (slack : Slack) → IsSoundSource source → IsSlack slack → (loosened records : List Difference) (are : AreRobust source slack records)
+pub records_named : (source : PlanSource) (slack : Slack) → IsSoundSource source → (loosened records : List Difference) (are : AreRobust source slack records)
     → are.loosened ≡ loosened → All (NamesEvents (events_of source)) loosened → All (NamesEvents (events_of source)) records
-records_named source slack sound slack_is loosened records are behind before =
+records_named source slack sound loosened records are behind before =
     let events = events_of source in
-    let made = are.are_loosened.made in
-    let sources = each_weaker (IsMetIn (loose_bounds source slack) events) (NamesEvents events) (λ bound met. met.named) (made.kept ++ horizon_bounds events)
-    (sources_moved source sound slack slack_is are.are_loosened.orders are.loosened are.are_loosened.sorted.same made) in
-    let sides = sides_named (loose_durations slack source) (source_steps slack source) events (made.kept ++ horizon_bounds events) sources in
-    let moved = kept_hold (NamesEvents events) (bounds_with source are.loosened) (moved_bounds (loose_durations slack source) (made.kept ++ horizon_bounds events)) are.moved are.chosen sides in
+    let sources = are.are_loosened.made.kept ++ horizon_bounds events in
+    let sides = sides_named (loose_durations slack source) (source_steps slack source) events sources (sources_named source sound slack are.loosened are.are_loosened) in
+    let moved = kept_hold (NamesEvents events) (bounds_with source are.loosened) (moved_bounds (loose_durations slack source) sources) are.moved are.chosen sides in
     grind (arith, common_steps)
 
 -- what two clauses say where there is a result

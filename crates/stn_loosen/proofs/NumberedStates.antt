@@ -18,13 +18,10 @@ numbered-push site counter (first ∷ bounds) bound =
     let same : (counter + 1) + length bounds ≡ counter + length (first ∷ bounds) = omega arith in
     cc (numbered-push site (counter + 1) bounds bound)
 
-after : (site one other : ℕ) → one < other → id_cmp (record { site = site; counter = other }) (record { site = site; counter = one }) ≡ Greater
-after site one other less = search rules
-
 all_before : (site counter next : ℕ) (bounds : List Difference) → counter + length bounds ≤ next
     → AllByRecursion (λ (e : SiteCounter × Record). id_cmp (record { site = site; counter = next }) e.0 ≡ Greater) (numbered site counter bounds)
 all_before site counter next [] most = tt
-all_before site counter next (bound ∷ bounds) most = (after site counter next (omega arith), all_before site (counter + 1) next bounds (omega arith))
+all_before site counter next (bound ∷ bounds) most = let less : counter < next = omega arith in (search rules, all_before site (counter + 1) next bounds (omega arith))
 
 greatest_numbered : (site before : ℕ) (bounds : List Difference) → max before (greatest_counter site (map (λ (e : SiteCounter × Record). e.0) (numbered site (before + 1) bounds))) ≡ before + length bounds
 greatest_numbered site before [] = omega arith

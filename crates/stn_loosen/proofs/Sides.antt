@@ -1,18 +1,18 @@
 -- Sides of moved bounds.
-use Rattle.std.{proofs.{Common.{rules, ◌≡◌, ◌≢◌, inl, inr, ℕ, ℤ, neg_ℤ, ◌+ℤ◌, ◌-ℤ◌, ◌≤ℤ◌, ◌<ℤ◌, Ordering, Less, Equal, Greater, ◌↔◌, Bool, IsTrue, List, [], ◌∷◌, subst, arith, All}, lemmas.{Int.ints, List.Elements.All-head}}, specs.{Ordering.{int_cmp, MatchOrdering}, Cmp.int_ranks}}
-use Rattle.stn_time.{specs.Time.{horizon, IsWithinHorizon}, proofs.Each.All-left}
-use Rattle.stn_net.{specs.{Difference.{Difference, NamesEvents}, Horizon.horizon_bounds, Schedule.{Meets, IsSchedule}}, proofs.Schedules.met_behind}
+use Rattle.std.proofs.{Common.{rules, ◌≡◌, ◌≢◌, ◌⊎◌, inl, inr, ⊎_elim, ℕ, ℤ, ◌≤◌, get_or, neg_ℤ, ◌+ℤ◌, ◌-ℤ◌, ◌≤ℤ◌, ◌↔◌, Bool, IsTrue, List, [], ◌∷◌, subst, arith, All}, lemmas.{Int.ints, List.Elements.All-head}}
+use Rattle.stn_time.specs.Time.{horizon, IsWithinHorizon}
+use Rattle.stn_net.{specs.{Difference.{Difference, NamesEvents}, Horizon.horizon_bounds, Schedule.{Meets, IsSchedule}}, proofs.{Closure.schedule_before, Schedules.met_behind, Widest.horizon_times}}
 use Rattle.stn_conflict.specs.Distances.{TellsWithin}
-use Rattle.stn_loosen.{specs.{Loosened.Imply, Making.{Loosening, made_bounds, with_more}, declared.span.Span.Span, Moved.{moved_upper, moved_lower}, Promise.setting_of, Stepped.{as_bound, AreSteps, IsHalfOpen, IsBoundOf}}, proofs.{Steps.earlier_start, Looser.within, Made.bounds_more}}
+use Rattle.stn_loosen.{specs.{Loosened.Imply, Making.{Loosening, made_bounds, with_more}, declared.span.Span.Span, Moved.{moved_upper, moved_lower, moved_bounds}, Promise.setting_of, Stepped.{as_bound, AreSteps, IsHalfOpen, IsBoundOf}}, proofs.{Steps.earlier_start, Settings.{BothSides, moved_all}, Made.bounds_more}}
 
 -- no two events are farther apart than the horizon
 pub apart_within : (made : Loosening) (bound : Difference) → NamesEvents made.events bound → (time : ℕ → ℤ) → IsSchedule (made_bounds made) time
     → (neg_ℤ horizon ≤ℤ (time bound.to -ℤ time bound.from)) × ((time bound.to -ℤ time bound.from) ≤ℤ horizon)
 apart_within made bound named time s =
-    let met : All (Meets time) (horizon_bounds made.events) = All-left (Meets time) (horizon_bounds made.events) made.records s.met in
-    let from = within time made.events s.origin met bound.from named.from in
-    let to = within time made.events s.origin met bound.to named.to in
-    search rules
+    let front = schedule_before (horizon_bounds made.events) made.records time s in
+    let from = horizon_times made.events time front bound.from named.from in
+    let to = horizon_times made.events time front bound.to named.to in
+    (omega (arith, ints, from.1, to.0), omega (arith, ints, from.0, to.1))
 
 -- what is told of the side of a bound that is not open says whether it is implied
 module _ (made : Loosening) (bounds : List Difference) (listed : bounds ≡ made_bounds made) (side : Difference) (named : NamesEvents made.events side) (told : Bool) (most : ℤ) where
@@ -36,45 +36,35 @@ module _ (made : Loosening) (bounds : List Difference) (listed : bounds ≡ made
         λ implied. are.within.1 (λ time s. (let met = (implied time s).0 in omega (arith, ints))),
       )
 
+-- a bound with an open side lies within the horizon, or says nothing
+pub half_within : (bound : Difference) → IsHalfOpen bound → bound.lo ≤ℤ bound.hi
+    → (IsWithinHorizon bound.lo × IsWithinHorizon bound.hi) ⊎ ((bound.lo ≤ℤ neg_ℤ horizon) × (horizon ≤ℤ bound.hi))
+half_within bound (inl low) ordered = search rules
+half_within bound (inr high) ordered = search rules
+
 -- with a side that is open, needed, and no bound there is no schedule
 module _ (old : Loosening) (side : Difference) (named : NamesEvents old.events side) (side_open : IsHalfOpen side) (needed : ¬ Imply (made_bounds old) side)
     (time : ℕ → ℤ) (schedule : IsSchedule (made_bounds (with_more old (side ∷ []))) time) where
   here : Meets time side
   here = All-head (Meets time) side [] (met_behind (made_bounds old) (side ∷ []) time (subst (λ l. IsSchedule l time) (bounds_more old (side ∷ [])) schedule))
 
-  inside : (neg_ℤ horizon ≤ℤ (time side.to -ℤ time side.from)) × ((time side.to -ℤ time side.from) ≤ℤ horizon)
-  inside = apart_within (with_more old (side ∷ [])) side named time schedule
-
   differs : side.from ≢ side.to
   differs same = search (rules, ints, here)
 
-  lower : IsWithinHorizon side.lo
-  lower = by (int_cmp side.lo (neg_ℤ horizon)) (int_ranks side.lo (neg_ℤ horizon)) side_open
-    where
-      by : (o : Ordering) → MatchOrdering o (side.lo <ℤ neg_ℤ horizon) (side.lo ≡ neg_ℤ horizon) (neg_ℤ horizon <ℤ side.lo) → IsHalfOpen side → IsWithinHorizon side.lo
-      by Less ranks (inl is) = absurd (omega (arith, ints, ranks, is))
-      by Less ranks (inr is) = absurd (needed (λ other s. let b = apart_within old side named other s in (omega (arith, ints, b.0, ranks), omega (arith, ints, b.1, is))))
-      by Equal ranks o = (omega (arith, ints, ranks), omega (arith, ints, ranks))
-      by Greater ranks o = (omega (arith, ints, ranks), omega (arith, ints, here.0, inside.1))
-
-  upper : IsWithinHorizon side.hi
-  upper = by (int_cmp side.hi horizon) (int_ranks side.hi horizon) side_open
-    where
-      by : (o : Ordering) → MatchOrdering o (side.hi <ℤ horizon) (side.hi ≡ horizon) (horizon <ℤ side.hi) → IsHalfOpen side → IsWithinHorizon side.hi
-      by Less ranks o = (omega (arith, ints, here.1, inside.0), omega (arith, ints, ranks))
-      by Equal ranks o = (omega (arith, ints, ranks), omega (arith, ints, ranks))
-      by Greater ranks (inl is) = absurd (needed (λ other s. let b = apart_within old side named other s in (omega (arith, ints, b.0, is), omega (arith, ints, b.1, ranks))))
-      by Greater ranks (inr is) = absurd (omega (arith, ints, ranks, is))
-
   pub side_bound : IsBoundOf old.events side
-  side_bound = omega (arith, differs, ints, lower, upper)
+  side_bound =
+      let ordered : side.lo ≤ℤ side.hi = omega (arith, ints, here.0, here.1) in
+      ⊎_elim (λ within. record { sound = record { named = named; differs = differs; ordered = ordered }; lo = within.0; hi = within.1 })
+      (λ wide. absurd (needed (λ other s. let b = apart_within old side named other s in (omega (arith, ints, b.0, wide.0), omega (arith, ints, b.1, wide.1)))))
+      (half_within side side_open ordered)
 
-module _ (durations : List Difference) (are : AreSteps 0 durations) (events : ℕ) (bound : Difference) (named : NamesEvents events bound) where
-  pub upper_named : NamesEvents events (moved_upper durations bound)
-  upper_named = record { from = omega (arith, earlier_start durations are bound.from, named.from); to = omega (arith, earlier_start durations are bound.to, named.to) }
+-- moved sides name events of the plan
+module _ (durations : List Difference) (are : AreSteps durations) (events : ℕ) where
+  pub both_named : (bound : Difference) → NamesEvents events bound → BothSides durations (NamesEvents events) bound
+  both_named bound named = search (rules, earlier_start)
 
-  pub lower_named : NamesEvents events (moved_lower durations bound)
-  lower_named = record { from = omega (arith, earlier_start durations are bound.from, named.from); to = omega (arith, earlier_start durations are bound.to, named.to) }
+  pub sides_named : (bounds : List Difference) → All (NamesEvents events) bounds → All (NamesEvents events) (moved_bounds durations bounds)
+  sides_named bounds named = moved_all durations (NamesEvents events) bounds (λ k d below. both_named (get_or bounds k d) (named k d below))
 
 -- the sides that the code makes
 module _ (durations : List Difference) (bound : Difference) (from_event to_event : ℕ) (from to : Span) (time : ℤ) (from_is : from_event ≡ bound.from) (to_is : to_event ≡ bound.to)

@@ -1,10 +1,9 @@
 -- Bounds on starts of which a search takes some.
-use Rattle.std.proofs.{Common.{rules, ◌≡◌, ◌≢◌, inl, inr, ℕ, ◌+◌, ◌<◌, ◌≤◌, ℤ, pos, neg_ℤ, ◌-ℤ◌, ◌≤ℤ◌, ◌<ℤ◌, Bool, true, false, eqb, ltb, Ordering, Less, Equal, Greater, List, [], ◌∷◌, ◌++◌, length, map, take, get_or, refl, sym, ap, subst, ◌∙◌, arith, append_assoc, length-append, All}, lemmas.{Bool.Decides.nat_tests, Int.ints, List.{take_more, take_all, length-map, get_or_append_left, get_or_push, Elements.{All-head, All-push}}}}
-use Rattle.std.specs.{Ordering.{int_cmp, MatchOrdering}, Cmp.int_ranks}
+use Rattle.std.proofs.{Common.{rules, ◌≡◌, ◌≢◌, ℕ, ◌+◌, ◌<◌, ◌≤◌, ℤ, pos, neg_ℤ, ◌-ℤ◌, ◌≤ℤ◌, List, [], ◌∷◌, ◌++◌, length, map, take, refl, sym, ap, subst, ◌∙◌, arith, append_assoc, length-append, All}, lemmas.{Bool.cases_eq, Int.ints, List.{take_more, take_all, length-map, get_or_append_left, get_or_push, Elements.{All-head, All-push}}}}
 use Rattle.stn_time.specs.Time.{horizon}
 use Rattle.stn_net.{specs.{Difference.{Difference, NamesEvents}, Horizon.horizon_bounds, Schedule.{Meets, IsSchedule, HasSchedule}}, proofs.{Closure.schedule_before, Schedules.met_behind}}
-use Rattle.stn_conflict.specs.{declared.links.{Link.Link, Side.{Side, TheVariants.{Upper, Lower}}}, Arcs.{Arc, arc, arc_of, bound_at, IsChain, weight_of, IsNegativeCycle}}
-use Rattle.stn_loosen.{specs.{Starting.{IsStart, AreCrossed, ArePlaced, AreChosen, link_moved}, Stepped.{IsHalfOpen, IsBoundOf}}, proofs.Sides.apart_within}
+use Rattle.stn_conflict.specs.{declared.links.Link.Link, Arcs.{Arc, arc, arc_of, bound_at, IsChain, weight_of, IsNegativeCycle}}
+use Rattle.stn_loosen.{specs.{Starting.{IsStart, AreCrossed, ArePlaced, AreChosen, link_moved}, Stepped.IsBoundOf}, proofs.Sides.apart_within}
 
 -- ---- links at their places
 module _ (all bounds : List Difference) (places : List ℕ) (are : ArePlaced all bounds places) where
@@ -28,13 +27,6 @@ module _ (all bounds : List Difference) (places : List ℕ) (are : ArePlaced all
   placed_cycle links cycle = search (rules, length-map, placed_chain, placed_weight)
 
 module _ (all : List Difference) (place : ℕ) (there : place < length all) where
-  alone : (side : Side) → (bound_at all place).from ≡ (bound_at all place).to → (arc (bound_at all place) side).weight <ℤ pos 0
-      → IsNegativeCycle all (record { place = place; side = side } ∷ [])
-  alone side same negative = search rules
-
-  both : (bound_at all place).hi <ℤ (bound_at all place).lo → IsNegativeCycle all (record { place = place; side = Upper } ∷ record { place = place; side = Lower } ∷ [])
-  both less = search rules
-
   pub crossed_cycle : (links : List Link) → length links ≢ 0 → AreCrossed (bound_at all place) place links → IsNegativeCycle all links
   crossed_cycle [] some are = absurd (some refl)
   crossed_cycle (link ∷ []) some are = search rules
@@ -48,42 +40,7 @@ module _ (events : ℕ) (others : List Difference) (bound : Difference) (start :
 
   -- it is a bound of the plan where its sides lie within the horizon; where one of them doesn't, the horizon's imply it
   pub left_out_met : (place : ℕ) → AreCrossed bound place [] → ¬ IsBoundOf events bound → Meets time bound
-  left_out_met place whole none = by (eqb bound.from bound.to) refl
-    where
-      here : bound.from ≢ bound.to → (bound.lo ≡ neg_ℤ horizon → bound.hi ≤ℤ horizon → ⊥) × (bound.hi ≡ horizon → neg_ℤ horizon ≤ℤ bound.lo → ⊥)
-      here differs = (
-        λ low high. none (record {
-          sound = record { named = start.named; differs = differs; ordered = whole.0 };
-          lo = (omega (arith, ints, low), omega (arith, ints, low));
-          hi = (omega (arith, ints, low, whole.0), high);
-        }),
-        λ high low. none (record {
-          sound = record { named = start.named; differs = differs; ordered = whole.0 };
-          lo = (low, omega (arith, ints, high, whole.0));
-          hi = (omega (arith, ints, high), omega (arith, ints, high));
-        }),
-      )
-
-      open_low : bound.from ≢ bound.to → bound.lo ≡ neg_ℤ horizon → (o : Ordering) → MatchOrdering o (bound.hi <ℤ horizon) (bound.hi ≡ horizon) (horizon <ℤ bound.hi) → Meets time bound
-      open_low differs low Less ranks = absurd ((here differs).0 low (omega (arith, ints, ranks)))
-      open_low differs low Equal ranks = absurd ((here differs).0 low (omega (arith, ints, ranks)))
-      open_low differs low Greater ranks = (omega (arith, ints, low, inside.0), omega (arith, ints, ranks, inside.1))
-
-      open_high : bound.from ≢ bound.to → bound.hi ≡ horizon → (o : Ordering) → MatchOrdering o (bound.lo <ℤ neg_ℤ horizon) (bound.lo ≡ neg_ℤ horizon) (neg_ℤ horizon <ℤ bound.lo) → Meets time bound
-      open_high differs high Less ranks = (omega (arith, ints, ranks, inside.0), omega (arith, ints, high, inside.1))
-      open_high differs high Equal ranks = absurd ((here differs).1 high (omega (arith, ints, ranks)))
-      open_high differs high Greater ranks = absurd ((here differs).1 high (omega (arith, ints, ranks)))
-
-      halves : bound.from ≢ bound.to → IsHalfOpen bound → Meets time bound
-      halves differs (inl low) = open_low differs low (int_cmp bound.hi horizon) (int_ranks bound.hi horizon)
-      halves differs (inr high) = open_high differs high (int_cmp bound.lo (neg_ℤ horizon)) (int_ranks bound.lo (neg_ℤ horizon))
-
-      by : (same : Bool) → eqb bound.from bound.to ≡ same → Meets time bound
-      by true e =
-          let same : bound.from ≡ bound.to = grind (arith, nat_tests) in
-          let sides = whole.1 same in
-          (omega (arith, ints, sides.0, ap time same), omega (arith, ints, sides.1, ap time same))
-      by false e = let differs : bound.from ≢ bound.to = grind (arith, nat_tests) in halves differs start.half
+  left_out_met place whole none = search (rules, cases_eq, ints, inside)
 
 -- ---- one bound after the other
 abbrev nothing : Difference
@@ -91,23 +48,7 @@ nothing = record { from = 0; to = 0; lo = pos 0; hi = pos 0 }
 
 placed_push : (all bounds : List Difference) (places : List ℕ) → length places ≡ length bounds → ArePlaced all bounds places → (bound : Difference) (place : ℕ) → place < length all
     → bound ≡ bound_at all place → ArePlaced all (bounds ++ bound ∷ []) (places ++ place ∷ [])
-placed_push all bounds places long are bound place there is = λ k below. by k below (ltb k (length bounds)) refl
-  where
-    by : (k : ℕ) → k < length (bounds ++ bound ∷ []) → (first : Bool) → ltb k (length bounds) ≡ first
-        → (get_or (places ++ place ∷ []) k 0 < length all) × (bound_at all (get_or (places ++ place ∷ []) k 0) ≡ bound_at (bounds ++ bound ∷ []) k)
-    by k below true e =
-        let first : k < length bounds = grind (arith, nat_tests) in
-        let at : get_or (places ++ place ∷ []) k 0 ≡ get_or places k 0 = get_or_append_left places (place ∷ []) 0 k (omega (arith, long, first)) in (
-          subst (λ p. p < length all) (sym at) (are k first).0,
-          ap (bound_at all) at ∙ (are k first).1 ∙ sym (get_or_append_left bounds (bound ∷ []) nothing k first),
-        )
-    by k below false e =
-        let past : length bounds ≤ k = grind (arith, nat_tests) in
-        let last : length bounds ≡ k = omega (arith, past, below, length-append bounds (bound ∷ [])) in
-        let at : get_or (places ++ place ∷ []) k 0 ≡ place = get_or_push places place 0 k (long ∙ last) in (
-          subst (λ p. p < length all) (sym at) there,
-          ap (bound_at all) at ∙ sym is ∙ sym (get_or_push bounds bound nothing k last),
-        )
+placed_push all bounds places long are bound place there is = search (rules, get_or_append_left, length-append, get_or_push)
 
 module _ (events : ℕ) (all : List Difference) where
   module _ (place : ℕ) (chosen : List Difference) (places : List ℕ) (are : AreChosen events all place chosen places) (there : place < length all) where

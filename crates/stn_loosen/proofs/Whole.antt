@@ -1,30 +1,23 @@
 -- The records of a whole plan.
-use Rattle.std.{proofs.{Common.{rules, ◌≡◌, ◌≤◌, List, [], ◌++◌, length, subst, arith, append-nil, All}, lemmas.List.Sorted.All-permutation}, specs.List.Sorted.IsPermutation}
-use Rattle.stn_net.specs.{Difference.{Difference, NamesEvents}, Schedule.{Meets, HasSchedule}}
+use Rattle.std.{proofs.{Common.{rules, ◌≡◌, List, [], ◌++◌, subst, append-nil}, lemmas.List.{Sorted.All-permutation, Elements.All-nil}}, specs.List.Sorted.IsPermutation}
+use Rattle.stn_net.specs.{Difference.Difference, Schedule.{Meets, HasSchedule}}
 use Rattle.stn_lift.specs.PlanSource.{PlanSource, events_of, planned_of, IsSoundSource}
-use Rattle.stn_records.specs.Content.{most_known}
-use Rattle.stn_loosen.{specs.{declared.fault.LoosenFault.{LoosenFault, TheVariants.{Full, NotRobust, Memory}}, Slack.{Slack, IsSlack}, Faults.IsCause, Making.{Loosening, AreMadeBehind, IsCauseWith}, Loosened.{durations_of, orders_of, AreNearestFirst, bounds_with, loose_durations, AreMadeOf}}, proofs.{Looser.{loose_schedule, orders_met, orders_named}, ThreeParts.few_durations}}
+use Rattle.stn_loosen.{specs.{declared.fault.LoosenFault.{LoosenFault, TheVariants.{Full, NotRobust, Memory}}, Slack.{Slack, IsSlack}, Faults.IsCause, Making.{Loosening, AreMadeBehind, IsCauseWith}, Loosened.{orders_of, AreNearestFirst, bounds_with, loose_durations, AreMadeOf}}, proofs.Looser.{loose_schedule, orders_hold}}
 
 module _ (source : PlanSource) (sound : IsSoundSource source) (slack : Slack) (is : IsSlack slack) where
-  -- there is room for all durations, and they have a schedule
-  pub durations_fit : length (durations_of source) ≤ most_known
-  durations_fit = omega (arith, few_durations source)
-
+  -- all durations have a schedule
   pub durations_possible : HasSchedule (bounds_with source (loose_durations slack source))
   durations_possible =
       subst (λ l. HasSchedule (bounds_with source l)) (append-nil (loose_durations slack source))
-      (planned_of source, loose_schedule source sound (planned_of source) sound.possible slack is [] (λ k d below. absurd (omega arith)))
+      (planned_of source, loose_schedule source sound (planned_of source) sound.possible slack is [] (All-nil (Meets (planned_of source))))
 
   module _ (orders : List Difference) (same : IsPermutation (orders_of source) orders) where
     pub orders_possible : HasSchedule (bounds_with source (loose_durations slack source ++ orders))
     orders_possible = (
       planned_of source,
       loose_schedule source sound (planned_of source) sound.possible slack is orders
-          (All-permutation (Meets (planned_of source)) (orders_of source) orders same (orders_met source sound (planned_of source) sound.possible)),
+          (All-permutation (Meets (planned_of source)) (orders_of source) orders same (orders_hold source (Meets (planned_of source)) sound.possible.met)),
     )
-
-    pub all_named : All (NamesEvents (events_of source)) orders
-    all_named = All-permutation (NamesEvents (events_of source)) (orders_of source) orders same (orders_named source sound)
 
 module _ (source : PlanSource) (slack : Slack) (before : Loosening) (is : before ≡ record { events = events_of source; records = loose_durations slack source }) where
   pub made_of : (orders : List Difference) (now : Loosening) → AreMadeBehind before orders now → AreMadeOf source slack orders now.records

@@ -5,10 +5,8 @@ pub mod Moved
 pub mod Robust
 pub mod Fragile
 pub mod Starting
-pub mod Run
 pub mod Faults
 pub mod Numbered
 pub mod Making
 pub mod Stepped
-pub mod Whole
 pub mod Failures

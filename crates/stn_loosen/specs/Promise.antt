@@ -10,11 +10,14 @@ still event = record { from = event; to = event; lo = pos 0; hi = pos 0 }
 abbrev pub setting_of : List Difference → ℕ → Difference
 setting_of durations event = unwrap_or (find (λ duration. duration.to == event) durations) (still event)
 
+-- an event comes so long after the promised time of the start of what sets it as that lets it
+abbrev pub Follows : (ℕ → ℤ) → ℤ → Difference → Type 0
+Follows promised time setting = (setting.lo ≤ℤ (time -ℤ promised setting.from)) × ((time -ℤ promised setting.from) ≤ℤ setting.hi)
+
 -- the times keep to promised ones: an event that ends no duration comes at its promised time, and one that ends a duration so long
 -- after the promised time of its start as the duration lets it
-pub record Keeps (durations : List Difference) (promised time : ℕ → ℤ) : Type 0 where
-  pub least : (event : ℕ) → (setting_of durations event).lo ≤ℤ (time event -ℤ promised (setting_of durations event).from)
-  pub most : (event : ℕ) → (time event -ℤ promised (setting_of durations event).from) ≤ℤ (setting_of durations event).hi
+abbrev pub Keeps : List Difference → (ℕ → ℤ) → (ℕ → ℤ) → Type 0
+Keeps durations promised time = (event : ℕ) → Follows promised (time event) (setting_of durations event)
 
 -- the times are a promise: whatever the durations, those that keep to them are a schedule
 abbrev pub Promises : List Difference → List Difference → (ℕ → ℤ) → Type 0

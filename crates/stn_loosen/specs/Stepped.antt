@@ -1,13 +1,13 @@
 -- For proofs alone: no public clause cites these words.
-use Rattle.std.specs.Prelude.{◌≡◌, ◌⊎◌, ℕ, ◌+◌, ◌*◌, pos, neg_ℤ, ◌≤ℤ◌, List, [], ◌∷◌}
+use Rattle.std.specs.Prelude.{◌≡◌, ◌⊎◌, ℕ, ◌+◌, ◌*◌, pos, neg_ℤ, ◌≤ℤ◌, ◌<◌, List, length, slice_index_or}
 use Rattle.stn_time.specs.Time.{horizon, IsWithinHorizon}
 use Rattle.stn_net.specs.{Difference.{Difference, IsBoundWithin}, Schedule.HasSchedule}
-use Rattle.stn_loosen.specs.{declared.{span.Span.Span, fault.LoosenFault.{LoosenFault, TheVariants.{Full, NotRobust, Memory}}}, Making.{Loosening, made_bounds, with_more}}
+use Rattle.stn_loosen.specs.{declared.{span.Span.Span, fault.LoosenFault.LoosenFault}, Faults.Causes, Making.{Loosening, made_bounds, with_more}}
 
--- the durations of steps one after the other, after so many others
-abbrev pub AreSteps : ℕ → List Difference → Type 0
-AreSteps before [] = Unit {0}
-AreSteps before (duration ∷ durations) = ((duration.from ≡ 2 * before + 1) × (duration.to ≡ 2 * before + 2)) × AreSteps (before + 1) durations
+-- the durations of steps one after the other
+pub record AreSteps (durations : List Difference) : Type 0 where
+  pub each : (place : ℕ) (d : Difference) → place < length durations
+      → ((slice_index_or durations place d).from ≡ 2 * place + 1) × ((slice_index_or durations place d).to ≡ 2 * place + 2)
 
 -- a span as a bound
 abbrev pub as_bound : Span → Difference
@@ -32,12 +32,8 @@ pub record IsBoundOf (events : ℕ) (bound : Difference) : Type 0 where
 
 -- why the sides can't be made: with them there is no schedule
 abbrev pub IsCauseBehind : Loosening → List Difference → LoosenFault → Type 0
-IsCauseBehind old sides Full = ⊥
-IsCauseBehind old sides NotRobust = ¬ HasSchedule (made_bounds (with_more old sides))
-IsCauseBehind old sides Memory = Unit {0}
+IsCauseBehind old sides = Causes ⊥ (¬ HasSchedule (made_bounds (with_more old sides)))
 
 -- why no more is asked of these bounds
 abbrev pub IsCauseIn : List Difference → LoosenFault → Type 0
-IsCauseIn bounds Full = ⊥
-IsCauseIn bounds NotRobust = ¬ HasSchedule bounds
-IsCauseIn bounds Memory = Unit {0}
+IsCauseIn bounds = Causes ⊥ (¬ HasSchedule bounds)

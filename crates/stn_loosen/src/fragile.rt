@@ -46,7 +46,7 @@ fn lines_of<A: Allocator + Copy>(
     starts: &[Span],
     links: &[Link],
 ) -> Result<Vec<u8, A>, Memory>
-    requires steps { AreSteps 0 durations.now }
+    requires steps { AreSteps durations.now }
     requires counted { length starts.now ≡ events + 2 * length bounds.now }
     requires horizon { events ≤ length bounds.now }
     requires few { length bounds.now < 2 ^ 32 }
@@ -69,7 +69,7 @@ fn append_line<A: Allocator>(
     link: Link,
     out: &mut Vec<u8, A>,
 ) -> Result<(), Memory>
-    requires steps { AreSteps 0 durations.now }
+    requires steps { AreSteps durations.now }
     requires counted { length starts.now ≡ events + 2 * length bounds.now }
     requires horizon { events ≤ length bounds.now }
     requires few { length bounds.now < 2 ^ 32 }
@@ -128,7 +128,7 @@ fn append_limit<A: Allocator>(
 
 // The step whose duration sets an event, where one does.
 fn mover(durations: &[Bound], event: Event) -> Option<u16>
-    requires { AreSteps 0 durations.now }
+    requires { AreSteps durations.now }
     ensures { result ≡ spec.mover durations.now event }
 {
     if setting_of(durations, event).from.number() == event.number() {
@@ -146,7 +146,7 @@ fn append_movers<A: Allocator>(
     bound: &Bound,
     out: &mut Vec<u8, A>,
 ) -> Result<(), Memory>
-    requires { AreSteps 0 durations.now }
+    requires { AreSteps durations.now }
     ensures { OnOk result (out.new.items ≡ out.old.items ++ spec.mover_text durations.now events place bound.now) }
 {
     if place < events {

@@ -174,7 +174,7 @@ impl<A: Allocator + Copy> Moving<A> {
         durations: &[Bound],
         bounds: &[Bound],
     ) -> Result<Vec<Bound, A>, LoosenFault>
-        requires steps { AreSteps 0 durations.now }
+        requires steps { AreSteps durations.now }
         requires named { All (NamesEvents self.events) bounds.now }
         ensures made { IfOk result (λ records. AreMadeBehind self (moved_bounds durations.now bounds.now) (record self { records = records.items })) }
         ensures possible { IfOk result (λ records. HasSchedule (made_bounds (record self { records = records.items }))) }
@@ -206,7 +206,7 @@ impl<A: Allocator + Copy> Moving<A> {
 
     // The same with each side of one bound, moved to starts.
     fn with_sides(self, durations: &[Bound], bound: &Bound) -> Result<Moving<A>, LoosenFault>
-        requires steps { AreSteps 0 durations.now }
+        requires steps { AreSteps durations.now }
         requires named { NamesEvents self.events bound.now }
         ensures made { IfOk result (AreMadeBehind self (moved_bounds durations.now (bound.now ∷ []))) }
         ensures fault { IfErr result (IsCauseBehind self (moved_bounds durations.now (bound.now ∷ []))) }

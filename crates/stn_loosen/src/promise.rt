@@ -2,7 +2,7 @@ ghost use Rattle.std.specs.Prelude.{◌≡◌, ◌≤◌, ℕ, ℤ, length, All,
 ghost use Rattle.stn_net.specs.{Difference.NamesEvents, Schedule.IsSchedule, Horizon.horizon_bounds};
 ghost use Rattle.stn_lift.specs.PlanSource.{events_of, IsSoundSource};
 ghost use Rattle.stn_records.specs.Content.{most_known};
-ghost use Rattle.stn_loosen.specs.{Loosened.{bounds_with, loose_durations, AreLoosened}, Promise.Promises, Robust.{loose_bounds, HasPromise, AreRobust}, Faults.IsRobustCause, Whole.{IsMadeRobust, IsCauseAfter}};
+ghost use Rattle.stn_loosen.specs.{Loosened.{bounds_with, loose_durations, AreLoosened}, Promise.Promises, Robust.{loose_bounds, HasPromise, AreRobust}, Faults.IsRobustCause, Making.{IsMadeRobust, IsCauseAfter}};
 
 use crate::fault::LoosenFault;
 use crate::making::{Making, Moving};

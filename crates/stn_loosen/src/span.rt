@@ -58,7 +58,7 @@ impl Span {
 
 // What sets an event: the duration of the step that it ends; any other event is set by itself.
 pub(crate) fn setting_of(durations: &[Bound], event: Event) -> Span
-    requires { AreSteps 0 durations.now }
+    requires { AreSteps durations.now }
     ensures value { as_bound result ≡ setting_of durations.now event }
     ensures lo { IsWithinHorizon result.lo }
     ensures hi { IsWithinHorizon result.hi }
@@ -75,7 +75,7 @@ pub(crate) fn setting_of(durations: &[Bound], event: Event) -> Span
 
 // The upper and the lower side of a bound, each moved to the starts of the steps whose ends it names; the other side of each is open.
 pub(crate) fn moved_sides(durations: &[Bound], bound: &Bound) -> (Span, Span)
-    requires { AreSteps 0 durations.now }
+    requires { AreSteps durations.now }
     ensures upper { as_bound result.0 ≡ moved_upper durations.now bound.now }
     ensures lower { as_bound result.1 ≡ moved_lower durations.now bound.now }
     ensures upper_reach { IsWithinReach (as_bound result.0) }

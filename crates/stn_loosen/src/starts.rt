@@ -50,7 +50,7 @@ pub fn starts_of<A: Allocator + Copy>(
     durations: &[Bound],
     bounds: &[Bound],
 ) -> Result<Vec<Span, A>, Memory>
-    requires { AreSteps 0 durations.now }
+    requires { AreSteps durations.now }
     ensures value { IfOk result (λ starts. map as_bound starts.items ≡ horizon.now ++ moved_bounds durations.now bounds.now) }
     ensures reach { IfOk result (λ starts. All IsWithinReach (map as_bound starts.items)) }
 {

@@ -1,14 +1,12 @@
-use Rattle.std.{proofs.{Common.{◌≡◌, ℕ, ◌+◌, List, length, map, ap, sym, ◌∙◌}, lemmas.List.{FromFn.length-map-range_with_len, Elements.All-append}}, specs.List.range_with_len}
-use Rattle.stn_net.specs.Difference.{Difference, NamesEvents}
+use Rattle.std.{proofs.{Common.{rules, ◌+◌, map, ap, ◌∙◌}, lemmas.List.{FromFn.length-map-range_with_len, Elements.All-append}}, specs.List.range_with_len}
+use Rattle.stn_net.specs.Difference.{NamesEvents}
 use Rattle.stn_lift.specs.PlanSource.{IsSoundSource, events_of, base_bounds}
 use Rattle.stn_site.specs.Bounds.{live_bounds}
 use Rattle.stn_guard.{specs.Adding.owner_by, proofs.SiteGuard.guard_found}
 use Rattle.stn_guard.proofs.adding.guard_of.Goals as goal
 
 pub guard-requires-clause-one_each : goal.guard-requires-clause-one_each
-guard-requires-clause-one_each g c =
-    ap length (c.deref-2.ensures.value ∙ c.in_ok-owners.ensures) ∙ length-map-range_with_len (owner_by c.site.result c.args.owned.now) 0 (c.events.result + 1)
-    ∙ ap (λ n. n + 1) (c.events.ensures.value ∙ sym c.events-2.ensures.value)
+guard-requires-clause-one_each g c = search (rules, length-map-range_with_len)
 
 pub returns : goal.returns
 returns g c =

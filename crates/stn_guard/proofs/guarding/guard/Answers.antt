@@ -1,7 +1,7 @@
-use Rattle.std.{proofs.{Common.{◌≡◌, ℕ, ◌+◌, List, ◌++◌, length, ap, sym, subst, ◌∙◌, rules}, lemmas.{Bool.false≢true, List.{with_items_is, Elements.All-append}}}, specs.{Prelude.All, Vec.with_items}}
-use Rattle.stn_net.specs.{Difference.{Difference, NamesEvents}, Schedule.HasSchedule}
+use Rattle.std.{proofs.{Common.{◌≡◌, ℕ, ◌+◌, List, ◌++◌, length, sym, ◌∙◌, rules}, lemmas.{Bool.false≢true, List.{with_items_is, Elements.All-append}}}, specs.{Prelude.All, Vec.with_items}}
+use Rattle.stn_net.{proofs.Horizons.known_first, specs.{Difference.{Difference, NamesEvents}, Schedule.HasSchedule}}
 use Rattle.stn_conflict.specs.Listing.{ListedBounds}
-use Rattle.stn_guard.{specs.{Owners.owner_of, Making.IsGuardOf, Splitting.Splits, Making.shared_arcs}, proofs.{Made.{made_guard, made_windows}, Whole.{can_first, can_second, owned_front, owned_behind, AreNamed, noted, still_possible, whole_guard, begins_both}, guarding.guard.{Given.Over, Goals.In-Some}}}
+use Rattle.stn_guard.{specs.{Owners.owner_of, Making.IsGuardOf, Making.shared_arcs}, proofs.{Made.{made_guard, made_windows}, Whole.{can_first, can_second, AreNamed, noted, still_possible, whole_guard}, guarding.guard.{Given.Over, Goals.In-Some}}}
 use Rattle.stn_guard.proofs.guarding.guard.Goals as goal
 
 -- the windows that were found are those of the bounds, which have a schedule
@@ -50,7 +50,7 @@ returns g c =
     let made : IsGuardOf owner events bounds guard =
     whole_guard owner events c.args.base.now c.args.extra.now c.split_shared.new.windows c.split_shared-2.new.windows c.deref.result.now guard
     (rw f.is at c.in_ok-split_shared.ensures) c.in_ok-split_shared-2.ensures long named c.in_ok-named_windows.ensures in
-    let begins = begins_both events c.args.base.now c.args.extra.now c.requires.begins in
+    let begins = known_first events c.args.base.now c.args.extra.now c.requires.begins in
     record {
       none = ((λ e has. absurd (false≢true (sym e))), (λ none. absurd (none f.possible)));
       guards = made_guard owner events bounds guard (record { possible = f.possible; named = f.named; begins = begins; made = made });

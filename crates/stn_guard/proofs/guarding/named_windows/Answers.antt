@@ -1,6 +1,5 @@
-use Rattle.std.proofs.Common.{◌≡◌, ℤ, ◌+◌, ◌-◌, ◌≤◌, refl, sym, subst, arith, rules}
-use Rattle.stn_net.specs.Windows.Window.{IsWindow}
-use Rattle.stn_guard.{specs.Making.window_bound, proofs.Named.{AreNamedTo, named_more, origin_alone}}
+use Rattle.std.proofs.Common.{◌≡◌, ◌+◌, ◌-◌, subst, arith, rules}
+use Rattle.stn_guard.proofs.Named.{AreNamedTo, named_more, origin_alone}
 use Rattle.stn_guard.proofs.guarding.named_windows.Goals as goal
 
 pub loop-number-init : goal.loop-number-init

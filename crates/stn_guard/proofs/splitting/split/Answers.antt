@@ -1,5 +1,4 @@
-use Rattle.std.{proofs.{Common.{[], ◌∷◌, ◌++◌, ◌≡◌, sym, ap, subst, ◌∙◌, arith}, lemmas.{Int.ints, Result.IfOk-weaker, List.Elements.All-head}}, specs.Prelude.{ℤ, ◌-ℤ◌, ◌<ℤ◌}}
-use Rattle.stn_net.specs.{Difference.Difference, Schedule.HasSchedule}
+use Rattle.std.{proofs.{Common.{[], ◌∷◌, ◌++◌, ap, ◌∙◌, arith}, lemmas.{Int.ints, Result.IfOk-weaker, List.Elements.All-head}}, specs.Prelude.{◌-ℤ◌, ◌<ℤ◌}}
 use Rattle.stn_conflict.specs.Listing.{ListedBounds}
 use Rattle.stn_guard.{specs.{Making.{split_time, window_bound}, Splitting.{LeavesTime, NamesEnds}}, proofs.{Restricting.{both_possible, first_possible, leaves_known, nothing_to_split, two_to_split}, splitting.split.{Given.Over, Goals.After-middle}}}
 use Rattle.stn_guard.proofs.splitting.split.Goals as goal
@@ -7,17 +6,16 @@ use Rattle.stn_guard.proofs.splitting.split.Goals as goal
 pub returns-then-get : goal.returns-then-get
 returns-then-get g c =
     nothing_to_split c.args.arc c.args.windows.now c.window-from.result c.window-to.result c.requires c.window-from.ensures c.window-to.ensures
-    (omega (arith, ints, c.if-get.true, c.get.ensures.value, c.get-2.ensures.value, c.get-3.ensures.value, c.get.ensures.within.0, c.get.ensures.within.1, c.get-2.ensures.within.0, c.get-2.ensures.within.1))
+    (omega (arith, ints))
 
 pub middle-requires : goal.middle-requires
 middle-requires g c =
     leaves_known c.args.arc c.args.windows.now c.window-from.result c.window-to.result c.requires c.window-from.ensures c.window-to.ensures
-    (omega (arith, ints, c.if-get.false, c.get.ensures.value, c.get-2.ensures.value, c.get-3.ensures.value, c.get.ensures.within.0, c.get.ensures.within.1, c.get-2.ensures.within.0, c.get-2.ensures.within.1))
+    (omega (arith, ints))
 
 -- the windows don't imply the arc
 wider : (g : Over) (c : After-middle g) → c.args.arc.weight <ℤ (c.window-to.result.1 -ℤ c.window-from.result.0)
-wider g c =
-    omega (arith, ints, c.if-get.false, c.get.ensures.value, c.get-2.ensures.value, c.get-3.ensures.value, c.get.ensures.within.0, c.get.ensures.within.1, c.get-2.ensures.within.0, c.get-2.ensures.within.1)
+wider g c = omega (arith, ints)
 
 leaves : (g : Over) (c : After-middle g) → LeavesTime c.args.arc c.window-from.result c.window-to.result (split_time c.args.arc c.window-from.result c.window-to.result)
 leaves g c = leaves_known c.args.arc c.args.windows.now c.window-from.result c.window-to.result c.requires c.window-from.ensures c.window-to.ensures (wider g c)

@@ -1,16 +1,12 @@
-use Rattle.std.{proofs.Common.{◌≡◌, true, false, sym, subst, rules}, specs.Prelude.OnOk}
-use Rattle.stn_guard.{specs.{Owners.{owner_of, is_shared}, Splitting.{CanSplit, Splits}}, proofs.Steps.{splits_none, arcs_of_one}}
+use Rattle.std.{proofs.Common.{◌≡◌, true, sym, subst, rules}, specs.Prelude.OnOk}
+use Rattle.stn_guard.{specs.{Owners.{owner_of, is_shared}, Splitting.Splits}, proofs.Steps.arcs_of_one}
 use Rattle.stn_guard.proofs.splitting.split_bound.Goals as goal
 
 pub returns-then-not-is_shared : goal.returns-then-not-is_shared
-returns-then-not-is_shared g c =
-    let own : is_shared (owner_of c.args.owners.now) c.args.bound.now ≡ false = first_of (cc, search rules) in
-    subst (λ arcs. Splits arcs c.args.windows.now c.args.windows.now) (sym (arcs_of_one (owner_of c.args.owners.now) c.args.bound.now false own)) (splits_none c.args.windows.now)
+returns-then-not-is_shared g c = search rules
 
 pub split_sides-requires : goal.split_sides-requires
-split_sides-requires g c =
-    let shared : is_shared (owner_of c.args.owners.now) c.args.bound.now ≡ true = first_of (cc, search rules) in
-    subst (λ arcs. CanSplit arcs c.args.windows.now) (arcs_of_one (owner_of c.args.owners.now) c.args.bound.now true shared) c.requires.can
+split_sides-requires g c = search rules
 
 pub returns : goal.returns
 returns g c =

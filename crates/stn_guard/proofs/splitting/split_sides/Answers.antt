@@ -1,13 +1,6 @@
-use Rattle.std.proofs.{Common.{◌≡◌, ℕ, ℤ, neg_ℤ, [], ◌∷◌, sym, ap, subst, ◌∙◌}, lemmas.Result.IfOk-weaker}
-use Rattle.stn_net.specs.Difference.{Difference}
-use Rattle.stn_guard.{specs.{declared.splitting.Arc.Arc, Splitting.{CanSplit, Splits}}, proofs.Steps.{can_behind, can_front, splits_on}}
+use Rattle.std.proofs.{Common.{[], ◌∷◌}, lemmas.Result.IfOk-weaker}
+use Rattle.stn_guard.{specs.{Making.{upper, lower}, Splitting.Splits}, proofs.Steps.{can_behind, can_front, splits_on}}
 use Rattle.stn_guard.proofs.splitting.split_sides.Goals as goal
-
-abbrev upper : Difference → Arc
-upper b = record { from = b.from; to = b.to; weight = b.hi }
-
-abbrev lower : Difference → Arc
-lower b = record { from = b.to; to = b.from; weight = neg_ℤ b.lo }
 
 pub split-requires : goal.split-requires
 split-requires g c =

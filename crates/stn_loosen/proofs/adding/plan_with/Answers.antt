@@ -1,5 +1,4 @@
-use Rattle.std.proofs.lemmas.Grind.{common_steps}
-use Rattle.std.proofs.{Common.{rules, ◌≡◌, ◌+◌, [], ◌∷◌, ◌++◌, take, refl, subst, ◌∙◌, arith}, lemmas.List.{take_more, take_all}}
+use Rattle.std.proofs.{lemmas.{Grind.common_steps, List.{take_more, take_all}}, Common.{rules, ◌≡◌, ◌+◌, [], ◌∷◌, ◌++◌, take, refl, subst, ◌∙◌, arith}}
 use Rattle.stn_records.specs.Content.{next_counter, with_record}
 use Rattle.stn_site.specs.Held.{plain}
 use Rattle.stn_loosen.{specs.Numbered.HoldsNumbered, proofs.NumberedStates.{next_passes, holds_none, holds_more, all_are}}

@@ -1,10 +1,7 @@
-use Rattle.std.proofs.lemmas.List.{get_or-take}
-use Rattle.stn_net.proofs.Horizons.{known_within}
-use Rattle.std.proofs.{Common.{rules, ◌≡◌, ◌≢◌, ◌<◌, ◌+◌, [], ◌∷◌, ◌++◌, map, length, refl, sym, ap, subst, ◌∙◌, arith, eqb-true}, lemmas.{Bool.false≢true, List.{length-map, nil_from_length}}}
-use Rattle.stn_net.specs.{Difference.{Difference, NamesEvents}, Horizon.horizon_bounds, Schedule.{Meets, HasSchedule}}
+use Rattle.std.proofs.{lemmas.{List.{get_or-take, length-map, nil_from_length}, Bool.false≢true}, Common.{rules, ◌≡◌, ◌≢◌, ◌<◌, ◌+◌, [], ◌∷◌, ◌++◌, map, length, refl, sym, ap, subst, ◌∙◌, arith, eqb-true}}
+use Rattle.stn_net.{proofs.Horizons.known_within, specs.{Difference.{Difference, NamesEvents}, Horizon.horizon_bounds, Schedule.{Meets, HasSchedule}}}
 use Rattle.stn_conflict.specs.Arcs.{bound_at, IsNegativeCycle}
-use Rattle.stn_loosen.{specs.{Starting.{IsStart, AreCrossed, AreChosen}, Stepped.as_bound}, proofs.{StartBounds.span_at, StartCycles.{placed_cycle, crossed_cycle, left_out_met, chosen_left_out, chosen_more, all_met}}}
-use Rattle.stn_loosen.proofs.crossed.crossed_starts.{Given.Over, Goals.{After-index-starts-place, in-Some+in_ok-push+in_ok-push-2, in_default}}
+use Rattle.stn_loosen.{specs.{Starting.{IsStart, AreCrossed}, Stepped.as_bound}, proofs.{StartBounds.span_at, StartCycles.{placed_cycle, crossed_cycle, left_out_met, chosen_left_out, chosen_more, all_met}, crossed.crossed_starts.{Given.Over, Goals.{After-index-starts-place, in-Some+in_ok-push+in_ok-push-2, in_default}}}}
 use Rattle.stn_loosen.proofs.crossed.crossed_starts.Goals as goal
 
 pub loop-place-init : goal.loop-place-init
@@ -47,19 +44,17 @@ loop-place-preserved g c =
           let value = w.in-Some.ensures.value in
           let new : c.match-bound.chosen.items ≡ chosen ++ bound ∷ [] = (λ i. (w.chosen-is i).items) ∙ w.in_ok-push.ensures.items in
           let new_places : c.match-bound.places.items ≡ places ++ place ∷ [] = (λ i. (w.places-is i).items) ∙ w.in_ok-push-2.ensures.items in
-          subst (λ l. AreChosen events all (place + 1) l c.match-bound.places.items) (sym new)
-          (subst (λ l. AreChosen events all (place + 1) (chosen ++ bound ∷ []) l) (sym new_places)
-          (chosen_more events all place chosen places c.loop-place.invariant (there g at) bound (value ∙ sym (here g at)) (subst (NamesEvents events) (sym value) (start g at).named)))
+          rw (new, new_places)
+          (chosen_more events all place chosen places c.loop-place.invariant (there g at) bound (value ∙ sym (here g at)) (subst (NamesEvents events) (sym value) (start g at).named))
       | in_default w ↦
           let empty : c.in_ok-own.own.len ≡ 0 = eqb-true _ _ (sym c.is_empty.ensures ∙ c.if-not-is_empty.false) in
           let none : length c.in_ok-own.own.items ≡ 0 = omega (arith, c.in_ok-own.own.ok.0, empty) in
           let whole : AreCrossed span place [] = subst (λ l. AreCrossed span place l) (nil_from_length c.in_ok-own.own.items none) c.in_ok-own.ensures in
           let new : c.match-bound.chosen.items ≡ chosen = λ i. (w.chosen-is i).items in
           let new_places : c.match-bound.places.items ≡ places = λ i. (w.places-is i).items in
-          subst (λ l. AreChosen events all (place + 1) l c.match-bound.places.items) (sym new)
-          (subst (λ l. AreChosen events all (place + 1) chosen l) (sym new_places)
+          rw (new, new_places)
           (chosen_left_out events all place chosen places c.loop-place.invariant (there g at)
-          (λ time schedule. subst (Meets time) (sym (here g at)) (left_out_met events chosen span (start g at) time schedule place whole (λ is. false≢true (w.in_default.ensures.found.1 is))))))
+          (λ time schedule. subst (Meets time) (sym (here g at)) (left_out_met events chosen span (start g at) time schedule place whole (λ is. false≢true (w.in_default.ensures.found.1 is)))))
     ]
 
 pub returns-in-Some-2 : goal.returns-in-Some-2

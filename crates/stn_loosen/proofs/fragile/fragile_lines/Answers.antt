@@ -1,10 +1,8 @@
-use Rattle.std.proofs.lemmas.Grind.{common_steps}
-use Rattle.std.proofs.{Common.{◌≡◌, ◌++◌, inr, map, sym, ap, subst, ◌∙◌, arith, rules}, lemmas.List.length-map}
+use Rattle.std.proofs.{lemmas.{Grind.common_steps, List.length-map}, Common.{◌≡◌, ◌++◌, inr, map, sym, ap, subst, ◌∙◌, arith, rules}}
 use Rattle.stn_net.specs.{Horizon.horizon_bounds, Schedule.HasSchedule}
 use Rattle.stn_lift.specs.PlanSource.{events_of}
 use Rattle.stn_conflict.proofs.CycleSums.{places_of_chain}
-use Rattle.stn_loosen.{specs.{Slack.IsSlack, Loosened.{loose_durations, orders_of}, Robust.loose_bounds, Stepped.{as_bound, AreSteps}, Fragile.start_bounds}, proofs.{Steps.source_steps, StartBounds.{begins, are_starts, starts_promise, counted, some}}}
-use Rattle.stn_loosen.proofs.fragile.fragile_lines.{Given.Over, Goals.After-deref-4}
+use Rattle.stn_loosen.{specs.{Slack.IsSlack, Loosened.{loose_durations, orders_of}, Robust.loose_bounds, Stepped.{as_bound, AreSteps}, Fragile.start_bounds}, proofs.{Steps.source_steps, StartBounds.{begins, are_starts, starts_promise, counted, some}, fragile.fragile_lines.{Given.Over, Goals.After-deref-4}}}
 use Rattle.stn_loosen.proofs.fragile.fragile_lines.Goals as goal
 
 bounds_are : (g : Over) (c : After-deref-4 g) → c.in_ok-bounds.bounds.items ≡ loose_bounds c.args.base.now c.args.tolerance
@@ -18,7 +16,7 @@ all_are : (g : Over) (c : After-deref-4 g) → map as_bound c.deref-4.result.now
 all_are g c = ap (map as_bound) c.deref-4.ensures.value ∙ starts_are g c
 
 pub starts_of-requires : goal.starts_of-requires
-starts_of-requires g c = subst (AreSteps 0) (sym (c.deref-2.ensures.value ∙ c.in_ok-durations.ensures.value)) (source_steps c.args.tolerance c.args.base.now)
+starts_of-requires g c = subst AreSteps (sym (c.deref-2.ensures.value ∙ c.in_ok-durations.ensures.value)) (source_steps c.args.tolerance c.args.base.now)
 
 pub crossed_starts-requires-clause-begins : goal.crossed_starts-requires-clause-begins
 crossed_starts-requires-clause-begins g c = search (rules, begins)
@@ -27,7 +25,7 @@ pub crossed_starts-requires-clause-sound : goal.crossed_starts-requires-clause-s
 crossed_starts-requires-clause-sound g c = search (rules, are_starts)
 
 pub lines_of-requires-clause-steps : goal.lines_of-requires-clause-steps
-lines_of-requires-clause-steps g c = subst (AreSteps 0) (sym (c.deref-in-Some.ensures.value ∙ c.in_ok-durations.ensures.value)) (source_steps c.args.tolerance c.args.base.now)
+lines_of-requires-clause-steps g c = subst AreSteps (sym (c.deref-in-Some.ensures.value ∙ c.in_ok-durations.ensures.value)) (source_steps c.args.tolerance c.args.base.now)
 
 pub lines_of-requires-clause-counted : goal.lines_of-requires-clause-counted
 lines_of-requires-clause-counted g c =

@@ -1,11 +1,11 @@
-use Rattle.std.proofs.Common.{◌≡◌, ◌+◌, length, min, arith}
-use Rattle.stn_lift.specs.PlanSource.{events_of, steps_of}
-use Rattle.stn_loosen.proofs.ThreeParts.{orders_are}
+use Rattle.std.proofs.{Common.{ap, length, ◌∙◌, arith}, lemmas.List.{take_rest, drop_at}}
+use Rattle.stn_loosen.{specs.Loosened.{durations_of, orders_of}, proofs.ThreeParts.durations_end}
 use Rattle.stn_loosen.proofs.parts.orders_of.Goals as goal
 
 pub returns : goal.returns
 returns g c =
-    let events : c.from.result ≡ events_of c.args.base.now = omega (arith, c.from.ensures, c.events.ensures.value) in
-    let steps : c.from-2.result ≡ steps_of c.args.base.now = omega (arith, c.from-2.ensures, c.steps.ensures.value) in
-    let first : c.min-first.result ≡ min (length c.bounds-bounds.result.now) (c.from.result + c.from-2.result) = c.min-first.ensures in
-    orders_are c.args.base.now c.bounds-bounds.result.now c.bounds-bounds.ensures.value c.from.result c.from-2.result events steps c.min-first.result first
+    let source = c.args.base.now in
+    let behind = c.behind_horizon-behind.ensures.value in
+    take_rest c.behind_horizon-behind.result.now c.min-count.result
+    ∙ rw behind (drop_at (durations_of source) (orders_of source) c.min-count.result
+    (omega (arith, c.min-count.ensures, ap length behind, c.from.ensures, c.steps.ensures.value, durations_end source)))

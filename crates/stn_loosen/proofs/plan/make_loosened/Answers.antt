@@ -1,6 +1,7 @@
-use Rattle.std.proofs.{Common.{◌≡◌, ap, ◌∙◌, arith, rules}, lemmas.Result.err_from_is_err_and}
+use Rattle.std.proofs.{Common.{◌≡◌, ap, ◌∙◌, arith, rules}, lemmas.{Result.err_from_is_err_and, List.Sorted.All-permutation}}
+use Rattle.stn_net.specs.Difference.{NamesEvents}
 use Rattle.stn_lift.specs.PlanSource.{events_of}
-use Rattle.stn_loosen.{specs.{Slack.IsSlack, Loosened.loose_durations, Making.{Loosening, with_more}}, proofs.{Lasting.durations_last, Looser.durations_named, Whole.{durations_fit, durations_possible, orders_possible, all_named, made_of, cause_of}, plan.make_loosened.{Given.Over, Goals.In_ok-orders}}}
+use Rattle.stn_loosen.{specs.{Slack.IsSlack, Loosened.{orders_of, loose_durations}, Making.{Loosening, with_more}}, proofs.{Looser.{durations_last, durations_named, orders_named}, ThreeParts.few_durations, Whole.{durations_possible, orders_possible, made_of, cause_of}, plan.make_loosened.{Given.Over, Goals.In_ok-orders}}}
 use Rattle.stn_loosen.proofs.plan.make_loosened.Goals as goal
 
 pub make_durations-requires-clause-named : goal.make_durations-requires-clause-named
@@ -17,9 +18,7 @@ make_durations-requires-clause-possible g c =
 
 pub make_durations-requires-clause-few : goal.make_durations-requires-clause-few
 make_durations-requires-clause-few g c =
-    let slack : IsSlack c.args.tolerance = search rules in
-    let fit = durations_fit c.args.base.now c.durations_of.ensures.sound c.args.tolerance slack in
-    rw (c.in_ok-making.ensures, c.durations_of.ensures.value) (omega (arith, fit))
+    rw (c.in_ok-making.ensures, c.durations_of.ensures.value) (omega (arith, few_durations c.args.base.now, c.durations_of.ensures.sound.small))
 
 -- the orders are made behind the durations
 begun : (g : Over) (c : In_ok-orders g) → c.make_durations.new.self ≡ record { events = events_of c.args.base.now; records = loose_durations c.args.tolerance c.args.base.now }
@@ -27,9 +26,9 @@ begun g c = rw (c.in_ok-making.ensures, c.events.ensures.value, c.durations_of.e
 
 pub make_orders-requires-clause-named : goal.make_orders-requires-clause-named
 make_orders-requires-clause-named g c =
-    let slack : IsSlack c.args.tolerance = search rules in
+    let source = c.args.base.now in
     rw (begun g (goal.at.make_orders-requires-clause-named g c).In_ok-orders, c.deref.ensures.value)
-    (all_named c.args.base.now c.durations_of.ensures.sound c.args.tolerance slack c.in_ok-orders.orders.items c.in_ok-orders.ensures.same)
+    (All-permutation (NamesEvents (events_of source)) (orders_of source) c.in_ok-orders.orders.items c.in_ok-orders.ensures.same (orders_named source c.durations_of.ensures.sound))
 
 pub make_orders-requires-clause-possible : goal.make_orders-requires-clause-possible
 make_orders-requires-clause-possible g c =

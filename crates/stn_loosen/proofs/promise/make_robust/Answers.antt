@@ -1,7 +1,7 @@
 use Rattle.std.proofs.{Common.{◌++◌, length, drop, take, ap, ◌∙◌, rules, All}, lemmas.{List.take_rest, Result.{IfOk-weaker, IfErr-weaker}}}
 use Rattle.stn_net.specs.Difference.{NamesEvents}
 use Rattle.stn_lift.specs.PlanSource.{events_of}
-use Rattle.stn_loosen.{specs.{Moved.moved_bounds, Stepped.IsCauseBehind, Whole.{IsCauseAfter}}, proofs.{MadeRobust.{AreParted, are_steps, bounds_named, made_robust, made_promise, cause_after, records_named, on_both}, promise.make_robust.{Given.Over, Goals.After-deref-2}}}
+use Rattle.stn_loosen.{specs.{Moved.moved_bounds, Stepped.IsCauseBehind, Making.IsCauseAfter}, proofs.{MadeRobust.{AreParted, are_steps, bounds_named, made_robust, made_promise, cause_after, records_named, on_both}, promise.make_robust.{Given.Over, Goals.After-deref-2}}}
 use Rattle.stn_loosen.proofs.promise.make_robust.Goals as goal
 
 -- the copies are the parts of the loosened plan
@@ -39,12 +39,11 @@ returns-clause-made g c =
 pub returns-clause-named : goal.returns-clause-named
 returns-clause-named g c =
     let parts = parted g (goal.at.returns-clause-named g c).After-deref-2 in
-    let slack = parts.slack_is in
     let before = rw (c.records-loosened.ensures.value, c.requires.events, ← c.in_ok-moving.ensures) at c.records-loosened.ensures.named in
     IfOk-weaker c.with_moved.result _ (λ records. All (NamesEvents (events_of c.args.base.now)) records.items)
     (λ records made.
     let is = made_robust parts (record c.in_ok-moving.moving { records = records.items }) made in
-    records_named c.args.base.now c.args.tolerance c.requires.sound slack c.in_ok-moving.moving.records records.items is.are_robust is.behind before) c.with_moved.ensures.made
+    records_named c.args.base.now c.args.tolerance c.requires.sound c.in_ok-moving.moving.records records.items is.are_robust is.behind before) c.with_moved.ensures.made
 
 pub returns-clause-possible : goal.returns-clause-possible
 returns-clause-possible g c =

@@ -5,12 +5,12 @@ use Rattle.stn_loosen.proofs.span.moved_sides.Goals as goal
 pub returns-clause-upper : goal.returns-clause-upper
 returns-clause-upper c =
     is_upper c.args.durations.now c.args.bound.now c.from.result c.to.result c.setting_of-from.result c.setting_of-to.result _ c.from.ensures.value c.to.ensures.value c.setting_of-from.ensures.value c.setting_of-to.ensures.value
-    (omega (arith, ints, c.get.ensures.value, c.hi.ensures.value, c.get.ensures.within.0, c.get.ensures.within.1, c.setting_of-to.ensures.hi.0, c.setting_of-to.ensures.hi.1, c.setting_of-from.ensures.lo.0, c.setting_of-from.ensures.lo.1))
+    (omega (arith, ints))
 
 pub returns-clause-lower : goal.returns-clause-lower
 returns-clause-lower c =
     is_lower c.args.durations.now c.args.bound.now c.from.result c.to.result c.setting_of-from.result c.setting_of-to.result _ c.from.ensures.value c.to.ensures.value c.setting_of-from.ensures.value c.setting_of-to.ensures.value
-    (omega (arith, ints, c.get-2.ensures.value, c.lo.ensures.value, c.get-2.ensures.within.0, c.get-2.ensures.within.1, c.setting_of-to.ensures.lo.0, c.setting_of-to.ensures.lo.1, c.setting_of-from.ensures.hi.0, c.setting_of-from.ensures.hi.1))
+    (omega (arith, ints))
 
 pub returns-clause-upper_reach : goal.returns-clause-upper_reach
 returns-clause-upper_reach c = omega (arith, ints)

@@ -1,4 +1,4 @@
-use Rattle.std.proofs.{Common.{rules, ◌≡◌, [], ◌∷◌, ◌++◌, List, ap, subst, ◌∙◌, arith}, lemmas.{List.take_all, Grind.flat_map-append, Result.{IfOk-weaker, IfErr-weaker, err_from_is_err_and}}}
+use Rattle.std.proofs.{Common.{rules, ◌≡◌, [], ◌∷◌, ◌++◌, List, ap, ◌∙◌}, lemmas.{List.take_all, Grind.flat_map-append, Result.{IfOk-weaker, IfErr-weaker, err_from_is_err_and}}}
 use Rattle.stn_net.specs.Difference.{Difference}
 use Rattle.stn_loosen.{specs.{Moved.{moved_upper, moved_lower, moved_bounds}, Stepped.{IsCauseIn}, Making.{Loosening, made_bounds, AreMadeBehind}}, proofs.{Made.{none_made, made_next, refused_next, cause_in}, making.Moving.with_moved.{Given.Over, Goals.After-loop-bound}}}
 use Rattle.stn_loosen.proofs.making.Moving.with_moved.Goals as goal
@@ -8,8 +8,7 @@ join durations = flat_map-append (λ b. moved_upper durations b ∷ moved_lower 
 
 -- all bounds were looked at
 all : (g : Over) (c : After-loop-bound g) → AreMadeBehind c.args.self (moved_bounds c.args.durations.now c.args.bounds.now) c.loop-bound.moving
-all g c =
-    subst (λ l. AreMadeBehind c.args.self (moved_bounds c.args.durations.now l) c.loop-bound.moving) (take_all c.loop-bound.bound-index c.args.bounds.now (omega (arith, c.loop-bound-test.false))) c.loop-bound.invariant
+all g c = search (rules, take_all)
 
 pub loop-bound-init : goal.loop-bound-init
 loop-bound-init g c = none_made c.args.self
