@@ -1,3 +1,5 @@
-mod Unsaved
+pub mod Unsaved
 mod OneEnding
 mod Refused
+mod OneLog
+mod SomeLog

@@ -3,7 +3,6 @@ pub mod Chosen
 pub mod Levels
 pub mod Cycles
 pub mod Counted
-pub mod AmongSame
 pub mod OneKnown
 pub mod OneReady
 pub mod OneAnswer

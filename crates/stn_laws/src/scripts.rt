@@ -13,8 +13,8 @@ ghost use Rattle.stn_laws.specs.{ReadBack.{IsName, IsReadable, ReadsBack}, Repor
 
 use crate::queries::{chosen_all, every_query_has_an_answer, one_said};
 use crate::questions::{one_answer, one_ready_text};
+use crate::worlds::{sites_are_unions, sites_took_same_same_bytes};
 use stn_records::counts_same;
-use stn_world::{sites_are_unions, sites_took_same_same_bytes};
 
 /// The law that a script has one output, and one number of refusals.
 pub fn one_script()

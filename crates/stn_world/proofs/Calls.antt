@@ -1,22 +1,23 @@
 -- A call of a site's replica, as a step of the world.
-use Rattle.std.{proofs.{Common.{◌≡◌, ℕ, ◌+◌, ◌-◌, ◌<◌, Bool, true, List, [], ◌∷◌, ◌++◌, length, Option, None, Result, Ok, Err, get_or, set, refl, ap, sym, subst, ◌∙◌, arith, length-append}, lemmas.{List.set-get_or, Result.err_from_is_err_and, Grind.common_steps}}, specs.{Prelude.{option_map, unwrap_or, ⊤, MatchResult, IfOk, IfErr, OnOk, OnErr}, Option.option_or, Result.IsErrAnd}}
+use Rattle.std.{proofs.{Common.{◌≡◌, ℕ, ◌+◌, ◌-◌, ◌<◌, Bool, true, List, [], ◌∷◌, ◌++◌, length, Option, None, Result, Ok, Err, get_or, set, ap, sym, subst, ◌∙◌, arith, length-append}, lemmas.{List.set-get_or, Result.err_from_is_err_and, Grind.common_steps}}, specs.{Prelude.{option_map, unwrap_or, ⊤, MatchResult, IfOk, IfErr, OnOk, OnErr}, Option.option_or, Result.IsErrAnd}}
+use Rattle.stn_refusal.specs.{declared.failure.Failure.Failure, Refusals.out_of_memory}
 use Rattle.stn_lift.specs.PlanSource.{PlanSource}
-use Rattle.stn_records.specs.{Id.SiteCounter, Content.{Content, plain}}
-use Rattle.stn_site.specs.{Held.Held, declared.{faults.ReplicaFault.ReplicaFault, change.Change.Change}, Change.{change_call, change_id, change_refusal}, Refusals.take_refusal, Calls.{Accepted, added, amended, withdrew, took, Leaves, LeavesState}}
+use Rattle.stn_records.specs.{Id.SiteCounter, Content.Content}
+use Rattle.stn_site.specs.{Held.Held, declared.{faults.ReplicaFault.ReplicaFault, change.Change.Change}, Change.{change_call, change_id, change_refusal}, Failures.replica_failure, Refusals.take_refusal, Calls.{Accepted, added, amended, withdrew, took, Leaves, LeavesState}}
 use Rattle.stn_site.specs.declared.faults.ReplicaFault.TheVariants as replica_fault
-use Rattle.stn_world.{specs.{declared.faults.WorldFault.{WorldFault, TheVariants.Memory}, Faults.of_replica_fault, Sites.world_of, Whole.{IsCoherent, IsSoundWorld}, World.{World, most_packets, HasSite, content_at, held_at, next_id_at, content_after, with_call, send}, Steps.{Step, changed, sent, missing, step_refusal, IsAccepted, after, IsStep, send_refusal, IsSending}}, proofs.{Accepted.{at_site, refused_by}, Sendings.send_free, Whole.coherent_after, Sites.{IsHeldAt, held_is, held_there, take_refusal_at, join_is_joined, world_set, sites_set}}}
+use Rattle.stn_world.{specs.{Sites.world_of, Whole.{IsCoherent, IsSoundWorld}, World.{World, most_packets, HasSite, content_at, held_at, next_id_at, content_after, with_call, send}, Steps.{Step, changed, sent, missing, step_refusal, IsAccepted, after, IsStep, send_refusal, IsSending}}, proofs.{Accepted.{at_site, refused_by}, Sendings.send_free, Whole.coherent_after, Sites.{IsHeldAt, held_is, held_there, take_refusal_at, join_is_joined, world_set, sites_set}}}
 
 -- what a replica answers to a call that one thing refuses, what it becomes, and the same as the world's answer
-pub record IsAnswer {T : Type 0} (one : Held) (refusal : Option ReplicaFault) (accepted : T → Accepted) (Given : T → Type 0) (answer : Result T ReplicaFault) (new : Held) (result : Result T WorldFault) : Type 0 where
+pub record IsAnswer {T : Type 0} (one : Held) (refusal : Option ReplicaFault) (accepted : T → Accepted) (Given : T → Type 0) (answer : Result T ReplicaFault) (new : Held) (result : Result T Failure) : Type 0 where
   pub free : OnOk answer (refusal ≡ None)
   pub leaves : IfOk answer (λ x. Leaves one (accepted x) new)
   pub given : IfOk answer Given
   pub fault : IfErr answer (λ fault. fault ≡ unwrap_or refusal replica_fault.Memory)
   pub kept : OnErr answer (new ≡ one)
-  pub same : MatchResult answer (λ x. result ≡ Ok x) (λ fault. IsErrAnd result (λ made. made ≡ of_replica_fault fault))
+  pub same : MatchResult answer (λ x. result ≡ Ok x) (λ fault. IsErrAnd result (λ made. made ≡ replica_failure fault))
 
 -- the answer is the step's and gives what the step gives, and the replicas are a world's
-pub record IsTaken {T : Type 0} (world : World) (source : PlanSource) (replicas : List Held) (packets : List Content) (call : Step) (Given : T → Type 0) (result : Result T WorldFault) : Type 0 where
+pub record IsTaken {T : Type 0} (world : World) (source : PlanSource) (replicas : List Held) (packets : List Content) (call : Step) (Given : T → Type 0) (result : Result T Failure) : Type 0 where
   pub sound : IsSoundWorld source replicas packets
   pub step : IsStep world call result (world_of source replicas packets)
   pub given : IfOk result Given
@@ -48,8 +49,8 @@ module _ {world : World} {source : PlanSource} {replicas : List Held} {packets :
   pub held : IsHeldAt world site one
   held = held_there world source replicas place site one placed.is placed.sound.sites placed.at placed.there placed.same
 
-  refused_as : (mine cause : Option ReplicaFault) → mine ≡ cause → option_or (missing world site) (option_map of_replica_fault cause) ≡ option_map of_replica_fault mine
-  refused_as mine cause same = at_site world site (option_map of_replica_fault cause) placed.there ∙ ap (option_map of_replica_fault) (sym same)
+  refused_as : (mine cause : Option ReplicaFault) → mine ≡ cause → option_or (missing world site) (option_map replica_failure cause) ≡ option_map replica_failure mine
+  refused_as mine cause same = at_site world site (option_map replica_failure cause) placed.there ∙ ap (option_map replica_failure) (sym same)
 
   -- ---- a replica that stays as it was
   set_stayed : (new : Held) → new ≡ one → set replicas place new ≡ replicas
@@ -65,12 +66,12 @@ module _ {world : World} {source : PlanSource} {replicas : List Held} {packets :
       (content_left one call new.state left.state ∙ ap (λ (c : Content). content_after c call) held.state)
 
   -- ---- a call that is refused as the step is, and leaves what the step leaves
-  step_taken : {T : Type 0} (step : Step) (Given : T → Type 0) (refusal : Option ReplicaFault) (accepted : T → Accepted) → step_refusal world step ≡ option_map of_replica_fault refusal
+  step_taken : {T : Type 0} (step : Step) (Given : T → Type 0) (refusal : Option ReplicaFault) (accepted : T → Accepted) → step_refusal world step ≡ option_map replica_failure refusal
       → ((x : T) → Given x → with_call world site (accepted x) ≡ after world step)
-      → (answer : Result T ReplicaFault) (new : Held) (result : Result T WorldFault) → IsAnswer one refusal accepted Given answer new result
+      → (answer : Result T ReplicaFault) (new : Held) (result : Result T Failure) → IsAnswer one refusal accepted Given answer new result
       → IsTaken world source (set replicas place new) packets step Given result
   step_taken step Given refusal accepted refused made (Ok x) new result is =
-      let free = refused ∙ ap (option_map of_replica_fault) is.free in
+      let free = refused ∙ ap (option_map replica_failure) is.free in
       let left : world_of source (set replicas place new) packets ≡ after world step = call_there new (accepted x) is.leaves ∙ made x is.given in
       rw is.same (record {
         sound = record {
@@ -85,12 +86,12 @@ module _ {world : World} {source : PlanSource} {replicas : List Held} {packets :
       let p = err_from_is_err_and result is.same in
       rw (p.1, p.2) (record {
         sound = subst (λ (l : List Held). IsSoundWorld source l packets) (sym (set_stayed new is.kept)) placed.sound;
-        step = (refused_by refusal fault is.fault ∙ ap (λ o. unwrap_or o Memory) (sym refused), world_stayed new is.kept);
+        step = (refused_by refusal fault is.fault ∙ ap (λ o. unwrap_or o out_of_memory) (sym refused), world_stayed new is.kept);
         given = tt;
       })
 
   -- ---- each call
-  pub change_taken : (asked : Change) (answer : Result SiteCounter ReplicaFault) (new : Held) (result : Result SiteCounter WorldFault)
+  pub change_taken : (asked : Change) (answer : Result SiteCounter ReplicaFault) (new : Held) (result : Result SiteCounter Failure)
       → IsAnswer one (change_refusal one asked) (change_call asked) (λ id. id ≡ change_id asked (next_id_at world site)) answer new result
       → IsTaken world source (set replicas place new) packets (changed site asked) (λ id. id ≡ change_id asked (next_id_at world site)) result
   change_taken asked =
@@ -99,19 +100,19 @@ module _ {world : World} {source : PlanSource} {replicas : List Held} {packets :
       (λ id given. ap (with_call world site) (call_given asked id (next_id_at world site) given))
 
   -- a step that takes in what another site or a packet holds
-  module _ (step : Step) (theirs other : Content) (holds : theirs ≡ other) (refused : step_refusal world step ≡ option_map of_replica_fault (take_refusal (held_at world site) other)) where
+  module _ (step : Step) (theirs other : Content) (holds : theirs ≡ other) (refused : step_refusal world step ≡ option_map replica_failure (take_refusal (held_at world site) other)) where
     refusal_there : take_refusal one theirs ≡ take_refusal (held_at world site) other
     refusal_there = take_refusal_at world site one theirs other held holds
 
-    pub take_taken : {T : Type 0} → with_call world site (took other) ≡ after world step → (answer : Result T ReplicaFault) (new : Held) (result : Result T WorldFault)
+    pub take_taken : {T : Type 0} → with_call world site (took other) ≡ after world step → (answer : Result T ReplicaFault) (new : Held) (result : Result T Failure)
         → IsAnswer one (take_refusal one theirs) (λ _. took theirs) (λ _. ⊤) answer new result → IsTaken world source (set replicas place new) packets step (λ _. ⊤) result
     take_taken left =
-        step_taken step (λ _. ⊤) (take_refusal one theirs) (λ _. took theirs) (refused ∙ ap (option_map of_replica_fault) (sym refusal_there))
+        step_taken step (λ _. ⊤) (take_refusal one theirs) (λ _. took theirs) (refused ∙ ap (option_map replica_failure) (sym refusal_there))
         (λ _ _. ap (λ (c : Content). with_call world site (took c)) holds ∙ left)
 
     -- its fault is of a kind where each such fault is, in a coherent world
-    pub take_agreed : {T : Type 0} (P : WorldFault → Type 0) → ((fault : ReplicaFault) → IsCoherent world → fault ≡ unwrap_or (take_refusal (held_at world site) other) replica_fault.Memory → P (of_replica_fault fault))
-        → (answer : Result T ReplicaFault) (new : Held) (result : Result T WorldFault) → IsAnswer one (take_refusal one theirs) (λ _. took theirs) (λ _. ⊤) answer new result → IfErr result P
+    pub take_agreed : {T : Type 0} (P : Failure → Type 0) → ((fault : ReplicaFault) → IsCoherent world → fault ≡ unwrap_or (take_refusal (held_at world site) other) replica_fault.Memory → P (replica_failure fault))
+        → (answer : Result T ReplicaFault) (new : Held) (result : Result T Failure) → IsAnswer one (take_refusal one theirs) (λ _. took theirs) (λ _. ⊤) answer new result → IfErr result P
     take_agreed P agrees (Ok x) new result is = rw is.same tt
     take_agreed P agrees (Err fault) new result is =
         let p = err_from_is_err_and result is.same in

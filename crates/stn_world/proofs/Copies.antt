@@ -3,7 +3,8 @@ use Rattle.std.{proofs.{Common.{rules, ◌≡◌, ◌≢◌, ℕ, zero, suc, ◌
 use Rattle.stn_lift.specs.PlanSource.{PlanSource}
 use Rattle.stn_records.specs.Content.{Content}
 use Rattle.stn_site.specs.Held.{Held}
-use Rattle.stn_world.{specs.{declared.faults.WorldFault.WorldFault, Sites.world_of, Whole.IsSoundWorld, World.{World, HasSite}, Steps.Step}, proofs.Calls.{IsPlaced, IsTaken, world_stayed}}
+use Rattle.stn_refusal.specs.declared.failure.Failure.{Failure}
+use Rattle.stn_world.{specs.{Sites.world_of, Whole.IsSoundWorld, World.{World, HasSite}, Steps.Step}, proofs.Calls.{IsPlaced, IsTaken, world_stayed}}
 
 module _ {C : Type 0} (held : C → Held) where
   -- ---- a copy at a place
@@ -16,7 +17,7 @@ module _ {C : Type 0} (held : C → Held) where
   placed {place = place} copies one is sound at there same = record { is = is; sound = sound; at = at; there = there; same = got copies place one same }
 
   -- ---- a copy that changes
-  pub taken : {T : Type 0} {world : World} {source : PlanSource} {packets : List Content} {call : Step} {Given : T → Type 0} {result : Result T WorldFault} (copies : List C) (place : ℕ) (new : C)
+  pub taken : {T : Type 0} {world : World} {source : PlanSource} {packets : List Content} {call : Step} {Given : T → Type 0} {result : Result T Failure} (copies : List C) (place : ℕ) (new : C)
       → IsTaken world source (set (map held copies) place (held new)) packets call Given result → IsTaken world source (map held (set copies place new)) packets call Given result
   taken {T = T} {world = world} {source = source} {packets = packets} {call = call} {Given = Given} {result = result} copies place new is =
       subst (λ (l : List Held). IsTaken {T = T} world source l packets call Given result) (sym (map-set held copies place new)) is

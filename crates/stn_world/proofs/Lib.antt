@@ -6,10 +6,3 @@ pub mod Calls
 pub mod Copies
 pub mod Merges
 pub mod Sendings
-pub mod Runs
-pub mod Alike
-pub mod Entries
-pub mod Lawful
-pub mod EachRun
-pub mod Guarded
-pub mod GuardSteps

@@ -1,18 +1,19 @@
 -- What a merge and a delivery can be refused for.
-use Rattle.std.{proofs.{Common.{rules, ◌≡◌, ◌≢◌, ℕ, ◌-◌, ◌≤◌, Bool, true, false, ltb, ap, sym, subst, ◌∙◌, arith}, lemmas.List.set-get_or}, specs.{Prelude.unwrap_or, Bool.then_some}}
+use Rattle.std.{proofs.{Common.{rules, inl, inr, refl, ◌≡◌, ◌≢◌, ℕ, ◌-◌, ◌≤◌, Bool, true, false, ltb, ap, sym, subst, ◌∙◌, arith}, lemmas.List.set-get_or}, specs.{Prelude.unwrap_or, Bool.then_some}}
+use Rattle.stn_refusal.specs.declared.failure.Failure.{Failure}
 use Rattle.stn_records.specs.Content.{Content, most_known, known_in_either, IsPart}
-use Rattle.stn_site.{specs.{Held.Held, declared.faults.ReplicaFault.ReplicaFault, Refusals.take_refusal}, proofs.Refused.agreed_take}
+use Rattle.stn_site.{specs.{Held.Held, declared.faults.ReplicaFault.ReplicaFault, Failures.replica_failure, Refusals.take_refusal}, proofs.Refused.agreed_take}
 use Rattle.stn_site.specs.declared.faults.ReplicaFault.TheVariants as replica_fault
-use Rattle.stn_world.{specs.{declared.faults.WorldFault.WorldFault, Faults.of_replica_fault, World.{World, HasSite, held_at, content_at, packet_at, merge}, Steps.{IsMergeFault, IsDeliveryFault}, Whole.{IsWhole, IsCoherent}}, proofs.{Sites.joined_itself, Whole.{part_named, parts_agree}}}
+use Rattle.stn_world.{specs.{World.{World, HasSite, held_at, content_at, packet_at, merge}, Steps.{IsMergeFailure, IsDeliveryFailure}, Whole.{IsWhole, IsCoherent}}, proofs.{Sites.joined_itself, Whole.{part_named, parts_agree}}}
 
 -- a site that agrees with what it takes refuses it for its size or for lack of memory alone
-agreed_fault : (P : WorldFault → Type 0) → P (of_replica_fault replica_fault.Full) → P (of_replica_fault replica_fault.Memory) → (held : Held) (theirs : Content) (fault : ReplicaFault)
+agreed_fault : (P : Failure → Type 0) → P (replica_failure replica_fault.Full) → P (replica_failure replica_fault.Memory) → (held : Held) (theirs : Content) (fault : ReplicaFault)
     → take_refusal held theirs ≡ then_some (ltb most_known (known_in_either held.state theirs)) replica_fault.Full
-    → fault ≡ unwrap_or (take_refusal held theirs) replica_fault.Memory → P (of_replica_fault fault)
+    → fault ≡ unwrap_or (take_refusal held theirs) replica_fault.Memory → P (replica_failure fault)
 agreed_fault P full memory held theirs fault room is =
-    subst (λ (f : ReplicaFault). P (of_replica_fault f)) (sym (is ∙ ap (λ o. unwrap_or o replica_fault.Memory) room)) (by (ltb most_known (known_in_either held.state theirs)))
+    subst (λ (f : ReplicaFault). P (replica_failure f)) (sym (is ∙ ap (λ o. unwrap_or o replica_fault.Memory) room)) (by (ltb most_known (known_in_either held.state theirs)))
   where
-    by : (too_much : Bool) → P (of_replica_fault (unwrap_or (then_some too_much replica_fault.Full) replica_fault.Memory))
+    by : (too_much : Bool) → P (replica_failure (unwrap_or (then_some too_much replica_fault.Full) replica_fault.Memory))
     by true = full
     by false = memory
 
@@ -24,16 +25,16 @@ take_agrees world all whole site other inside =
 
 -- so do two sites
 pub merge_agrees : (world : World) (site other : ℕ) (fault : ReplicaFault) → IsCoherent world
-    → fault ≡ unwrap_or (take_refusal (held_at world site) (content_at world other)) replica_fault.Memory → IsMergeFault (of_replica_fault fault)
+    → fault ≡ unwrap_or (take_refusal (held_at world site) (content_at world other)) replica_fault.Memory → IsMergeFailure (replica_failure fault)
 merge_agrees world site other fault coherent =
-    agreed_fault IsMergeFault tt tt (held_at world site) (content_at world other) fault
+    agreed_fault IsMergeFailure (inr (inl refl)) (inr (inr refl)) (held_at world site) (content_at world other) fault
     (take_agrees world coherent.0 coherent.1 site (content_at world other) (coherent.1.sites other))
 
 -- so do a site and a packet
 pub delivery_agrees : (world : World) (site number : ℕ) (fault : ReplicaFault) → IsCoherent world
-    → fault ≡ unwrap_or (take_refusal (held_at world site) (packet_at world number)) replica_fault.Memory → IsDeliveryFault (of_replica_fault fault)
+    → fault ≡ unwrap_or (take_refusal (held_at world site) (packet_at world number)) replica_fault.Memory → IsDeliveryFailure (replica_failure fault)
 delivery_agrees world site number fault coherent =
-    agreed_fault IsDeliveryFault tt tt (held_at world site) (packet_at world number) fault
+    agreed_fault IsDeliveryFailure (inr (inr (inl refl))) (inr (inr (inr refl))) (held_at world site) (packet_at world number) fault
     (take_agrees world coherent.0 coherent.1 site (packet_at world number) (coherent.1.packets number))
 
 -- ---- two places

@@ -1,12 +1,11 @@
 -- The sites of a world stay parts of a whole.
-use Rattle.std.proofs.{Common.{rules, ◌≡◌, ◌≢◌, ◌↔◌, ◌⊎◌, inl, inr, ⊎_elim, ℕ, zero, suc, ◌-◌, Bool, true, false, not, ◌||◌, is_some, Option, Some, None, List, [], ◌∷◌, ◌++◌, set, get_or, All, refl, ap, sym, subst, ◌∙◌, arith}, lemmas.{Bool.{false≢true, or_cases}, List.get_or-set_same}}
-use Rattle.std.specs.Prelude.{⊤}
+use Rattle.std.{proofs.{Common.{rules, ◌≡◌, ◌≢◌, ◌↔◌, ◌⊎◌, inl, inr, ⊎_elim, ℕ, zero, suc, ◌-◌, Bool, true, false, not, ◌||◌, is_some, Option, Some, None, List, [], ◌∷◌, ◌++◌, set, get_or, refl, ap, sym, subst, ◌∙◌, arith}, lemmas.{Bool.{false≢true, or_cases}, Grind.common_steps, List.get_or-set_same}}, specs.Prelude.⊤}
 use Rattle.std.specs.FinMap as fin
-use Rattle.stn_site.{proofs.{Flags.get_or-replicate_same, Items.{nothing_there, addition_items, amendment_items, withdrawal_brought}, Refused.{accepted_known, amended_known}, Live.bounds_from_live}, specs.{Bounds.{RecordsName, live_bounds}, Held.executed, Calls.{Accepted, added, amended, withdrew, took, Brought}, Change.{change_call, change_refusal}, declared.change.Change.{Change, TheVariants.{Add, Amend, Withdraw, Done}}}}
-use Rattle.stn_net.specs.Difference.{Difference, NamesEvents, IsBoundWithin}
+use Rattle.stn_site.{proofs.{Flags.get_or-replicate_same, Items.{nothing_there, addition_items, amendment_items, withdrawal_brought}}, specs.{Bounds.RecordsName, Held.Held, Calls.{Accepted, added, amended, withdrew, took, Brought}, Change.{change_call, change_refusal}, declared.change.Change.Change}}
+use Rattle.stn_net.specs.Difference.{Difference, NamesEvents}
 use Rattle.stn_lift.specs.PlanSource.{PlanSource, events_of}
-use Rattle.stn_records.{specs.{Id.SiteCounter, declared.record.Record.Record, Content.{Content, Item, addition, withdrawal, replacement, HasItem, is_known, is_replaced, no_content, plain, with_tombstone, dispute_contents, joined_contents, IsPart, IsAmendment, AllAmend, AllProper}, ContentLaws.{ids_total, ids_exact, contents_join, contents_dispute, contents_undisputed}}, proofs.{Replaced.replaced_cases, Counters.next_is_new, Gets.entries_from_get}}
-use Rattle.stn_world.{specs.{World.{World, HasSite, opening_world, content_at, packet_at, held_at, next_id_at, with_content, content_after, with_call, send}, Steps.{Step, changed, merged, sent, delivered, after, IsAccepted}, Whole.{IsWhole, IsCoherent}, Runs.IsRecordOf}, proofs.{Parts.sent_inside, Accepted.{accepted_change, accepted_merge, accepted_delivery, accepted_sending}}}
+use Rattle.stn_records.{specs.{Id.SiteCounter, declared.record.Record.Record, Content.{Content, Item, addition, withdrawal, replacement, HasItem, is_known, is_replaced, no_content, plain, with_tombstone, dispute_contents, joined_contents, IsPart, IsAmendment, AllAmend}, ContentLaws.{ids_total, ids_exact, contents_join, contents_dispute, contents_undisputed}}, proofs.{Replaced.replaced_cases, Counters.next_is_new, Gets.entries_from_get}}
+use Rattle.stn_world.{specs.{World.{World, HasSite, IsRecordOf, opening_world, content_at, packet_at, held_at, next_id_at, with_content, content_after, with_call, send}, Steps.{Step, changed, merged, sent, delivered, after, IsAccepted}, Whole.{IsWhole, IsCoherent}}, proofs.{Parts.sent_inside, Accepted.{accepted_change, accepted_merge, accepted_delivery, accepted_sending}}}
 
 -- a place of a list that was set has the new element, or what it had
 set_cases : {X : Type 0} (xs : List X) (i j : ℕ) (x d : X) → ((get_or (set xs i x) j d ≡ x) × (get_or xs i d ≡ get_or xs j d)) ⊎ (get_or (set xs i x) j d ≡ get_or xs j d)
@@ -97,10 +96,7 @@ call_items s (took other) new = contents_join.union s other (joined_contents s o
 
 -- a change does so under an id that is not known
 change_new : (s : Content) (asked : Change) (id : SiteCounter) → AllAmend s → is_known s id ≡ false → IsNewTo s (change_call asked id)
-change_new s (Add bound) id amends unknown = unknown
-change_new s (Amend old bound) id amends unknown = (amends, unknown)
-change_new s (Withdraw old) id amends unknown = tt
-change_new s (Done event time) id amends unknown = unknown
+change_new s asked id amends unknown = grind (arith, common_steps)
 
 pub change_items_of : (s : Content) (asked : Change) (id : SiteCounter) → AllAmend s → is_known s id ≡ false
     → (item : Item) → HasItem (content_after s (change_call asked id)) item ↔ (HasItem s item ⊎ Brought (change_call asked id) item)
@@ -118,28 +114,13 @@ pub taken_items : (world : World) (all : Content) → IsWhole world all → (sit
     → (item : Item) → HasItem (joined_contents (content_at world site) other) item ↔ (HasItem (content_at world site) item ⊎ HasItem other item)
 taken_items world all whole site other inside = call_items (content_at world site) (took other) (parts_agree (content_at world site) other all (whole.sites site) inside)
 
--- ---- equal items
-same_id : (id other : SiteCounter) (one two : Record) → addition id one ≡ addition other two → id ≡ other
-same_id id other one two e = cc
-
-same_new : (other second id old : SiteCounter) → replacement other second ≡ replacement id old → other ≡ id
-same_new other second id old e = cc
-
-same_old : (other second id old : SiteCounter) → replacement other second ≡ replacement id old → second ≡ old
-same_old other second id old e = cc
-
+-- ---- items of a change
 -- each record and each entry that a change brings is one of the id
 pub record_new : (asked : Change) (id other : SiteCounter) (one : Record) → Brought (change_call asked id) (addition other one) → other ≡ id
-record_new (Add bound) id other one e = same_id other id one (plain bound) e
-record_new (Amend old bound) id other one e = ⊎_elim (same_id other id one (plain bound)) (λ f. absurd (cc)) e
-record_new (Withdraw old) id other one e = absurd (cc)
-record_new (Done event time) id other one e = same_id other id one (executed time event) e
+record_new asked id other one e = grind (arith, common_steps)
 
 pub entry_new : (asked : Change) (id other second : SiteCounter) → Brought (change_call asked id) (replacement other second) → other ≡ id
-entry_new (Add bound) id other second e = absurd (cc)
-entry_new (Amend old bound) id other second e = ⊎_elim (λ f. absurd (cc)) (same_new other second id old) e
-entry_new (Withdraw old) id other second e = absurd (cc)
-entry_new (Done event time) id other second e = absurd (cc)
+entry_new asked id other second e = grind (arith, common_steps)
 
 -- ---- items that a site makes
 -- what a site holds grows by new items, and with it the whole: records about the plan's events that are the site's own or held by theirs, withdrawals of ids that have a
@@ -177,49 +158,50 @@ made_whole world all more site content New whole there larger grown records gone
     amending : (id old : SiteCounter) → New (replacement id old) → ((bound : Difference) × New (addition id (plain bound))) × (id ≢ old)
     amending id old new = (entries id old new).1
 
--- a change that is accepted brings such items
-module _ (world : World) (all : Content) (site : ℕ) (whole : IsWhole world all) where
-  abbrev next : SiteCounter
-  next = next_id_at world site
+-- the call takes in nothing
+abbrev pub IsOwn : Accepted → Type 0
+IsOwn (took other) = ⊥
+IsOwn call = Unit {0}
 
-  new_here : is_known (content_at world site) next ≡ false
-  new_here = next_is_new (content_at world site) site next.counter refl
+pub own_call : (asked : Change) (id : SiteCounter) → IsOwn (change_call asked id)
+own_call asked id = grind (arith, common_steps)
 
-  record_brought : (asked : Change) → change_refusal (held_at world site) asked ≡ None → (id : SiteCounter) (one : Record) → Brought (change_call asked next) (addition id one) → IsRecordOf (events_of world.source) one
-  record_brought (Add bound) free id one e = search rules
-  record_brought (Amend old bound) free id one e = search rules
-  record_brought (Withdraw old) free id one e = absurd (cc)
-  record_brought (Done event time) free id one e = search rules
+-- each entry that it brings comes with its record
+entry_amends : (call : Accepted) (id old : SiteCounter) → IsOwn call → Brought call (replacement id old) → (bound : Difference) × Brought call (addition id (plain bound))
+entry_amends (added next one) id old own e = absurd (cc)
+entry_amends (amended next replaced bound) id old own e = (bound, ⊎_elim (λ f. absurd (cc)) (λ f. inl (let same : id ≡ next = cc in ap (λ (i : SiteCounter). addition i (plain bound)) same)) e)
+entry_amends (withdrew gone) id old own e = absurd (cc)
+entry_amends (took content) id old own e = absurd own
 
-  gone_brought : (asked : Change) → change_refusal (held_at world site) asked ≡ None → (id : SiteCounter) → Brought (change_call asked next) (withdrawal id) → (one : Record) × HasItem all (addition id one)
-  gone_brought (Add bound) free id e = absurd (cc)
-  gone_brought (Amend old bound) free id e = ⊎_elim (λ f. absurd (cc)) (λ f. absurd (cc)) e
-  gone_brought (Withdraw old) free id e =
-      subst (λ (i : SiteCounter). (one : Record) × HasItem all (addition i one)) (sym (search rules)) (held_record world all (content_at world site) old whole (whole.sites site) (accepted_known (held_at world site) old free))
-  gone_brought (Done event time) free id e = absurd (cc)
+-- what an accepted change adds is a record of the plan, and what it withdraws or replaces is known
+module _ (held : Held) (asked : Change) (next : SiteCounter) (free : change_refusal held asked ≡ None) where
+  record_proper : (id : SiteCounter) (one : Record) → Brought (change_call asked next) (addition id one) → IsRecordOf (events_of held.source) one
+  record_proper id one e = grind (arith, common_steps)
 
-  entry_brought : (asked : Change) → change_refusal (held_at world site) asked ≡ None → (id old : SiteCounter) → Brought (change_call asked next) (replacement id old)
-      → ((one : Record) × HasItem all (addition old one)) × (((bound : Difference) × Brought (change_call asked next) (addition id (plain bound))) × (id ≢ old))
-  entry_brought (Add bound) free id old e = absurd (cc)
-  entry_brought (Amend replaced bound) free id old e = ⊎_elim (λ f. absurd (cc)) (λ f.
-      let known = amended_known (held_at world site) replaced bound free in (
-        subst (λ (i : SiteCounter). (one : Record) × HasItem all (addition i one)) (sym (same_old id old next replaced f)) (held_record world all (content_at world site) replaced whole (whole.sites site) known),
-        (
-          (bound, inl (ap (λ (i : SiteCounter). addition i (plain bound)) (same_new id old next replaced f))),
-          λ g. false≢true (sym (subst (λ (i : SiteCounter). is_known (content_at world site) i ≡ false) (sym (same_new id old next replaced f) ∙ (g ∙ same_old id old next replaced f)) new_here) ∙ known),
-        ),
-      )) e
-  entry_brought (Withdraw replaced) free id old e = absurd (cc)
-  entry_brought (Done event time) free id old e = absurd (cc)
+  gone_known : (id : SiteCounter) → Brought (change_call asked next) (withdrawal id) → is_known held.state id ≡ true
+  gone_known id e = grind (arith, common_steps)
 
-  pub changed_whole : (asked : Change) → HasSite world site → change_refusal (held_at world site) asked ≡ None → IsWhole (with_call world site (change_call asked next)) (content_after all (change_call asked next))
-  changed_whole asked there free =
-      let call = change_call asked next in
-      made_whole world all (content_after all call) site (content_after (content_at world site) call) (Brought call) whole there
-      (change_items_of all asked next whole.amends (next_unknown world all site whole))
-      (changed_items world (all, whole) site asked)
-      (λ id one e. (inr (ap (λ (i : SiteCounter). i.site) (record_new asked next id one e)), record_brought asked free id one e))
-      (gone_brought asked free) (entry_brought asked free)
+  old_known : (id old : SiteCounter) → Brought (change_call asked next) (replacement id old) → is_known held.state old ≡ true
+  old_known id old e = grind (arith, common_steps)
+
+-- so it brings such items
+pub changed_whole : (world : World) (all : Content) (site : ℕ) → IsWhole world all → (asked : Change) → HasSite world site → change_refusal (held_at world site) asked ≡ None
+    → IsWhole (with_call world site (change_call asked (next_id_at world site))) (content_after all (change_call asked (next_id_at world site)))
+changed_whole world all site whole asked there free =
+    let held = held_at world site in
+    let next = next_id_at world site in
+    let call = change_call asked next in
+    let known : (id : SiteCounter) → is_known held.state id ≡ true → (one : Record) × HasItem all (addition id one) = (λ id is. held_record world all held.state id whole (whole.sites site) is) in
+    let new : is_known held.state next ≡ false = next_is_new held.state site next.counter refl in
+    made_whole world all (content_after all call) site (content_after held.state call) (Brought call) whole there
+    (change_items_of all asked next whole.amends (next_unknown world all site whole))
+    (changed_items world (all, whole) site asked)
+    (λ id one e. (inr (ap (λ (i : SiteCounter). i.site) (record_new asked next id one e)), record_proper held asked next free id one e))
+    (λ id e. known id (gone_known held asked next free id e))
+    (λ id old e. let is = old_known held asked next free id old e in (
+      known old is,
+      (entry_amends call id old (own_call asked next) e, λ g. false≢true (sym new ∙ ap (λ i. is_known held.state i) (sym (entry_new asked next id old e) ∙ g) ∙ is)),
+    ))
 
 -- ---- merges
 -- each record of a part is about the plan's events
@@ -227,15 +209,6 @@ pub part_named : (world : World) (all part : Content) → IsWhole world all → 
 part_named world all part whole inside =
     entries_from_get ids_total ids_exact part.additions (λ entry. NamesEvents (events_of world.source) entry.1.bound)
     (λ id one there. (whole.records id one (inside (addition id one) there)).bound.named)
-
--- so what is live at a site are bounds of the plan, and the site's records of executions fix times
-pub site_bounds : (world : World) → IsCoherent world → (site : ℕ) → All (IsBoundWithin (events_of world.source)) (live_bounds (content_at world site))
-site_bounds world coherent site =
-    bounds_from_live (IsBoundWithin (events_of world.source)) (content_at world site)
-    (λ id one there live. (coherent.1.records id one (coherent.1.sites site (addition id one) there)).bound)
-
-pub site_proper : (world : World) → IsCoherent world → (site : ℕ) → AllProper (content_at world site).additions
-site_proper world coherent site id one there = (coherent.1.records id one (coherent.1.sites site (addition id one) there)).proper
 
 -- a site takes in another part of the whole
 pub joined_whole : (world : World) (all : Content) (site : ℕ) (other : Content) → HasSite world site → IsWhole world all → IsPart other all → AllAmend other → IsWhole (with_content world site (joined_contents (content_at world site) other)) all
@@ -289,16 +262,6 @@ step_whole world all (delivered site number) accepted whole = joined_whole world
 
 pub coherent_after : (world : World) (step : Step) → IsAccepted world step → IsCoherent world → IsCoherent (after world step)
 coherent_after world step accepted coherent = (whole_after world step coherent.0, step_whole world coherent.0 step accepted coherent.1)
-
--- a site keeps what it held
-pub grows_after : (world : World) (step : Step) → IsCoherent world → (site : ℕ) → IsPart (content_at world site) (content_at (after world step) site)
-grows_after world (changed at asked) coherent site item there =
-    kept world at (content_after (content_at world at) (change_call asked (next_id_at world at))) site item (λ i h. (changed_items world coherent at asked i).1 (inl h)) there
-grows_after world (merged at other) coherent site item there =
-    kept world at (joined_contents (content_at world at) (content_at world other)) site item (λ i h. (taken_items world coherent.0 coherent.1 at (content_at world other) (coherent.1.sites other) i).1 (inl h)) there
-grows_after world (sent at part) coherent site item there = there
-grows_after world (delivered at number) coherent site item there =
-    kept world at (joined_contents (content_at world at) (packet_at world number)) site item (λ i h. (taken_items world coherent.0 coherent.1 at (packet_at world number) (coherent.1.packets number) i).1 (inl h)) there
 
 pub nothing_at_first : (source : PlanSource) (sites site : ℕ) → content_at (opening_world source sites) site ≡ no_content
 nothing_at_first source sites site = get_or-replicate_same sites no_content (site - 1)

@@ -4,6 +4,3 @@ pub mod Faults
 pub mod Parts
 pub mod Whole
 pub mod Steps
-pub mod Runs
-pub mod Guarded
-pub mod Failures

@@ -4,7 +4,7 @@ use Rattle.std.specs.{Prelude.{◌≡◌, ℕ, ◌≤◌, List, length, map, rep
 use Rattle.stn_lift.specs.PlanSource.{PlanSource, bare, events_of}
 use Rattle.stn_records.specs.{declared.record.Record.Record, Id.{most_sites, SiteCounter}, Content.{Content, no_content, addition, withdrawal, replacement, HasItem, IsPart, AllAmend}}
 use Rattle.stn_site.specs.Held.{Held}
-use Rattle.stn_world.specs.{World.{World, most_packets, content_at, packet_at}, Sites.world_of, Runs.IsRecordOf}
+use Rattle.stn_world.specs.{World.{World, IsRecordOf, most_packets, content_at, packet_at}, Sites.world_of}
 
 -- from 1 to 64 replicas of one plan, in order of site from 1 on
 pub record IsSites (source : PlanSource) (replicas : List Held) : Type 0 where

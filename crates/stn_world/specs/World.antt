@@ -1,7 +1,8 @@
 -- A plan at several sites, as a value, and its changes.
 use Rattle.std.specs.{Prelude.{ℕ, ◌-◌, ◌≤◌, Bool, ◌&&◌, nat_le, List, [], ◌∷◌, ◌++◌, length, slice_index_or, slice_set, replicate, refl}, Coded.{Coded, code_by, coded×, coded_list}}
+use Rattle.stn_net.specs.Difference.{IsBoundWithin}
 use Rattle.stn_lift.specs.PlanSource.{PlanSource, coded_source}
-use Rattle.stn_records.specs.{Id.SiteCounter, Content.{Content, coded_content, no_content, with_record, with_tombstone, with_amendment, joined_contents}}
+use Rattle.stn_records.specs.{Id.SiteCounter, Record.IsProperRecord, declared.record.Record.Record, Content.{Content, coded_content, no_content, with_record, with_tombstone, with_amendment, joined_contents}}
 use Rattle.stn_site.specs.{Held.{Held, next_id}, Calls.{Accepted, added, amended, withdrew, took}}
 
 -- a program keeps at most so many packets
@@ -55,6 +56,11 @@ held_at world site = record { site = site; source = world.source; state = conten
 -- the id of a site's next record
 abbrev pub next_id_at : World → ℕ → SiteCounter
 next_id_at world site = next_id (held_at world site)
+
+-- the record is of a bound of a plan with so many events beside the origin, and one that says that an event was executed fixes its time
+pub record IsRecordOf (events : ℕ) (one : Record) : Type 0 where
+  pub bound : IsBoundWithin events one.bound
+  pub proper : IsProperRecord one
 
 -- the world where one site holds something else
 abbrev pub with_content : World → ℕ → Content → World

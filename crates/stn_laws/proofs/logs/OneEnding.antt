@@ -1,33 +1,25 @@
 -- A command has one ending, but for lacks.
-use Rattle.std.{proofs.{Common.{◌≡◌, inl, inr, ℕ, ◌+◌, Bool, true, false, List, length, take, Option, Some, None, is_some, option_map, Result, Ok, Err, refl, sym, ap, subst, ◌∙◌, arith, length-append}, lemmas.{Bool.false≢true, Option.same_Some}}, specs.{Borrow.Bor, Prelude.{⊤}}}
+use Rattle.std.{proofs.{Common.{rules, ◌≡◌, inl, inr, ℕ, ◌+◌, Bool, true, false, List, length, take, Option, Some, None, is_some, option_map, Result, Ok, Err, refl, sym, ap, subst, ◌∙◌, arith, length-append}, lemmas.{Bool.false≢true, Option.same_Some}}, specs.{Borrow.Bor, Prelude.{⊤}}}
 use Rattle.stn_device.proofs.Known.{not_err}
 use Rattle.stn_net.specs.{Difference.Difference, Schedule.HasSchedule}
-use Rattle.stn_lift.specs.{Plan.Steps.plan_of, PlanSource.{PlanSource, bare, files, events_of, base_of, steps_of}, Failures.base_failure, declared.fault.BaseFault.BaseFault}
+use Rattle.stn_lift.specs.PlanSource.{PlanSource, events_of}
 use Rattle.stn_site.specs.{Held.Held, Change.change_refusal, Failures.replica_failure, Bounds.all_bounds, declared.{faults.ReplicaFault.ReplicaFault, change.Change.{Change as ChangeAsked, TheVariants.Add}, own.OwnedSteps.OwnedSteps}}
-use Rattle.stn_laws.proofs.logs.Unsaved.{words_same, free_same, text_same, load_same, source_same, names_same, update_same, saved_lacks, LoosensTexts}
-use Rattle.stn_store.specs.{Log.{Log, log_held, IsLog, Failures.load_failure}, declared.log.fault.LoadFault.LoadFault, Store.{Entry, Holds, IsThere, IsTaken, IsMissing, Spells, Means, Opens, IsUnopened}, Steps.{Entries, FindsFree, FindsText, LoadsLog, SavesNew}, Merging.IsMergeRefusal}
-use Rattle.stn_command.specs.{Named.{IsSaidBy, IsRefusedBy, IsAfter, count_refusal}, Words.no_such_word, Query.{Query, IsQueryRefusal}}
+use Rattle.stn_laws.proofs.{One.IsOne, logs.Unsaved.{source_same, names_same, update_same, saved_lacks}}
+use Rattle.stn_store.specs.{Log.{Log, log_held, IsLog, Failures.load_failure}, declared.log.fault.LoadFault.LoadFault, Store.{Entry, Holds, IsThere, Spells, Means, Opens, IsUnopened}, Steps.{Entries, FindsFree, FindsText, LoadsLog, SavesNew}, Merging.IsMergeRefusal}
+use Rattle.stn_command.specs.{Named.IsRefusedBy, Words.no_such_word, Query.{Query, IsQueryRefusal}}
 use Rattle.stn_guard.specs.{Adding.{IsGuardRefusal, no_step, conflict, guarded, records_refusal, owner_by}, Making.IsGuardOf}
 use Rattle.stn_loosen.specs.{Slack.Slack, Loosened.{AreFewLoosened, AreTooMany}, Robust.{AreRobust, AreFewRobust, AreTooManyRobust}}
 use Rattle.stn_refusal.specs.declared.failure.{Failure.Failure, Fault.Fault}
-use Rattle.stn_effects.{specs.Effects.{Effect, Then, Settles, EndAlike, failing}, proofs.Endings.{ChangesNothing, EndSo, makes_same, reads_same, then_alike, then_done_alike, gives_alike, gives_lacks, lacks_alike, finds_alike, makes_alike, reads_alike, as_alike}}
-use Rattle.stn_records.specs.Content.{Content, no_content}
-use Rattle.stn_line.specs.{Explanations.Explained.IsExplained, declared.words.{SiteLog.SiteLog, NameWords.NameWords, NewLog.TheVariants.{Bare, Init, Loosen}, Line.{Line, TheVariants.{Make, Change, Ask, Explain}}}}
-use Rattle.stn_logs.specs.{Words.{Update, change, merge, guard, slack_read, update_read, question_read}, Loosening.{IsLoosenedRefusal, IsRobustRefusal, WithBase, IsLooseningRefusal}, Commands.{SavesUpdated, SavesMade, MakesLog, FindsSource, IsUnguarded, Updates, UpdatesLog, nameless, own_plan_text, FindsNames, SaysAsked, AnswersAsked, IsExplainRefusal, Reads, DoesLine}, declared.words.RefusedWord.RefusedWord}
-
--- at most one cause is named
-abbrev IsOne : (Option Failure → Type 0) → Type 0
-IsOne Names = (cause other : Option Failure) → Names cause → Names other → cause ≡ other
+use Rattle.stn_effects.{specs.Effects.{Effect, Then, Finds, Settles, EndAlike}, proofs.Endings.{ChangesNothing, EndSo, makes_same, reads_same, then_alike, then_done_alike, gives_alike, gives_lacks, lacks_alike, finds_alike, makes_alike, reads_alike, as_alike}}
+use Rattle.stn_records.specs.Content.{Content}
+use Rattle.stn_line.specs.declared.words.{SiteLog.SiteLog, NameWords.NameWords, NewLog.TheVariants.{Bare, Init, Loosen}, Line.{Line, TheVariants.{Make, Change, Ask, Explain}}}
+use Rattle.stn_logs.specs.{Words.{Update, change, merge, guard}, Loosening.{IsLoosenedRefusal, IsRobustRefusal, WithBase, IsLooseningRefusal}, Commands.{SavesUpdated, SavesMade, MakesLog, FindsSource, IsUnguarded, Updates, UpdatesLog, own_plan_text, FindsNames, SaysAsked, AnswersAsked, IsExplainRefusal, DoesLine}}
 
 one_error : {X E : Type 0} (f g : E) → (let none : Result X E = Err f in none) ≡ Err g → f ≡ g
 one_error f g e = cc
 
 one_base : (source : PlanSource) (Goes : Option Failure → Type 0) → IsOne Goes → IsOne (WithBase source Goes)
-one_base source Goes one cause other (inl p) (inl q) =
-    p.2 ∙ (ap (λ (fault : BaseFault). Some (base_failure fault)) (one_error p.0 q.0 (sym p.1 ∙ q.1)) ∙ sym q.2)
-one_base source Goes one cause other (inl p) (inr q) = absurd (not_err source p.0 (sym q.0 ∙ p.1))
-one_base source Goes one cause other (inr p) (inl q) = absurd (not_err source q.0 (sym p.0 ∙ q.1))
-one_base source Goes one cause other (inr p) (inr q) = one cause other p.1 q.1
+one_base source Goes one cause other p q = search (rules, not_err)
 
 -- what a site holds, whatever its work
 abbrev idle : Held → Held
@@ -38,18 +30,18 @@ module _ (entries : List Entry) (name : List ℕ) where
   none_there : (bytes : List ℕ) → Holds (Some entries) name None → Holds (Some entries) name (Some bytes) → ⊥
   none_there bytes p q = false≢true (ap is_some (sym p ∙ q))
 
-  there_once : (one other : Bool) → IsThere (Some entries) name one → IsThere (Some entries) name other → one ≡ other
+  there_once : IsOne (IsThere (Some entries) name)
   there_once one other p q = sym p.2 ∙ (ap is_some (sym p.1 ∙ q.1) ∙ q.2)
 
-  one_spelled : (text other : List ℕ) → Spells (Some entries) name text → Spells (Some entries) name other → text ≡ other
+  one_spelled : IsOne (Spells (Some entries) name)
   one_spelled text other p q = p.2 ∙ (ap (take (65536 + 1)) (same_Some p.0 q.0 (sym p.1 ∙ q.1)) ∙ sym q.2)
 
-  module _ (logs : (bytes : List ℕ) (one other : Result Log LoadFault) → IsLog bytes one → IsLog bytes other → one ≡ other) where
-    one_meaning : (one other : Result Log LoadFault) → Means (Some entries) name one → Means (Some entries) name other → one ≡ other
+  module _ (logs : (bytes : List ℕ) → IsOne (IsLog bytes)) where
+    one_meaning : IsOne (Means (Some entries) name)
     one_meaning one other p q =
         logs q.bytes one other (subst (λ (bytes : List ℕ). IsLog bytes one) (same_Some p.bytes q.bytes (sym p.there ∙ q.there)) p.meant) q.meant
 
-    one_unopened : (failure other : Failure) → IsUnopened (Some entries) name failure → IsUnopened (Some entries) name other → failure ≡ other
+    one_unopened : IsOne (IsUnopened (Some entries) name)
     one_unopened failure other (inl p) (inl q) = p.1 ∙ sym q.1
     one_unopened failure other (inl p) (inr q) = absurd (none_there q.1.bytes p.0 q.1.there)
     one_unopened failure other (inr p) (inl q) = absurd (none_there p.1.bytes q.0 p.1.there)
@@ -71,33 +63,26 @@ module _ (entries : List Entry) (name : List ℕ) where
 
 -- ---- what is asked of a log
 one_merge : (ours theirs : Held) → IsOne (IsMergeRefusal ours theirs)
-one_merge ours theirs cause other (inl p) (inl q) = p.1 ∙ sym q.1
-one_merge ours theirs cause other (inl p) (inr q) = absurd (p.0 q.0)
-one_merge ours theirs cause other (inr p) (inl q) = absurd (q.0 p.0)
-one_merge ours theirs cause other (inr p) (inr q) = p.1 ∙ sym q.1
+one_merge ours theirs cause other p q = search rules
 
 one_explained : (word : Option (List ℕ)) → IsOne (IsExplainRefusal word)
-one_explained word cause other (inl p) (inl q) = p.1 ∙ sym q.1
-one_explained word cause other (inl p) (inr q) = absurd (q.0 p.0)
-one_explained word cause other (inr p) (inl q) = absurd (p.0 q.0)
-one_explained word cause other (inr p) (inr q) = p.1 ∙ sym q.1
+one_explained word cause other p q = search rules
 
 change_at_rest : (held : Held) (asked : ChangeAsked) → change_refusal held asked ≡ change_refusal (idle held) asked
 change_at_rest held (Add bound) = refl
 change_at_rest held asked = refl
 
-after_at_rest : (asked : Query) (held : Held) (first cause : Option Failure) → IsAfter first (IsQueryRefusal asked held) cause → IsAfter first (IsQueryRefusal asked (idle held)) cause
-after_at_rest asked held None cause p = p
-after_at_rest asked held (Some failure) cause p = p
-
 refused_at_rest : (plan : Option (List ℕ)) (asked : Query) (held : Held) (cause : Option Failure) → IsRefusedBy plan asked held cause → IsRefusedBy plan asked (idle held) cause
-refused_at_rest None asked held cause p = p
-refused_at_rest (Some plan) asked held cause p = after_at_rest asked held (count_refusal (steps_of held.source) (plan_of plan)) cause p
+refused_at_rest plan asked held cause p = search (rules)
+
+-- what another law says of guards
+abbrev OneGuard : Type 0
+OneGuard = (owner : ℕ → ℕ) (events : ℕ) (bounds one other : List Difference) → HasSchedule bounds → IsGuardOf owner events bounds one → IsGuardOf owner events bounds other → one ≡ other
 
 -- at most one refusal of a guard
-module _ (guards : (owner : ℕ → ℕ) (events : ℕ) (bounds one other : List Difference) → HasSchedule bounds → IsGuardOf owner events bounds one → IsGuardOf owner events bounds other → one ≡ other)
+module _ (guards : OneGuard)
     (owned : List OwnedSteps) (held : Held) where
-  one_guarding : (refusal other : Option ReplicaFault) → IsGuardRefusal owned held refusal → IsGuardRefusal owned held other → refusal ≡ other
+  one_guarding : IsOne (IsGuardRefusal owned held)
   one_guarding refusal other (no_step absent p) (no_step _ q) = p ∙ sym q
   one_guarding refusal other (no_step absent p) (conflict there _ _) = absurd (false≢true (sym absent ∙ there))
   one_guarding refusal other (no_step absent p) (guarded there _ _ _ _) = absurd (false≢true (sym absent ∙ there))
@@ -121,53 +106,38 @@ guard_at_rest owned held cause p = (p.0, at_rest p.0 p.1, p.2)
     at_rest refusal (conflict there none is) = conflict there none is
     at_rest refusal (guarded there possible one is_one is) = guarded there possible one is_one is
 
-module _ (logs : (bytes : List ℕ) (one other : Result Log LoadFault) → IsLog bytes one → IsLog bytes other → one ≡ other)
-    (guards : (owner : ℕ → ℕ) (events : ℕ) (bounds one other : List Difference) → HasSchedule bounds → IsGuardOf owner events bounds one → IsGuardOf owner events bounds other → one ≡ other)
-    (queries : (asked : Query) (held : Held) (cause other : Option Failure) → IsQueryRefusal asked held cause → IsQueryRefusal asked held other → cause ≡ other)
-    (robusts : (source : PlanSource) (slack : Slack) (one other : List Difference) → AreRobust source slack one → AreRobust source slack other → one ≡ other)
+module _ (logs : (bytes : List ℕ) → IsOne (IsLog bytes))
+    (guards : OneGuard)
+    (queries : (asked : Query) (held : Held) → IsOne (IsQueryRefusal asked held))
+    (robusts : (source : PlanSource) (slack : Slack) → IsOne (AreRobust source slack))
     (many : (source : PlanSource) (slack : Slack) → AreTooMany source slack → (records : List Difference) → ¬ AreFewLoosened source slack records) where
   -- ---- a query by names of steps
-  one_after : (asked : Query) (held : Held) (first : Option Failure) → IsOne (IsAfter first (IsQueryRefusal asked held))
-  one_after asked held None cause other p q = queries asked held cause other p q
-  one_after asked held (Some failure) cause other p q = p ∙ sym q
-
   one_refused : (plan : Option (List ℕ)) (asked : Query) (held : Held) → IsOne (IsRefusedBy plan asked held)
-  one_refused None asked held cause other p q = queries asked held cause other p q
-  one_refused (Some plan) asked held cause other p q = one_after asked held (count_refusal (steps_of held.source) (plan_of plan)) cause other p q
+  one_refused plan asked held cause other p q = search (rules)
 
   -- ---- a loosened plan, and a robust one
   one_loosened : (source : PlanSource) (slack : Slack) → IsOne (IsLoosenedRefusal source slack)
-  one_loosened source slack cause other (inl p) (inl q) = p.1 ∙ sym q.1
-  one_loosened source slack cause other (inl p) (inr q) = absurd (many source slack p.0 q.0.0 q.0.1)
-  one_loosened source slack cause other (inr p) (inl q) = absurd (many source slack q.0 p.0.0 p.0.1)
-  one_loosened source slack cause other (inr p) (inr q) = p.1 ∙ sym q.1
+  one_loosened source slack cause other p q = search rules
 
   -- a robust plan has the records of the loosened plan, so these are no more
-  few_loosened : (source : PlanSource) (slack : Slack) (records : List Difference) → AreTooMany source slack → AreFewRobust source slack records → ⊥
-  few_loosened source slack records more few =
+  few_loosened : (source : PlanSource) (slack : Slack) → AreTooMany source slack → (records : List Difference) → ¬ AreFewRobust source slack records
+  few_loosened source slack more records few =
       many source slack more few.0.loosened
       (few.0.are_loosened, omega (arith, few.1, ap length few.0.whole, length-append few.0.loosened few.0.moved))
 
-  not_few : (source : PlanSource) (slack : Slack) (records : List Difference) → AreTooManyRobust source slack → AreFewRobust source slack records → ⊥
-  not_few source slack records more few = absurd (omega (arith, few.1, more.many, ap length (robusts source slack records more.records few.0 more.are_robust)))
+  not_few : (source : PlanSource) (slack : Slack) → AreTooManyRobust source slack → (records : List Difference) → ¬ AreFewRobust source slack records
+  not_few source slack more records few = omega (arith, few.1, more.many, ap length (robusts source slack records more.records few.0 more.are_robust))
 
   one_robust : (source : PlanSource) (slack : Slack) → IsOne (IsRobustRefusal source slack)
-  one_robust source slack cause other (inl p) (inl q) = p.1 ∙ sym q.1
-  one_robust source slack cause other (inl p) (inr (inl q)) = absurd (many source slack p.0 q.0.0 q.0.1)
-  one_robust source slack cause other (inl p) (inr (inr (inl q))) = p.1 ∙ sym q.2
-  one_robust source slack cause other (inl p) (inr (inr (inr q))) = absurd (few_loosened source slack q.1.0 p.0 q.1.1)
-  one_robust source slack cause other (inr (inl p)) (inl q) = absurd (many source slack q.0 p.0.0 p.0.1)
-  one_robust source slack cause other (inr (inl p)) (inr (inl q)) = p.2 ∙ sym q.2
-  one_robust source slack cause other (inr (inl p)) (inr (inr (inl q))) = absurd (p.1 q.0)
-  one_robust source slack cause other (inr (inl p)) (inr (inr (inr q))) = absurd (p.1 q.0)
-  one_robust source slack cause other (inr (inr (inl p))) (inl q) = p.2 ∙ sym q.1
-  one_robust source slack cause other (inr (inr (inl p))) (inr (inl q)) = absurd (q.1 p.0)
-  one_robust source slack cause other (inr (inr (inl p))) (inr (inr (inl q))) = p.2 ∙ sym q.2
-  one_robust source slack cause other (inr (inr (inl p))) (inr (inr (inr q))) = absurd (not_few source slack q.1.0 p.1 q.1.1)
-  one_robust source slack cause other (inr (inr (inr p))) (inl q) = absurd (few_loosened source slack p.1.0 q.0 p.1.1)
-  one_robust source slack cause other (inr (inr (inr p))) (inr (inl q)) = absurd (q.1 p.0)
-  one_robust source slack cause other (inr (inr (inr p))) (inr (inr (inl q))) = absurd (not_few source slack p.1.0 q.1 p.1.1)
-  one_robust source slack cause other (inr (inr (inr p))) (inr (inr (inr q))) = p.2 ∙ sym q.2
+  one_robust source slack cause other (inl p) q = search (rules, many source slack p.0, few_loosened source slack p.0)
+  one_robust source slack cause other (inr (inl p)) q =
+      let few : ¬ AreTooMany source slack = λ more. many source slack more p.0.0 p.0.1 in
+      search (rules, few, p.1)
+  one_robust source slack cause other (inr (inr (inl p))) q = search (rules, not_few source slack p.1)
+  one_robust source slack cause other (inr (inr (inr p))) q =
+      let few : ¬ AreTooMany source slack = λ more. few_loosened source slack more p.1.0 p.1.1 in
+      let few_robust : ¬ AreTooManyRobust source slack = λ more. not_few source slack more p.1.0 p.1.1 in
+      search (rules, few, few_robust)
 
   one_loosening : (robust : Bool) (source : PlanSource) (slack : Slack) → IsOne (IsLooseningRefusal robust source slack)
   one_loosening false source slack = one_base source (IsLoosenedRefusal source slack) (one_loosened source slack)
@@ -178,6 +148,14 @@ module _ (logs : (bytes : List ℕ) (one other : Result Log LoadFault) → IsLog
     abbrev known : Entries
     known = Some entries
 
+    -- two runs end alike, and with one value
+    abbrev GivesOne : {X : Type 0} → Effect Entries X → Type 0
+    GivesOne {X} Does = EndSo Fails (λ (one other : X). one ≡ other) known Does Does
+
+    -- two effects end alike, whatever they give
+    abbrev EndAs : {X Y : Type 0} → Effect Entries X → Effect Entries Y → Type 0
+    EndAs {X} {Y} Does Other = EndSo Fails (λ (_ : X) (_ : Y). ⊤) known Does Other
+
     -- one effect, and then another by what the first gave
     both_alike : {X Y : Type 0} (Ends : Y → Y → Type 0) (First : Effect Entries X) (Next : X → Effect Entries Y) → ChangesNothing First
         → EndSo Fails (λ one other. one ≡ other) known First First → ((value : X) → EndSo Fails Ends known (Next value) (Next value))
@@ -185,70 +163,58 @@ module _ (logs : (bytes : List ℕ) (one other : Result Log LoadFault) → IsLog
     both_alike {X} Ends First Next same first next = then_alike Fails First Next First Next (λ one other. one ≡ other) Ends known same same first
         (λ value other alike. subst (λ (one : X). EndSo Fails Ends known (Next value) (Next one)) alike (next value))
 
-    free_alike : (name : List ℕ) → EndSo Fails (λ one other. one ≡ other) known (FindsFree Fails name) (FindsFree Fails name)
-    free_alike name = finds_alike Fails {World = Entries} {X = Unit {0}} {Y = Unit {0}} (λ all _. IsThere all name false) (λ all _. IsThere all name false) (λ all failure. IsTaken all name failure) (λ all failure. IsTaken all name failure)
-        (λ one other. one ≡ other) known (λ _ _ _ _. refl)
-        (λ _ _ free taken. false≢true (there_once entries name false true free taken.0)) (λ _ _ free taken. false≢true (there_once entries name false true free taken.0)) (λ _ _ p q. p.1 ∙ sym q.1)
+    -- what is found is there, or prevents that, but not both
+    finds_once : {X : Type 0} (Is : Entries → X → Type 0) (Prevents : Entries → Failure → Type 0) (Same : X → X → Type 0)
+        → ((value other : X) → Is known value → Is known other → Same value other) → ((value : X) (failure : Failure) → Is known value → Prevents known failure → ⊥) → IsOne (Prevents known)
+        → EndSo Fails Same known (Finds Fails Is Prevents) (Finds Fails Is Prevents)
+    finds_once {X} Is Prevents Same same apart one = search (rules, finds_alike)
 
-    text_alike : (name : List ℕ) → EndSo Fails (λ one other. one ≡ other) known (FindsText Fails name) (FindsText Fails name)
-    text_alike name = finds_alike Fails {World = Entries} {X = List ℕ} {Y = List ℕ} (λ all text. Spells all name text) (λ all text. Spells all name text) (λ all failure. IsMissing all name failure) (λ all failure. IsMissing all name failure)
-        (λ one other. one ≡ other) known (one_spelled entries name)
-        (λ text _ there missing. none_there entries name there.0 missing.0 there.1) (λ text _ there missing. none_there entries name there.0 missing.0 there.1) (λ _ _ p q. p.1 ∙ sym q.1)
+    free_alike : (name : List ℕ) → GivesOne (FindsFree Fails name)
+    free_alike name = search (rules, finds_once, false≢true, there_once)
+
+    text_alike : (name : List ℕ) → GivesOne (FindsText Fails name)
+    text_alike name = search (rules, finds_once, one_spelled, none_there)
 
     load_alike : (name : List ℕ) (site at : ℕ) → site ≡ at → EndSo Fails (λ held other. idle held ≡ idle other) known (LoadsLog Fails name site) (LoadsLog Fails name at)
     load_alike name site at same = subst (λ (one : ℕ). EndSo Fails (λ held other. idle held ≡ idle other) known (LoadsLog Fails name site) (LoadsLog Fails name one)) same
-        (finds_alike Fails {World = Entries} {X = Held} {Y = Held} (λ all held. Opens all name site held) (λ all held. Opens all name site held) (λ all failure. IsUnopened all name failure) (λ all failure. IsUnopened all name failure)
-        (λ held other. idle held ≡ idle other) known (one_opened entries name logs site)
-        (λ held failure opened not. not_both entries name logs site failure held not opened) (λ held failure opened not. not_both entries name logs site failure held not opened) (one_unopened entries name logs))
+        (finds_once (λ all held. Opens all name site held) (λ all failure. IsUnopened all name failure) (λ held other. idle held ≡ idle other)
+        (one_opened entries name logs site) (λ held failure opened not. not_both entries name logs site failure held not opened) (one_unopened entries name logs))
 
-    new_alike : (name : List ℕ) (log other : Log) → EndSo Fails (λ _ _. ⊤) known (SavesNew Fails name log) (SavesNew Fails name other)
-    new_alike name log other new last (Ok done) (Ok saved) a b = tt
-    new_alike name log other new last (Ok done) (Err failure) a (same, inl taken) = absurd (false≢true (there_once entries name false true a.0 taken.0))
-    new_alike name log other new last (Ok done) (Err failure) a (same, inr lack) = lack
-    new_alike name log other new last (Err failure) (Ok done) (same, inl taken) b = absurd (false≢true (there_once entries name false true b.0 taken.0))
-    new_alike name log other new last (Err failure) (Ok done) (same, inr lack) b = lack
-    new_alike name log other new last (Err failure) (Err why) (same, inr lack) b = inl lack
-    new_alike name log other new last (Err failure) (Err why) (same, inl taken) (stays, inr lack) = inr (inl lack)
-    new_alike name log other new last (Err failure) (Err why) (same, inl taken) (stays, inl there) = inr (inr (taken.1 ∙ sym there.1))
+    new_alike : (name : List ℕ) (log other : Log) → EndAs (SavesNew Fails name log) (SavesNew Fails name other)
+    new_alike name log other new last p q a b = search (rules, false≢true, there_once)
 
-    made_alike : (name : List ℕ) (source from : PlanSource) (state content : Content) → EndSo Fails (λ _ _. ⊤) known (SavesMade Fails name source state) (SavesMade Fails name from content)
-    made_alike name source from state content = then_done_alike Fails _ _ _ _ (λ _ _. ⊤) known (new_alike name _ _) (λ _. gives_lacks Fails _) (λ _. gives_lacks Fails _)
+    made_alike : (name : List ℕ) (source from : PlanSource) (state content : Content) → EndAs (SavesMade Fails name source state) (SavesMade Fails name from content)
+    made_alike name source from state content = search (rules, then_done_alike, new_alike, gives_lacks)
 
-    log_alike : (name : List ℕ) (source : PlanSource) → EndSo Fails (λ _ _. ⊤) known (MakesLog Fails name source) (MakesLog Fails name source)
-    log_alike name source = both_alike (λ _ _. ⊤) _ _ (reads_same Fails (failing base_failure (base_of source))) (reads_alike Fails (failing base_failure (base_of source)) known)
-        (λ made. made_alike name made made no_content no_content)
+    log_alike : (name : List ℕ) (source : PlanSource) → EndAs (MakesLog Fails name source) (MakesLog Fails name source)
+    log_alike name source = search (rules, both_alike, reads_same, reads_alike, made_alike)
 
-    source_alike : (domain plan : List ℕ) → EndSo Fails (λ one other. one ≡ other) known (FindsSource Fails domain plan) (FindsSource Fails domain plan)
-    source_alike domain plan = both_alike (λ one other. one ≡ other) _ _ (text_same Fails domain) (text_alike domain)
-        (λ actions. both_alike (λ one other. one ≡ other) _ _ (text_same Fails plan) (text_alike plan) (λ steps. gives_alike Fails (files actions steps) (files actions steps) known refl))
+    source_alike : (domain plan : List ℕ) → GivesOne (FindsSource Fails domain plan)
+    source_alike domain plan = search (rules, both_alike, text_alike, gives_alike)
 
     -- the names of steps are found once
     names_alike : (plan : Option (List ℕ)) (own : Bool) (source : PlanSource)
-        → EndSo Fails (λ one other. one ≡ other) known (FindsNames Fails plan own source) (FindsNames Fails plan own source)
+        → GivesOne (FindsNames Fails plan own source)
     names_alike None false source = reads_alike Fails (Ok None) known
     names_alike None true source = reads_alike Fails (own_plan_text source) known
-    names_alike (Some plan) false source = both_alike (λ one other. one ≡ other) _ _ (reads_same Fails (nameless source)) (reads_alike Fails (nameless source) known)
-        (λ _. both_alike (λ one other. one ≡ other) _ _ (text_same Fails plan) (text_alike plan) (λ text. gives_alike Fails (Some text) (Some text) known refl))
+    names_alike (Some plan) false source = search (rules, both_alike, reads_same, reads_alike, text_alike, gives_alike)
     names_alike (Some plan) true source = reads_alike Fails (Err no_such_word) known
 
     -- ---- what is asked of a log, by two copies that say the same
     module _ (held other : Held) (same : idle held ≡ idle other) where
       at_rest_alike : (IsCause : Held → Option Failure → Type 0) → ((one : Held) (cause : Option Failure) → IsCause one cause → IsCause (idle one) cause)
           → ((one : Held) → IsOne (IsCause one)) → (cause reason : Option Failure) → IsCause held cause → IsCause other reason → cause ≡ reason
-      at_rest_alike IsCause rests one cause reason p q =
-          one (idle other) cause reason (subst (λ (copy : Held). IsCause copy cause) same (rests held cause p)) (rests other reason q)
+      at_rest_alike IsCause rests one cause reason p q = search rules
 
-      update_alike : (asked : Update) → EndSo Fails (λ _ _. ⊤) known (Updates Fails asked held) (Updates Fails asked other)
-      update_alike (change asked) = makes_alike Fails _ _ (λ cause. cause ≡ option_map replica_failure (change_refusal held asked)) (λ cause. cause ≡ option_map replica_failure (change_refusal other asked)) known
-          (at_rest_alike (λ one cause. cause ≡ option_map replica_failure (change_refusal one asked))
-          (λ one cause p. p ∙ ap (option_map replica_failure) (change_at_rest one asked)) (λ one cause reason p q. p ∙ sym q))
+      update_alike : (asked : Update) → EndAs (Updates Fails asked held) (Updates Fails asked other)
+      update_alike (change asked) = search (rules, makes_alike, at_rest_alike, change_at_rest)
       update_alike (merge name) = then_alike Fails _ _ _ _ (λ one last. idle one ≡ idle last) (λ _ _. ⊤) known
-          (load_same Fails name held.site) (load_same Fails name other.site) (load_alike name held.site other.site (ap (λ (one : Held). one.site) same))
+          (search rules) (search rules) (load_alike name held.site other.site (ap (λ (one : Held). one.site) same))
           (λ theirs copy alike. makes_alike Fails _ _ (IsMergeRefusal held theirs) (IsMergeRefusal other copy) known (λ cause reason p q. one_merge (idle other) (idle copy) cause reason
           (subst (λ (one : Held). IsMergeRefusal one (idle copy) cause) same (subst (λ (one : Held). IsMergeRefusal (idle held) one cause) alike p)) q))
       update_alike (guard owned) = makes_alike Fails _ _ (IsUnguarded owned held) (IsUnguarded owned other) known (at_rest_alike (IsUnguarded owned) (guard_at_rest owned) (one_unguarded guards owned))
 
-      says_alike : (asked : Query) (names : NameWords) → EndSo Fails (λ _ _. ⊤) known (SaysAsked Fails asked names held) (SaysAsked Fails asked names other)
+      says_alike : (asked : Query) (names : NameWords) → EndAs (SaysAsked Fails asked names held) (SaysAsked Fails asked names other)
       says_alike asked names =
           let file : Option (List ℕ) = option_map (λ (w : Bor (List ℕ)). w.now) names.plan in
           then_alike Fails _ _ _ _ (λ one last. one ≡ last) (λ _ _. ⊤) known (names_same Fails file names.own held.source) (names_same Fails file names.own other.source)
@@ -258,44 +224,28 @@ module _ (logs : (bytes : List ℕ) (one other : Result Log LoadFault) → IsLog
           (subst (λ (one : Option (List ℕ)). IsRefusedBy one asked other reason) (sym alike) q)))
 
     -- ---- a command
-    loosening_alike : (log : SiteLog) (domain plan : List ℕ) (robust : Bool) (slack : Slack)
-        → EndSo Fails (λ _ _. ⊤) known (LoosensTexts Fails log domain plan robust slack) (LoosensTexts Fails log domain plan robust slack)
-    loosening_alike log domain plan robust slack = both_alike (λ _ _. ⊤) _ _ (free_same Fails log.name.now) (free_alike log.name.now)
-        (λ _. both_alike (λ _ _. ⊤) _ _ (source_same Fails domain plan) (source_alike domain plan)
-        (λ source. then_alike Fails _ _ _ _ (λ _ _. ⊤) (λ _ _. ⊤) known (makes_same Fails _ (IsLooseningRefusal robust source slack)) (makes_same Fails _ (IsLooseningRefusal robust source slack))
-        (makes_alike Fails _ _ (IsLooseningRefusal robust source slack) (IsLooseningRefusal robust source slack) known (one_loosening robust source slack))
-        (λ state content _. made_alike log.name.now (bare (steps_of source)) (bare (steps_of source)) state content)))
-
-    updating_alike : (log : SiteLog) (asked : Update) → EndSo Fails (λ _ _. ⊤) known (UpdatesLog Fails log asked) (UpdatesLog Fails log asked)
-    updating_alike log asked = then_alike Fails _ _ _ _ (λ held other. idle held ≡ idle other) (λ _ _. ⊤) known (load_same Fails log.name.now log.site) (load_same Fails log.name.now log.site)
+    updating_alike : (log : SiteLog) (asked : Update) → EndAs (UpdatesLog Fails log asked) (UpdatesLog Fails log asked)
+    updating_alike log asked = then_alike Fails _ _ _ _ (λ held other. idle held ≡ idle other) (λ _ _. ⊤) known (search rules) (search rules)
         (load_alike log.name.now log.site log.site refl)
         (λ held other same. then_alike Fails _ _ _ _ (λ _ _. ⊤) (λ _ _. ⊤) known (update_same Fails asked held) (update_same Fails asked other) (update_alike held other same asked)
         (λ made last _. lacks_alike Fails known (SavesUpdated Fails log.name.now made) (SavesUpdated Fails log.name.now last)
         (saved_lacks Fails log.name.now made) (saved_lacks Fails log.name.now last)))
 
-    answers_alike : (log : SiteLog) (asked : Query) (names : NameWords) → EndSo Fails (λ _ _. ⊤) known (AnswersAsked Fails log asked names) (AnswersAsked Fails log asked names)
-    answers_alike log asked names = then_alike Fails _ _ _ _ (λ held other. idle held ≡ idle other) (λ _ _. ⊤) known (load_same Fails log.name.now log.site) (load_same Fails log.name.now log.site)
+    answers_alike : (log : SiteLog) (asked : Query) (names : NameWords) → EndAs (AnswersAsked Fails log asked names) (AnswersAsked Fails log asked names)
+    answers_alike log asked names = then_alike Fails _ _ _ _ (λ held other. idle held ≡ idle other) (λ _ _. ⊤) known (search rules) (search rules)
         (load_alike log.name.now log.site log.site refl) (λ held other same. says_alike held other same asked names)
 
-    none_alike : EndSo Fails (λ _ _. ⊤) known (Settles {World = Entries} {X = List ℕ} Fails (Err no_such_word)) (Settles {World = Entries} {X = List ℕ} Fails (Err no_such_word))
-    none_alike new last (Ok value) (Ok other) a b = tt
-    none_alike new last ended other a b = reads_alike Fails (Err no_such_word) known new last ended other a b
+    none_alike : EndAs (Settles {World = Entries} {X = List ℕ} Fails (Err no_such_word)) (Settles {World = Entries} {X = List ℕ} Fails (Err no_such_word))
+    none_alike new last p q a b = search (rules, reads_alike)
 
-    words_alike : {X : Type 0} (said : Result X RefusedWord) → EndSo Fails (λ one other. one ≡ other) known (Reads Fails said) (Reads Fails said)
-    words_alike said = reads_alike Fails (failing (λ refused. refused.failure) said) known
-
-    line_alike : (line : Line) → EndSo Fails (λ _ _. ⊤) known (DoesLine Fails line) (DoesLine Fails line)
-    line_alike (Make log (Bare steps)) = both_alike (λ _ _. ⊤) _ _ (free_same Fails log.name.now) (free_alike log.name.now) (λ _. log_alike log.name.now (bare steps))
-    line_alike (Make log (Init domain plan)) = both_alike (λ _ _. ⊤) _ _ (free_same Fails log.name.now) (free_alike log.name.now)
-        (λ _. both_alike (λ _ _. ⊤) _ _ (source_same Fails domain.now plan.now) (source_alike domain.now plan.now) (λ source. log_alike log.name.now source))
-    line_alike (Make log (Loosen domain plan early late robust)) = both_alike (λ _ _. ⊤) _ _ (words_same Fails (slack_read early late)) (words_alike (slack_read early late))
-        (λ slack. loosening_alike log domain.now plan.now robust slack)
-    line_alike (Change log words) = both_alike (λ _ _. ⊤) _ _ (words_same Fails (update_read words)) (words_alike (update_read words)) (λ asked. updating_alike log asked)
-    line_alike (Ask log words names) = both_alike (λ _ _. ⊤) _ _ (words_same Fails (question_read log words)) (words_alike (question_read log words))
-        (λ asked. answers_alike log asked names)
-    line_alike (Explain word) =
-        let one = option_map (λ (w : Bor (List ℕ)). w.now) word in
-        makes_alike Fails (IsExplained one) (IsExplained one) (IsExplainRefusal one) (IsExplainRefusal one) known (one_explained one)
+    line_alike : (line : Line) → EndAs (DoesLine Fails line) (DoesLine Fails line)
+    line_alike (Make log (Bare steps)) = search (rules, both_alike, free_alike, log_alike)
+    line_alike (Make log (Init domain plan)) = search (rules, both_alike, free_alike, source_same, source_alike, log_alike)
+    line_alike (Make log (Loosen domain plan early late robust)) =
+        search (rules, both_alike, reads_same, reads_alike, free_alike, source_same, source_alike, then_alike, makes_same, makes_alike, one_loosening, made_alike)
+    line_alike (Change log words) = search (rules, both_alike, reads_same, reads_alike, updating_alike)
+    line_alike (Ask log words names) = search (rules, both_alike, reads_same, reads_alike, answers_alike)
+    line_alike (Explain word) = search (rules, makes_alike, one_explained)
     line_alike line = none_alike
 
   pub one_line : (Fails : Fault → Type 0) (entries : List Entry) (line : Line) (one other : Entries) (ended last : Result (List ℕ) Failure)

@@ -11,15 +11,15 @@ use Rattle.stn_walk.specs.Walk.{walk_of, walk_text}
 use Rattle.stn_picture.specs.Picture.{IsPicture}
 
 -- the windows of the origin and of all events
-some_windows : (bounds : List Difference) (events : ℕ) (far : ℕ → ℕ → ℤ) → AreFound bounds events far → (windows : List (ℤ × ℤ)) × AreWindows bounds events windows
-some_windows bounds events far found = (
+some_windows : {bounds : List Difference} {events : ℕ} {far : ℕ → ℕ → ℤ} → AreFound bounds events far → (windows : List (ℤ × ℤ)) × AreWindows bounds events windows
+some_windows {bounds} {events} {far} found = (
   map window (range_with_len 0 (events + 1)),
   record {
-    possible = possible_found bounds events far found;
-    one_each = length-map-range_with_len window 0 (events + 1);
+    possible = possible_found found;
+    one_each = length-map-range_with_len _ 0 _;
     each = λ event within.
         subst (λ (at : ℤ × ℤ). IsWindow bounds event at.0 at.1) (sym (get_or-map-range_with_len window 0 (events + 1) event event (pos 0, pos 0) (omega (arith, within)) (omega arith)))
-        (window_found bounds events far found event within);
+        (window_found found event within);
   },
 )
   where
@@ -40,13 +40,13 @@ module _ (events : ℕ) (now : ℤ) where
 -- events of the plan that are left are events of the plan
 left_within : (state : Content) (events : ℕ) → All (λ event. event ≤ events) (filter (λ event. not (is_done state event)) (range_with_len 1 events))
 left_within state events =
-    All-filter (λ event. not (is_done state event)) (λ event. event ≤ events) (range_with_len 1 events)
+    All-filter (λ event. not (is_done state event)) (λ event. event ≤ events) _
     (All-from_get_or (λ event. event ≤ events) (range_with_len 1 events) 0
     (λ i below.
     let within : i < events = omega (arith, below, length-range_with_len 1 events) in
     omega (arith, within, get_or-range_with_len 1 events i 0 within)))
 
-module _ (source : PlanSource) (state : Content) (sound : IsSoundState source state) where
+module _ {source : PlanSource} {state : Content} (sound : IsSoundState source state) where
   abbrev all : List Difference
   all = all_bounds source state
 
@@ -55,15 +55,15 @@ module _ (source : PlanSource) (state : Content) (sound : IsSoundState source st
 
   all_begun : IsBegun (events_of source) all
   all_begun =
-      more_begun (events_of source) (base_bounds source) (live_bounds state) (base_begun source sound.based)
+      more_begun _ (base_begun source sound.based)
       (All-weaker (IsBoundWithin (events_of source)) (IsInOrder (events_of source)) (λ d one. record { named = one.named; ordered = one.ordered }) (live_bounds state) sound.live)
 
   -- what is left may come now or later, or not
   waiting_or_none : (now : Option ℤ) → ((far : ℕ → ℕ → ℤ) × AreFound (waiting now) (events_of source) far) ⊎ (¬ HasSchedule (waiting now))
-  waiting_or_none None = found_or_none (events_of source) (waiting None) (more_begun (events_of source) all [] all_begun (All-nil (IsInOrder (events_of source))))
+  waiting_or_none None = found_or_none (more_begun [] all_begun (All-nil _))
   waiting_or_none (Some now) =
-      elim (floors_or_none (events_of source) now (filter (λ event. not (is_done state event)) (range_with_len 1 (events_of source))) (left_within state (events_of source))) [
-        | inl each ↦ found_or_none (events_of source) (waiting (Some now)) (more_begun (events_of source) all (floors_at state (events_of source) now) all_begun each)
+      elim (floors_or_none _ now _ (left_within state (events_of source))) [
+        | inl each ↦ found_or_none (more_begun (floors_at state (events_of source) now) all_begun each)
         | inr none ↦ inr (λ has. none has.0 (All-right (Meets has.0) all (floors_at state (events_of source) now) has.1.met))
       ]
 
@@ -71,16 +71,16 @@ module _ (source : PlanSource) (state : Content) (sound : IsSoundState source st
   some_picture look names =
       elim (waiting_or_none look.present) [
         | inl (far, found) ↦
-            let (windows, are) = some_windows (waiting look.present) (events_of source) far found in
+            let (windows, are) = some_windows found in
             (plan_text (chart_of look names source state windows 0), inl (record { windows = windows; overdue = 0; drawn = inl (are, refl); whole = refl }))
-        | inr late ↦ elim (differences source state sound) [
+        | inr late ↦ elim (differences sound) [
           | inl (far, found) ↦
-              let (windows, are) = some_windows all (events_of source) far found in
+              let (windows, are) = some_windows found in
               let overdue = overdue_event state windows (events_of source) look.present in
               (plan_text (chart_of look names source state windows overdue), inl (record { windows = windows; overdue = overdue; drawn = inr (late, are, refl); whole = refl }))
           | inr (place, far, first) ↦
-              let (links, named, negative) = some_cycle all (events_of source) place far first all_begun.each in
-              let live = live_in_order source state sound in
+              let (links, named, negative) = some_cycle first all_begun.each in
+              let live = live_in_order sound in
               let (repairs, are) = some_repairs (base_bounds source) (events_of source) (base_begun source sound.based) (live_of state) live (live_of state) live in (
                 walk_text (walk_of look.title names (base_bounds source) (live_ids state) (live_bounds state) links repairs),
                 inr (record { links = links; named = named; negative = negative; repairs = repairs; are = are; whole = refl }),

@@ -1,11 +1,11 @@
 -- Each plan and each state have a text of what mends a conflict.
-use Rattle.std.{proofs.{Common.{◌≡◌, ◌⊎◌, inl, inr, ℕ, ℤ, ◌+◌, List, [], ◌∷◌, ◌++◌, not, filter, map, codes, take, neg_ℤ, refl, arith}, lemmas.{Int.ints, List.Elements.{All-append, All-filter, All-head, All-push, All-tail, All-take, All-weaker}}}, specs.{Prelude.All, List.flat_map, Set.is_member}}
-use Rattle.stn_net.{specs.{Difference.{Difference, IsBoundWithin}, Horizon.horizon_bounds, Schedule.{Meets, HasSchedule}}, proofs.Ranges.range_of_ends}
+use Rattle.std.{proofs.{lemmas.{Grind.common_steps, List.Elements.{All-append, All-filter, All-head, All-push, All-tail, All-weaker}}, Common.{rules, ◌≡◌, ◌⊎◌, inl, inr, ℕ, ℤ, ◌+◌, List, [], ◌∷◌, ◌++◌, not, filter, map, codes, take, neg_ℤ, refl, arith}}, specs.{Prelude.All, List.flat_map, Set.is_member}}
+use Rattle.stn_net.{specs.{Difference.{Difference, IsBoundWithin}, Horizon.horizon_bounds, Schedule.HasSchedule}, proofs.Ranges.range_of_ends}
 use Rattle.stn_lift.specs.PlanSource.{PlanSource, events_of, base_bounds, IsSoundSource}
 use Rattle.stn_records.specs.{Id.{SiteCounter, same_ids}, Record.same_marks, declared.record.{Record.Record, Mark.TheVariants.{Plain, Done}}, Content.{Content, live_of}}
 use Rattle.stn_conflict.proofs.Known.{known_within, known_first}
-use Rattle.stn_site.{specs.{Bounds.bounds_of, Lines.line}, proofs.Named.{records_from_bounds, bounds_from_records}}
-use Rattle.stn_repairs.specs.{declared.repair.Repair.Repair, Repairs.{without, others, IsRepair, AreRepairs}, Dropped.{marked, facts_first, AreRefused}, Text.{repair_line, drop_line, IsRepairsText}}
+use Rattle.stn_site.{specs.Lines.line, proofs.Named.{records_from_bounds, bounds_from_records}}
+use Rattle.stn_repairs.specs.{declared.repair.Repair.Repair, Repairs.{without, others, IsRepair, AreRepairs}, Dropped.{marked, AreRefused}, Text.{repair_line, drop_line, IsRepairsText}}
 use Rattle.stn_laws.proofs.questions.{Found.{AreFound, IsInOrder, possible_found, tightest_found, found_or_refused}, SomeReport.IsSoundState}
 
 abbrev Entries : Type 0
@@ -21,25 +21,15 @@ abbrev pub InOrder : ℕ → Entries → Type 0
 InOrder events records = All (λ entry. IsInOrder events entry.1.bound) records
 
 -- there are the tightest differences, or no schedule
-pub found_or_none : (events : ℕ) (bounds : List Difference) → IsBegun events bounds → ((far : ℕ → ℕ → ℤ) × AreFound bounds events far) ⊎ (¬ HasSchedule bounds)
-found_or_none events bounds begun =
-    elim (found_or_refused events bounds begun.horizon (known_within events bounds begun.horizon) begun.each) [
-      | inl found ↦ inl found
-      | inr (place, far, first) ↦ inr (λ has. first.refused (has.0, record { origin = has.1.origin; met = All-take (Meets has.0) (place + 1) bounds has.1.met }))
-    ]
+pub found_or_none : {events : ℕ} {bounds : List Difference} → IsBegun events bounds → ((far : ℕ → ℕ → ℤ) × AreFound bounds events far) ⊎ (¬ HasSchedule bounds)
+found_or_none {events} {bounds} begun = grind (arith, common_steps, found_or_refused, known_within)
 
 -- more bounds
-pub more_begun : (events : ℕ) (bounds more : List Difference) → IsBegun events bounds → All (IsInOrder events) more → IsBegun events (bounds ++ more)
-more_begun events bounds more begun each = record {
-  horizon = known_first events bounds more begun.horizon;
-  each = All-append (IsInOrder events) bounds more begun.each each;
-}
+pub more_begun : {events : ℕ} {bounds : List Difference} (more : List Difference) → IsBegun events bounds → All (IsInOrder events) more → IsBegun events (bounds ++ more)
+more_begun {events} {bounds} more begun each = grind (arith, common_steps, known_first, IsInOrder)
 
-one_begun : (events : ℕ) (bounds : List Difference) (bound : Difference) → IsBegun events bounds → IsInOrder events bound → IsBegun events (bounds ++ bound ∷ [])
-one_begun events bounds bound begun one = record {
-  horizon = known_first events bounds (bound ∷ []) begun.horizon;
-  each = All-push (IsInOrder events) bounds bound begun.each one;
-}
+one_begun : {events : ℕ} {bounds : List Difference} {bound : Difference} → IsBegun events bounds → IsInOrder events bound → IsBegun events (bounds ++ bound ∷ [])
+one_begun {events} {bounds} {bound} begun one = grind (arith, common_steps, known_first, All-push)
 
 module _ (base : List Difference) (events : ℕ) (begun : IsBegun events base) (live : Entries) (each : InOrder events live) where
   -- a record mends the conflict, or not
@@ -51,14 +41,14 @@ module _ (base : List Difference) (events : ℕ) (begun : IsBegun events base) (
       let bounds = others base live entry.0 in
       let from = entry.1.bound.from in
       let to = entry.1.bound.to in
-      elim (found_or_none events (others base live entry.0) (more_begun events base (bounds_of rest) begun (bounds_from_records (IsInOrder events) rest left))) [
+      elim (found_or_none (more_begun _ begun (bounds_from_records (IsInOrder events) rest left))) [
         | inr none ↦ inr none
         | inl (far, found) ↦
-            let early = tightest_found bounds events far found to from one.named.to one.named.from in
-            let late = tightest_found bounds events far found from to one.named.from one.named.to in
+            let early = tightest_found found to from one.named.to one.named.from in
+            let late = tightest_found found from to one.named.from one.named.to in
             inl (
               record { id = entry.0; from = from; to = to; least = neg_ℤ (far to from); greatest = far from to },
-              record { possible = possible_found bounds events far found; of_record = refl; from = refl; to = refl; range = range_of_ends bounds from to (far to from) (far from to) early late },
+              record { possible = possible_found found; of_record = refl; from = refl; to = refl; range = range_of_ends _ from to _ _ early late },
             )
       ]
 
@@ -76,44 +66,39 @@ some_refused : (events : ℕ) (kept : List Difference) (order : Entries) → IsB
 some_refused events kept [] begun each = ([], refl)
 some_refused events kept (entry ∷ rest) begun each =
     let left = All-tail (λ (e : SiteCounter × Record). IsInOrder events e.1.bound) entry rest each in
-    let more = one_begun events kept entry.1.bound begun (All-head (λ (e : SiteCounter × Record). IsInOrder events e.1.bound) entry rest each) in
-    elim (found_or_none events (kept ++ entry.1.bound ∷ []) more) [
+    let more = one_begun begun (All-head (λ (e : SiteCounter × Record). IsInOrder events e.1.bound) entry rest each) in
+    elim (found_or_none more) [
       | inl (far, found) ↦
-          let (refused, are) = some_refused events (kept ++ entry.1.bound ∷ []) rest more left in
-          (refused, inl (possible_found (kept ++ entry.1.bound ∷ []) events far found, are))
-      | inr none ↦ (let (refused, are) = some_refused events kept rest begun left in (entry.0 ∷ refused, inr (none, refused, are, refl)))
+          let (refused, are) = some_refused _ _ rest more left in
+          (refused, inl (possible_found found, are))
+      | inr none ↦ (let (refused, are) = some_refused _ kept rest begun left in (entry.0 ∷ refused, inr (none, refused, are, refl)))
     ]
 
 -- the plan's own bounds have a schedule, so none of them is crossed
 pub base_begun : (source : PlanSource) → IsSoundSource source → IsBegun (events_of source) (base_bounds source)
-base_begun source sound = record {
-  horizon = sound.horizon;
-  each = λ k d below.
-      let met = sound.possible.met k d below in
-      record { named = sound.named k d below; ordered = omega (arith, ints, met.0, met.1) };
-}
+base_begun source sound = search (rules)
 
 -- the bounds of live records are in order
-pub live_in_order : (source : PlanSource) (state : Content) → IsSoundState source state → InOrder (events_of source) (live_of state)
-live_in_order source state sound =
+pub live_in_order : {source : PlanSource} {state : Content} → IsSoundState source state → InOrder (events_of source) (live_of state)
+live_in_order {source} {state} sound =
     All-weaker (λ (e : SiteCounter × Record). IsBoundWithin (events_of source) e.1.bound) (λ e. IsInOrder (events_of source) e.1.bound)
-    (λ e one. record { named = one.named; ordered = one.ordered }) (live_of state) (records_from_bounds (IsBoundWithin (events_of source)) (live_of state) sound.live)
+    (λ e one. record { named = one.named; ordered = one.ordered }) _ (records_from_bounds (IsBoundWithin (events_of source)) (live_of state) sound.live)
 
-pub some_repairs_text : (source : PlanSource) (state : Content) → IsSoundState source state → (text : List ℕ) × IsRepairsText source state text
-some_repairs_text source state sound =
+pub some_repairs_text : {source : PlanSource} {state : Content} → IsSoundState source state → (text : List ℕ) × IsRepairsText source state text
+some_repairs_text {source} {state} sound =
     let base = base_bounds source in
     let live = live_of state in
     let events = events_of source in
-    let begun = base_begun source sound.based in
-    let each = live_in_order source state sound in
-    elim (found_or_none (events_of source) (base_bounds source ++ bounds_of (live_of state))
-    (more_begun events base (bounds_of live) begun (bounds_from_records (IsInOrder (events_of source)) live each))) [
-      | inl (far, found) ↦ (line (codes "ok"), inl (possible_found (base_bounds source ++ bounds_of (live_of state)) (events_of source) far found, refl))
+    let begun = base_begun _ sound.based in
+    let each = live_in_order sound in
+    elim (found_or_none
+    (more_begun _ begun (bounds_from_records (IsInOrder (events_of source)) live each))) [
+      | inl (far, found) ↦ (line (codes "ok"), inl (possible_found found, refl))
       | inr none ↦
-          let (repairs, are) = some_repairs base events begun live each live each in
+          let (repairs, are) = some_repairs base _ begun live each live each in
           let done = All-filter (λ (e : SiteCounter × Record). same_marks e.1.mark Done) (λ e. IsInOrder (events_of source) e.1.bound) live each in
           let plain = All-filter (λ (e : SiteCounter × Record). same_marks e.1.mark Plain) (λ e. IsInOrder (events_of source) e.1.bound) live each in
-          let (refused, in_turn) = some_refused events base (facts_first live) begun
+          let (refused, in_turn) = some_refused _ base _ begun
           (All-append (λ (e : SiteCounter × Record). IsInOrder (events_of source) e.1.bound) (marked Done live) (marked Plain live) done plain) in
           let dropped = filter (λ id. is_member same_ids refused id) (map (λ (e : SiteCounter × Record). e.0) live) in (
             flat_map repair_line repairs ++ drop_line dropped,

@@ -1,12 +1,12 @@
 -- What is asked of a plan depends on the live records alone.
-use Rattle.std.{proofs.Common.{rules, ◌≡◌, inl, inr, ⊎_elim, ℕ, ℤ, neg_ℤ, ◌+◌, Bool, List, ◌++◌, codes, length, map, refl, ap, subst, ◌∙◌}, specs.List.{flat_map, range_with_len}}
-use Rattle.stn_time.specs.Text.{printed}
-use Rattle.stn_net.specs.{Difference.Difference, Schedule.HasSchedule}
+use Rattle.std.{proofs.Common.{rules, ◌≡◌, ℕ, ℤ, ◌+◌, Bool, List, ◌++◌, map}, specs.List.range_with_len}
+use Rattle.stn_net.specs.{Difference.Difference}
 use Rattle.stn_lift.specs.PlanSource.{PlanSource, base_bounds, events_of}
 use Rattle.stn_records.specs.{Id.SiteCounter, declared.record.Record.Record, Content.{Content, live_of}}
-use Rattle.stn_conflict.specs.{declared.links.Link.Link, Arcs.{weight_of, IsNegativeCycle}, Named.{IsNamedCycle, IsWay}}
-use Rattle.stn_site.specs.{Bounds.bounds_of, Lines.{line, window_line, conflict_line, link_line}, Report.{says_done, IsConflictPart}}
-use Rattle.stn_questions.specs.{declared.asked.Question.{Question, TheVariants.{Records, Steps, Bounds, Why, WhyApart}}, Bounds.listed_line, Ready.{IsReadyWith, IsReadyText}, Why.{end_text, IsReasonPart}, Answer.{IsAnswer, AsksOfPlan}}
+use Rattle.stn_conflict.specs.{declared.links.Link.Link}
+use Rattle.stn_site.specs.{Bounds.bounds_of, Report.{says_done, IsConflictPart}}
+use Rattle.stn_questions.specs.{declared.asked.Question.Question, Ready.IsReadyText, Why.{end_text, IsReasonPart}, Answer.{IsAnswer, AsksOfPlan}}
+use Rattle.stn_laws.specs.Among.{IsReadyAmong}
 
 abbrev pub Entries : Type 0
 Entries = List (SiteCounter × Record)
@@ -28,7 +28,10 @@ module _ (source : PlanSource) (s t : Content) (live : live_of s ≡ live_of t) 
 
   -- states with the same live records have the same events ready
   pub same_ready : (now : ℤ) (text : List ℕ) → IsReadyText source s now text → IsReadyText source t now text
-  same_ready now text p = subst (λ (records : Entries). IsReadyWith (bounds_with source records) (done_with source records) now text) live p
+  same_ready now text p = search rules
+
+  pub same_among : (asked : ℕ → Bool) (now : ℤ) (text : List ℕ) → IsReadyAmong asked source s now text → IsReadyAmong asked source t now text
+  same_among asked now text p = search rules
 
   same_end : (word : List ℕ) (time : ℤ) (links : List Link) → end_text source s word time links ≡ end_text source t word time links
   same_end word time links = cc
@@ -40,8 +43,4 @@ module _ (source : PlanSource) (s t : Content) (live : live_of s ≡ live_of t) 
 
   -- states with the same live records have the same answers, but of their records
   pub counted_answer : (question : Question) (text : List ℕ) → AsksOfPlan question → IsAnswer source s question text → IsAnswer source t question text
-  counted_answer Records text asks p = absurd asks
-  counted_answer Steps text asks p = p
-  counted_answer Bounds text asks p = cc
-  counted_answer (Why event) text asks p = ⊎_elim (λ why. inl (same_reason 0 event _ _ _ _ _ text why (λ least greatest. ap (λ (records : Entries). window_line event least greatest (says_done records event)) live))) (λ conflict. inr (same_conflict text conflict)) p
-  counted_answer (WhyApart from to) text asks p = ⊎_elim (λ apart. inl (same_reason from to _ _ _ _ _ text apart (λ least greatest. refl))) (λ conflict. inr (same_conflict text conflict)) p
+  counted_answer question text asks p = search (rules, same_reason, same_conflict)

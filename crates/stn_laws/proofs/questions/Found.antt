@@ -1,6 +1,6 @@
 -- Bounds that begin with the horizon bounds have the tightest differences, along each of which a chain leads, or a first bound with
 -- which they have no schedule.
-use Rattle.std.{proofs.{Common.{rules, ◌≡◌, ◌≢◌, ◌⊎◌, inl, inr, ℕ, zero, suc, ◌+◌, ◌-◌, ◌<◌, ◌≤◌, Bool, true, false, cond, eqb, eqb-true, List, [], ◌∷◌, ◌++◌, length, take, refl, sym, subst, ap, ◌∙◌, arith}, lemmas.{Bool.{cases_lt, eqb-false}, Int.{ints, by_lt_z}, List.{get_or_append_left, get_or_push, length_push, take-append-le, take_all, take_more, Elements.All-push}}}, specs.{Prelude.{ℤ, pos, neg_ℤ, ◌+ℤ◌, ◌-ℤ◌, ◌≤ℤ◌, int_lt, All}, Int.int_min}}
+use Rattle.std.{proofs.{Common.{rules, ◌≡◌, ◌⊎◌, inl, inr, ℕ, zero, suc, ◌+◌, ◌-◌, ◌<◌, ◌≤◌, Bool, true, false, cond, eqb, eqb-true, List, [], ◌∷◌, ◌++◌, length, take, refl, sym, subst, ap, ◌∙◌, arith}, lemmas.{Bool.eqb-false, Int.ints, List.{get_or_append_left, get_or_push, length_push, take-append-le, take_all, take_more, Elements.All-push}}}, specs.{Prelude.{ℤ, pos, neg_ℤ, ◌+ℤ◌, ◌-ℤ◌, ◌≤ℤ◌, All}, Int.int_min}}
 use Rattle.stn_time.specs.Time.{horizon}
 use Rattle.stn_net.{specs.{Difference.{Difference, NamesEvents}, Horizon.{horizon_bound, horizon_bounds}, Schedule.HasSchedule, Matrix.{Tightest.IsTightest, Closed.{IsClosed, IsWidest}, Way.{shorter, narrower, HasRoom}}, Windows.Window.IsWindow}, proofs.{WindowEnds.window_of_ends, Horizons.length-horizon_bounds, Tightest.{IsTight, row_is_schedule}, Closure.{narrower-closed, narrower-tight, schedule_before, schedule_last}, Widest.{widest-closed, widest-tight, horizon_named}}}
 use Rattle.stn_conflict.{specs.{declared.links.{Link.Link, Side.TheVariants.{Upper, Lower}}, Arcs.{Arc, arc, arc_of, bound_at, IsChain, weight_of}}, proofs.Chains.chain_before}
@@ -21,24 +21,24 @@ pub record AreFound (bounds : List Difference) (events : ℕ) (far : ℕ → ℕ
   pub tight : IsTight bounds events far
   pub along : AreAlong bounds events far
 
-pub possible_found : (bounds : List Difference) (events : ℕ) (far : ℕ → ℕ → ℤ) → AreFound bounds events far → HasSchedule bounds
-possible_found bounds events far found =
-    ((λ z. far 0 z -ℤ far 0 0), row_is_schedule bounds events far found.named found.closed found.tight 0 (omega arith))
+pub possible_found : {bounds : List Difference} {events : ℕ} {far : ℕ → ℕ → ℤ} → AreFound bounds events far → HasSchedule bounds
+possible_found {bounds} {events} {far} found =
+    ((λ z. far 0 z -ℤ far 0 0), row_is_schedule bounds events far found.named found.closed.shortest found.tight 0 (omega arith))
 
-pub tightest_found : (bounds : List Difference) (events : ℕ) (far : ℕ → ℕ → ℤ) → AreFound bounds events far → (x y : ℕ) → x ≤ events → y ≤ events → IsTightest bounds x y (far x y)
-tightest_found bounds events far found x y xs ys =
-    let itself = found.closed.itself x xs in
+pub tightest_found : {bounds : List Difference} {events : ℕ} {far : ℕ → ℕ → ℤ} → AreFound bounds events far → (x y : ℕ) → x ≤ events → y ≤ events → IsTightest bounds x y (far x y)
+tightest_found {bounds} {events} {far} found x y xs ys =
+    let itself = found.closed.shortest.itself x xs in
     record {
       bound = λ time is. found.tight.sound time is x y xs ys;
-      attained = ((λ z. far x z -ℤ far x 0), row_is_schedule bounds events far found.named found.closed found.tight x xs, omega (arith, ints));
+      attained = ((λ z. far x z -ℤ far x 0), row_is_schedule bounds events far found.named found.closed.shortest found.tight x xs, omega (arith, ints));
     }
 
 -- the window of each event
-pub window_found : (bounds : List Difference) (events : ℕ) (far : ℕ → ℕ → ℤ) → AreFound bounds events far → (event : ℕ) → event ≤ events
+pub window_found : {bounds : List Difference} {events : ℕ} {far : ℕ → ℕ → ℤ} → AreFound bounds events far → (event : ℕ) → event ≤ events
     → IsWindow bounds event (neg_ℤ (far event 0)) (far 0 event)
-window_found bounds events far found event within =
+window_found {bounds} {events} {far} found event within =
     let none : 0 ≤ events = omega arith in
-    window_of_ends bounds event (far event 0) (far 0 event) (tightest_found bounds events far found event 0 within none) (tightest_found bounds events far found 0 event none within)
+    window_of_ends _ event _ _ (tightest_found found event 0 within none) (tightest_found found 0 event none within)
 
 -- ---- chains
 chain-append : (bounds : List Difference) (links others : List Link) (x y z : ℕ) → IsChain bounds links x y → IsChain bounds others y z → IsChain bounds (links ++ others) x z
@@ -54,11 +54,10 @@ chain-onward : (bounds : List Difference) (bound : Difference) (links : List Lin
     → IsChain (bounds ++ bound ∷ []) links x y × (weight_of (bounds ++ bound ∷ []) links ≡ weight_of bounds links)
 chain-onward bounds bound links x y chain =
     let front : take (length bounds) (bounds ++ bound ∷ []) ≡ bounds = search (rules, take-append-le, take_all) in
-    let (whole, weighs) = chain_before (bounds ++ bound ∷ []) (length bounds) links x y (subst (λ l. IsChain l links x y) (sym front) chain) in
-    (whole, sym weighs ∙ ap (λ l. weight_of l links) front)
+    search (rules, chain_before)
 
 int_min_cases : (m n : ℤ) → (int_min m n ≡ m) ⊎ (int_min m n ≡ n)
-int_min_cases m n = elim (int_lt n m) as (λ b. (cond b n m ≡ m) ⊎ (cond b n m ≡ n)) [ true ↦ inr refl | false ↦ inl refl ]
+int_min_cases m n = search rules
 
 -- by way of a link the lesser differences have chains too
 along-shorter : (bounds : List Difference) (events : ℕ) (far : ℕ → ℕ → ℤ) (link : Link) (u v : ℕ) (w : ℤ) → link.place < length bounds
@@ -67,7 +66,7 @@ along-shorter bounds events far link u v w there is us vs along x y xs ys =
     let (links, chain, weighs) = along x y xs ys in
     let (before, to_link, first) = along x u xs us in
     let (after, from_link, last) = along v y vs ys in
-    elim (int_min_cases (far x y) ((far x u +ℤ w) +ℤ far v y)) [
+    elim (int_min_cases _ _) [
       | inl e ↦ (links, chain, weighs ∙ sym e)
       | inr e ↦ (
         before ++ link ∷ after,
@@ -82,7 +81,7 @@ found_more : (bounds : List Difference) (events : ℕ) (far : ℕ → ℕ → �
 found_more bounds events far bound found named ordered room = record {
   named = All-push (NamesEvents events) bounds bound found.named named;
   closed = narrower-closed events far bound found.closed named ordered room;
-  tight = narrower-tight bounds events far bound found.closed named found.tight;
+  tight = narrower-tight bounds events far bound found.closed.shortest named found.tight;
   along = along-shorter more events (shorter far bound.from bound.to bound.hi) (record { place = length bounds; side = Lower }) bound.to bound.from (neg_ℤ bound.lo) there (ap (λ b. arc b Lower) last) named.to named.from
       (along-shorter more events far (record { place = length bounds; side = Upper }) bound.from bound.to bound.hi there (ap (λ b. arc b Upper) last) named.from named.to onward);
 }
@@ -107,32 +106,12 @@ abbrev widest : ℕ → ℕ → ℤ
 widest x y = cond (eqb y 0) (pos 0) (cond (eqb x y) (pos 0) horizon)
 
 widest_is : (events : ℕ) → IsWidest events widest
-widest_is events = record {
-  origin = λ x xs. refl;
-  itself = λ x xs. itself x (eqb x 0) (eqb x x) refl;
-  others = λ x y xs ys apart differ. others x y (eqb y 0) (eqb x y) refl refl apart differ;
-}
-  where
-    itself : (x : ℕ) (a b : Bool) → eqb x x ≡ b → cond a (pos 0) (cond b (pos 0) horizon) ≡ pos 0
-    itself x true b e = refl
-    itself x false true e = refl
-    itself x false false e = absurd (eqb-false x x e refl)
-
-    others : (x y : ℕ) (a b : Bool) → eqb y 0 ≡ a → eqb x y ≡ b → y ≢ 0 → x ≢ y → cond a (pos 0) (cond b (pos 0) horizon) ≡ horizon
-    others x y true b e f apart differ = absurd (apart (eqb-true y 0 e))
-    others x y false true e f apart differ = absurd (differ (eqb-true x y f))
-    others x y false false e f apart differ = refl
+widest_is events = search (rules)
 
 horizon_at : (events place : ℕ) → place < events → bound_at (horizon_bounds events) place ≡ horizon_bound (suc place)
 unfolding horizon_bounds
 horizon_at zero place below = absurd (omega arith)
-horizon_at (suc events) place below =
-    elim (cases_lt place events) [
-      | inl before ↦ get_or_append_left (horizon_bounds events) (horizon_bound (suc events) ∷ []) _ place (omega (arith, length-horizon_bounds events)) ∙ horizon_at events place before
-      | inr past ↦
-          let last : events ≡ place = omega arith in
-          get_or_push (horizon_bounds events) (horizon_bound (suc events)) _ place (length-horizon_bounds events ∙ last) ∙ ap (λ n. horizon_bound (suc n)) last
-    ]
+horizon_at (suc events) place below = search (rules, get_or_append_left, length-horizon_bounds, get_or_push, (horizon_at events place))
 
 module _ (events : ℕ) where
   -- a chain from an event to the origin
@@ -157,7 +136,7 @@ module _ (events : ℕ) where
       let link : Link = record { place = y; side = Upper } in
       let is : arc_of (horizon_bounds events) (record { place = y; side = Upper }) ≡ record { from = 0; to = suc y; weight = horizon } = ap (λ b. arc b Upper) at in (
         links ++ link ∷ [],
-        chain-append (horizon_bounds events) links (link ∷ []) x 0 (suc y) chain (omega (arith, length-horizon_bounds events), ap (λ (a : Arc). a.from) is, ap (λ (a : Arc). a.to) is),
+        chain-append _ links _ x 0 _ chain (omega (arith, length-horizon_bounds events), ap (λ (a : Arc). a.from) is, ap (λ (a : Arc). a.to) is),
         omega (arith, ints, weight-append (horizon_bounds events) links (link ∷ []), weighs, ap (λ (a : Arc). a.weight) is),
       )
 
@@ -180,8 +159,8 @@ room_or_none far bound = search rules
 none_without_room : (bounds : List Difference) (events : ℕ) (far : ℕ → ℕ → ℤ) (bound : Difference) → AreFound bounds events far → NamesEvents events bound → ¬ HasRoom far bound
     → ¬ HasSchedule (bounds ++ bound ∷ [])
 none_without_room bounds events far bound found named none (time, is) =
-    let before = schedule_before bounds (bound ∷ []) time is in
-    let met = schedule_last bounds bound time is in
+    let before = schedule_before _ _ time is in
+    let met = schedule_last _ bound time is in
     let forth = found.tight.sound time before bound.from bound.to named.from named.to in
     let back = found.tight.sound time before bound.to bound.from named.to named.from in
     omega (arith, ints)
@@ -196,18 +175,18 @@ found_up_to events bounds begins each (suc more) count is few =
     let bound = bound_at bounds (events + more) in
     let one : IsInOrder events (bound_at bounds (events + more)) = each (events + more) _ there in
     let e : (events + more) + 1 ≡ count = omega arith in
-    let pushed : take (events + more) bounds ++ bound_at bounds (events + more) ∷ [] ≡ take count bounds = cc (take_more bounds (events + more) _ there) in
-    elim (found_up_to events bounds begins each more (events + more) refl (omega arith)) [
+    let pushed : take (events + more) bounds ++ bound_at bounds (events + more) ∷ [] ≡ take count bounds = cc (take_more _ _ _ there) in
+    elim (found_up_to _ _ begins each more _ refl (omega arith)) [
       | inr refused ↦ inr refused
       | inl (far, found) ↦ elim (room_or_none far bound) [
-        | inl room ↦ inl (narrower far bound, subst (λ (l : List Difference). AreFound l events (narrower far bound)) pushed (found_more (take (events + more) bounds) events far bound found one.named one.ordered room))
+        | inl room ↦ inl (narrower far bound, subst (λ (l : List Difference). AreFound l events (narrower far bound)) pushed (found_more _ _ far bound found one.named one.ordered room))
         | inr none ↦ inr (
           events + more,
           far,
           record {
             there = there;
             before = found;
-            refused = subst (λ (l : List Difference). ¬ HasSchedule l) (sym (take_more bounds (events + more) _ there)) (none_without_room (take (events + more) bounds) events far bound found one.named none);
+            refused = subst (λ (l : List Difference). ¬ HasSchedule l) (sym (take_more _ _ _ there)) (none_without_room _ _ far bound found one.named none);
           },
         )
       ]
@@ -218,7 +197,5 @@ pub found_or_refused : (events : ℕ) (bounds : List Difference) → take events
     → ((far : ℕ → ℕ → ℤ) × AreFound bounds events far) ⊎ ((place : ℕ) × (far : ℕ → ℕ → ℤ) × IsFirstRefused bounds events place far)
 found_or_refused events bounds begins many each =
     let whole : take (length bounds) bounds ≡ bounds = take_all (length bounds) bounds (omega arith) in
-    elim (found_up_to events bounds begins each (length bounds - events) (length bounds) (omega arith) (omega arith)) [
-      | inl (far, found) ↦ inl (far, subst (λ (l : List Difference). AreFound l events far) whole found)
-      | inr refused ↦ inr refused
-    ]
+    let either = found_up_to events bounds begins each (length bounds - events) (length bounds) (omega arith) (omega arith) in
+    search rules

@@ -1,24 +1,23 @@
 -- Where there are tightest differences along which chains lead, each event has its level and its way.
-use Rattle.std.{proofs.{Common.{rules, ◌≡◌, inl, inr, ℕ, zero, suc, ◌+◌, ◌*◌, ◌<◌, ◌≤◌, List, [], ◌∷◌, ◌++◌, length, refl, sym, subst, ap, ◌∙◌, arith}, lemmas.{Bool.{cases_lt, cases_eq}, Int.ints, List.length_push}}, specs.{Prelude.{ℤ, ◌+ℤ◌, ◌≤ℤ◌}, List.AllByRecursion}}
+use Rattle.std.{proofs.{Common.{rules, ◌≡◌, inl, inr, ℕ, zero, suc, ◌+◌, ◌<◌, ◌≤◌, List, [], ◌∷◌, ◌++◌, length, refl, sym, subst, ap, ◌∙◌, arith}, lemmas.{Bool.{cases_lt, cases_eq}, Int.ints, List.length_push}}, specs.{Prelude.{ℤ, ◌+ℤ◌, ◌≤ℤ◌}, List.AllByRecursion}}
 use Rattle.stn_time.proofs.Each.{each_parted, each_pushed}
 use Rattle.stn_net.{specs.Difference.{Difference, NamesEvents}, proofs.Told.{Told, both_told, told_as, same_told, least_below}}
-use Rattle.stn_conflict.{specs.{declared.links.{Link.Link, Side.{Side, TheVariants.{Upper, Lower}}}, Arcs.{arc, arc_of, bound_at, IsChain, weight_of}, Named.{IsTight, IsTightChain, IsLevel, IsLevelStep, IsFirstStep, IsWay}}, proofs.{Tightness.{link_reaches, tight_from_sum, sum_from_tight}, Chains.{chain-push, chain-unpush, last_of}, OneCycle.level_unique, Steps.rank_within}}
+use Rattle.stn_conflict.{specs.{declared.links.{Link.Link, Side.Side}, Arcs.{arc, arc_of, IsChain, weight_of}, Named.{IsTight, IsTightChain, IsLevel, IsLevelStep, IsFirstStep, IsWay}}, proofs.{Tightness.{link_reaches, tight_from_sum, sum_from_tight}, Chains.{chain-push, chain-unpush, last_of}, OneCycle.level_unique, Steps.rank_within}}
 use Rattle.stn_laws.proofs.questions.{Found.{AreFound, tightest_found}, Chosen.{first_below, first_of_some}}
 
 -- the ends of a side of a bound are its events
 pub ends_within : (events : ℕ) (bound : Difference) (side : Side) → NamesEvents events bound → ((arc bound side).from ≤ events) × ((arc bound side).to ≤ events)
-ends_within events bound Upper named = (named.from, named.to)
-ends_within events bound Lower named = (named.to, named.from)
+ends_within events bound side named = search rules
 
-module _ (bounds : List Difference) (events : ℕ) (far : ℕ → ℕ → ℤ) (found : AreFound bounds events far) (start : ℕ) (start_within : start ≤ events) where
+module _ {bounds : List Difference} {events : ℕ} {far : ℕ → ℕ → ℤ} (found : AreFound bounds events far) (start : ℕ) (start_within : start ≤ events) where
   link_within : (link : Link) → link.place < length bounds → ((arc_of bounds link).from ≤ events) × ((arc_of bounds link).to ≤ events)
-  link_within link there = ends_within events (bound_at bounds link.place) link.side (found.named link.place _ there)
+  link_within link there = search (rules)
 
   -- ---- a chain that weighs the tightest difference is one of tight links
   reaches : (link : Link) → link.place < length bounds → far start (arc_of bounds link).to ≤ℤ (far start (arc_of bounds link).from +ℤ (arc_of bounds link).weight)
   reaches link there =
       let (from, to) = link_within link there in
-      link_reaches bounds start link _ _ there (tightest_found bounds events far found start _ start_within from) (tightest_found bounds events far found start _ start_within to)
+      link_reaches bounds start link _ _ there (tightest_found found start _ start_within from) (tightest_found found start _ start_within to)
 
   chain_reaches : (links : List Link) (x y : ℕ) → IsChain bounds links x y → far start y ≤ℤ (far start x +ℤ weight_of bounds links)
   chain_reaches [] x y chain = omega (arith, ints, ap (far start) chain)
@@ -33,14 +32,14 @@ module _ (bounds : List Difference) (events : ℕ) (far : ℕ → ℕ → ℤ) (
       let others = chain_reaches links _ y rest in
       let sum : far start (arc_of bounds link).from +ℤ (arc_of bounds link).weight ≡ far start (arc_of bounds link).to = omega (arith, ints) in
       let onward : far start y ≡ far start (arc_of bounds link).to +ℤ weight_of bounds links = omega (arith, ints) in (
-        tight_from_sum bounds start link _ _ there (tightest_found bounds events far found start _ start_within begin) (tightest_found bounds events far found start _ start_within end) sum,
+        tight_from_sum bounds start link _ _ there (tightest_found found start _ start_within begin) (tightest_found found start _ start_within end) sum,
         tight_along links _ y rest onward,
       )
 
   some_tight_chain : (x : ℕ) → x ≤ events → (links : List Link) × IsTightChain bounds start x links
   some_tight_chain x within =
       let (links, chain, weighs) = found.along start x start_within within in
-      let itself = found.closed.itself start start_within in
+      let itself = found.closed.shortest.itself start start_within in
       search (rules, tight_along, ints)
 
   -- a chain of no links is at its start
@@ -51,20 +50,20 @@ module _ (bounds : List Difference) (events : ℕ) (far : ℕ → ℕ → ℤ) (
   -- ---- whether a link is tight can be told, and so can levels
   tight_told : (link : Link) → Told (IsTight bounds start link)
   tight_told link =
-      elim (cases_lt link.place (length bounds)) [
+      elim (cases_lt _ _) [
         | inr past ↦ inr (λ tight. omega (arith, tight.there))
         | inl there ↦
             let (begin, end) = link_within link there in
-            let near = tightest_found bounds events far found start _ start_within begin in
-            let last = tightest_found bounds events far found start _ start_within end in
-            elim (same_told (far start (arc_of bounds link).from +ℤ (arc_of bounds link).weight) (far start (arc_of bounds link).to)) [
-              | inl e ↦ inl (tight_from_sum bounds start link _ _ there near last e)
-              | inr differs ↦ inr (λ tight. differs (sum_from_tight bounds start link _ _ near last tight))
+            let near = tightest_found found start _ start_within begin in
+            let last = tightest_found found start _ start_within end in
+            elim (same_told _ _) [
+              | inl e ↦ inl (tight_from_sum _ start link _ _ there near last e)
+              | inr differs ↦ inr (λ tight. differs (sum_from_tight _ start link _ _ near last tight))
             ]
       ]
 
   number_told : (a b : ℕ) → Told (a ≡ b)
-  number_told a b = elim (cases_eq a b) [ inl e ↦ inl e | inr differs ↦ inr differs ]
+  number_told a b = let either = cases_eq a b in search rules
 
   abbrev HasChain : ℕ → ℕ → Type 0
   HasChain n x = (links : List Link) × IsTightChain bounds start x links × (length links ≡ n)
@@ -80,8 +79,8 @@ module _ (bounds : List Difference) (events : ℕ) (far : ℕ → ℕ → ℤ) (
       let (links, chain, long) = last.before in (
         links ++ link ∷ [],
         record {
-          chain = subst (λ z. IsChain bounds (links ++ link ∷ []) start z) last.ends (chain-push bounds links link start _ chain.chain last.tight.there refl);
-          tight = each_pushed (IsTight bounds start) links link chain.tight last.tight;
+          chain = subst (λ z. IsChain bounds (links ++ link ∷ []) start z) last.ends (chain-push _ links link start _ chain.chain last.tight.there refl);
+          tight = each_pushed _ links link chain.tight last.tight;
         },
         omega (arith, length_push links link),
       )
@@ -90,24 +89,20 @@ module _ (bounds : List Difference) (events : ℕ) (far : ℕ → ℕ → ℤ) (
   unpush n x ([], chain, long) = absurd (omega (arith, long))
   unpush n x (first ∷ rest, chain, long) =
       let (init, last, e) = last_of first rest in
-      let parts = chain-unpush bounds init last start x (subst (λ l. IsChain bounds l start x) e chain.chain) in
-      let (others, tight) = each_parted (IsTight bounds start) init (last ∷ []) (subst (AllByRecursion (IsTight bounds start)) e chain.tight) in
+      let parts = chain-unpush _ init last start x (subst (λ l. IsChain bounds l start x) e chain.chain) in
+      let (others, tight) = each_parted _ init _ (subst (AllByRecursion (IsTight bounds start)) e chain.tight) in
       (last, record { tight = tight.0; ends = parts.ends; before = (init, record { chain = parts.before; tight = others }, omega (arith, long, ap length e, length_push init last)) })
 
   chain_told : (n x : ℕ) → Told (HasChain n x)
-  chain_told zero x =
-      elim (cases_eq start x) [
-        | inl e ↦ inl ([], record { chain = e; tight = tt }, refl)
-        | inr differs ↦ inr (λ (links, chain, long). differs (none_long links x chain.chain long))
-      ]
+  chain_told zero x = let either = cases_eq start x in search (rules, none_long)
   chain_told (suc n) x =
       let told : (link : Link) → Told (IsLast n x link) = λ link.
-      told_as (IsTight bounds start link × (((arc_of bounds link).to ≡ x) × HasChain n (arc_of bounds link).from)) (IsLast n x link)
+      told_as _ _
       (λ parts. record { tight = parts.0; ends = parts.1.0; before = parts.1.1 }) (λ last. (last.tight, (last.ends, last.before)))
       (both_told (IsTight bounds start link) _ (tight_told link) (both_told ((arc_of bounds link).to ≡ x) _ (number_told _ x) (chain_told n (arc_of bounds link).from))) in
-      elim (first_below (IsLast n x) told (2 * length bounds)) [
+      elim (first_below _ told _) [
         | inl (link, last, first) ↦ inl (push n x link last)
-        | inr none ↦ inr (λ chain. let (link, last) = unpush n x chain in none link (rank_within (length bounds) link last.tight.there) last)
+        | inr none ↦ inr (λ chain. let (link, last) = unpush n x chain in none link (rank_within _ link last.tight.there) last)
       ]
 
   pub some_level : (x : ℕ) → x ≤ events → (level : ℕ) × IsLevel bounds start x level
@@ -119,7 +114,7 @@ module _ (bounds : List Difference) (events : ℕ) (far : ℕ → ℕ → ℤ) (
           level,
           record {
             reached = reached;
-            least = λ others other. elim (cases_lt (length others) level) [
+            least = λ others other. elim (cases_lt _ level) [
               | inl below ↦ absurd (none (length others) below (others, other, refl))
               | inr past ↦ past
             ];
@@ -136,12 +131,12 @@ module _ (bounds : List Difference) (events : ℕ) (far : ℕ → ℕ → ℤ) (
             let (begin, end) = link_within link tight.there in
             let (low, low_is) = some_level _ begin in
             let (high, high_is) = some_level _ end in
-            elim (cases_eq high (suc low)) [
+            elim (cases_eq high _) [
               | inl e ↦ inl (record { tight = tight; level = (low, low_is, subst (IsLevel bounds start (arc_of bounds link).to) e high_is) })
               | inr differs ↦ inr (λ step.
                   let (level, from, to) = step.level in
-                  let same = level_unique bounds start _ level low from low_is in
-                  let next = level_unique bounds start _ (suc level) high to high_is in
+                  let same = level_unique _ start _ level low from low_is in
+                  let next = level_unique _ start _ _ high to high_is in
                   differs (sym next ∙ ap suc same))
             ]
       ]
@@ -159,23 +154,23 @@ module _ (bounds : List Difference) (events : ℕ) (far : ℕ → ℕ → ℤ) (
       let few = low_is.least before.0 before.1 in
       let (links, chain, long) = push low x link (record { tight = last.tight; ends = last.ends; before = low_is.reached }) in
       let many = is.least links chain in
-      let same : low ≡ level = omega (arith, before.2, few, many, long) in search rules
+      search rules
 
   way_by_level : (level x : ℕ) → IsLevel bounds start x level → (links : List Link) × IsWay bounds start x links
-  way_by_level zero x is = let (links, chain, long) = is.reached in ([], record { chain = none_long links x chain.chain long; first = tt })
+  way_by_level zero x is = search (rules, none_long)
   way_by_level (suc level) x is =
       let some = some_step level x is in
       let told : (link : Link) → Told (LeadsTo x link) = search (rules, both_told, step_told, number_told) in
-      let (link, (step, ends), none) = first_of_some (LeadsTo x) told some.0 some.1 in
+      let (link, (step, ends), none) = first_of_some _ told _ some.1 in
       let (low, from, to) = step.level in
       let same : suc low ≡ suc level = search rules in
       let lower : low ≡ level = omega (arith, same) in
-      let (links, way) = way_by_level level (arc_of bounds link).from (subst (IsLevel bounds start (arc_of bounds link).from) lower from) in
+      let (links, way) = way_by_level level _ (subst (IsLevel bounds start (arc_of bounds link).from) lower from) in
       let first : IsFirstStep bounds start link = search rules in (
         links ++ link ∷ [],
         record {
-          chain = subst (λ z. IsChain bounds (links ++ link ∷ []) start z) ends (chain-push bounds links link start _ way.chain step.tight.there refl);
-          first = each_pushed (IsFirstStep bounds start) links link way.first first;
+          chain = subst (λ z. IsChain bounds (links ++ link ∷ []) start z) ends (chain-push _ links link start _ way.chain step.tight.there refl);
+          first = each_pushed _ links link way.first first;
         },
       )
 

@@ -1,7 +1,8 @@
 -- One list says which events are ready.
-use Rattle.std.{proofs.{Common.{rules, ◌≡◌, ℕ, ℤ, zero, suc, ◌+◌, ◌<◌, Bool, true, false, cond, eqb, List, [], ◌∷◌, length, get_or, All, Some, refl, sym, ap, subst, ◌∙◌, arith, ⊎_elim}, lemmas.{Bool.{cases_lt, eq-eqb, Decides.nat_tests}, Int.ints, List.{Elements.All-tail, Sums.sum_by-cons}}}, specs.List.AllPairs}
-use Rattle.stn_net.specs.{Difference.Difference, Windows.Dispatch.{IsReady, AreReadyTimes}}
+use Rattle.std.{proofs.{Common.{rules, ◌≡◌, ℕ, ℤ, zero, suc, ◌+◌, ◌<◌, Bool, true, false, cond, eqb, List, [], ◌∷◌, length, get_or, All, Some, refl, sym, ap, subst, arith, ⊎_elim}, lemmas.{Bool.{cases_lt, eq-eqb, Decides.nat_tests}, Int.ints, List.{Elements.All-tail, Sums.sum_by-cons}}}, specs.List.AllPairs}
+use Rattle.stn_net.specs.{Difference.Difference, Windows.Dispatch.AreReadyTimes}
 use Rattle.stn_questions.{specs.{declared.ready_event.ReadyEvent.ReadyEvent, Ready.{IsBefore, AreReadyEvents}}, proofs.ReadyLists.{counted, HasTimes}}
+use Rattle.stn_laws.proofs.One.{IsOne}
 
 abbrev one_or_none : Bool → ℕ
 one_or_none same = cond same 1 0
@@ -34,9 +35,7 @@ module _ (bounds : List Difference) (done : List Bool) (now : ℤ) where
   same_ends event a b c d p q = search rules
 
   same_event : (x y : ReadyEvent) → HasTimes bounds done now x → HasTimes bounds done now y → x.event ≡ y.event → x ≡ y
-  same_event x y p q e =
-      let ends = same_ends y.event x.first x.last y.first y.last (subst (λ n. AreReadyTimes bounds done now n (Some (x.first, x.last))) e p) q in
-      search rules
+  same_event x y p q e = let ends = same_ends _ _ _ _ _ (subst (λ n. AreReadyTimes bounds done now n (Some (x.first, x.last))) e p) q in search rules
 
   -- of two lists with the same events the first is the same
   same_first : (x y : ReadyEvent) (xs ys : List ReadyEvent) → All (HasTimes bounds done now) (x ∷ xs) → All (HasTimes bounds done now) (y ∷ ys)
@@ -77,15 +76,14 @@ module _ (bounds : List Difference) (done : List Bool) (now : ℤ) where
       let d : ReadyEvent = record { first = now; event = 0; last = now } in
       let times : HasTimes bounds done now (one d) = p.times there.0 d there.1 in
       let able = (times.1 (one d).first).1 (omega (arith, ints), times.0) in
-      let able_here = subst (λ n. IsReady bounds done n (one d).first) (there.2 d) able.1 in
       search rules
 
   -- one list says which events are ready
-  pub one_list : (xs ys : List ReadyEvent) → AreReadyEvents bounds done now xs → AreReadyEvents bounds done now ys → xs ≡ ys
+  pub one_list : IsOne (AreReadyEvents bounds done now)
   one_list xs ys p q = same_lists xs ys p.times q.times p.order q.order by
     where
       by : (event : ℕ) → counted xs event ≡ counted ys event
       by event = ⊎_elim
           (λ some. counts_once xs ys p q event some)
-          (λ none. ⊎_elim (λ some. sym (counts_once ys xs q p event some)) (λ other. omega arith) (cases_lt 0 (counted ys event)))
-          (cases_lt 0 (counted xs event))
+          (λ none. ⊎_elim (λ some. sym (counts_once ys xs q p event some)) (λ other. omega arith) (cases_lt 0 _))
+          (cases_lt 0 _)

@@ -18,7 +18,7 @@ module _ (bounds : List Difference) (done : List Bool) (now : ℤ) where
         left = ready.left;
         possible = (
           (λ y. int_min (times y) (early.0 y +ℤ (later -ℤ time))),
-          lesser_schedule bounds times early.0 (later -ℤ time) schedule early.1 (omega (arith, ints)),
+          lesser_schedule _ times _ _ schedule early.1 (omega (arith, ints)),
           omega (arith, ints, clamps),
           (λ other left. let one = none other left in let two = early.3 other left in omega (arith, ints, clamps)),
         );
@@ -32,7 +32,7 @@ module _ (bounds : List Difference) (done : List Bool) (now : ℤ) where
       by_lt_z y.last x.first
       (λ (before : y.last <ℤ x.first). let order = p.0 in omega (arith, ints))
       (λ (after : x.first ≤ℤ y.last).
-      let moved = ready_later x.event x.first y.last last.1.possible.0 first.1 after last.1.possible.1 last.1.possible.3 in
+      let moved = ready_later _ _ _ _ first.1 after last.1.possible.1 last.1.possible.3 in
       ((p.1 y.last).0 (last.0, moved)).1)
 
   -- the list of the events that are ready, where this one comes next
@@ -57,8 +57,8 @@ module _ (bounds : List Difference) (done : List Bool) (now : ℤ) where
         (λ i. record { first = at i; event = is i; last = one.last } ∷ others),
         (λ place d behind.
             let r : HasTimes bounds done now (get_or others place d) = are.times (suc place) d (omega arith) in
-            let a = none_after one (get_or others place d) p r in
-            let b = none_after (get_or others place d) one r p in
+            let a = none_after one _ p r in
+            let b = none_after _ one r p in
             omega (arith, ints)),
       )
 
@@ -71,7 +71,7 @@ begins_with_next source state now time event text next p = ⊎_elim
     let done = done_events source state in
     let same = one_next bounds done now says.answer (Run time event) says.next next in
     let lines : AreReadyLines bounds done now text = subst (λ answer. IsReadyAnswer bounds done now answer text) same says.said in
-    let list = next_first bounds done now time event lines.ready next lines.events in
+    let list = next_first _ done now time event _ next lines.events in
     record { last = list.0; others = list.1; lines = lines.lines ∙ ap (flat_map ready_line) list.2; until = list.3 })
     (λ says. absurd (says.conflict (next.ready.possible.0, next.ready.possible.1)))
     p

@@ -9,27 +9,27 @@ use Rattle.stn_site.{specs.{Bounds.all_bounds, Lines.line, Dispatch.IsRestWith},
 use Rattle.stn_questions.specs.Ready.{IsReadyWith, ready_line}
 use Rattle.stn_laws.proofs.questions.{Found.{possible_found, tightest_found}, SomeReport.{IsSoundState, differences}, SomeReady.some_ready_events}
 
-module _ (source : PlanSource) (state : Content) (sound : IsSoundState source state) where
+module _ {source : PlanSource} {state : Content} (sound : IsSoundState source state) where
   -- all bounds have a schedule, or none
   pub possible_or_none : HasSchedule (all_bounds source state) ⊎ (¬ HasSchedule (all_bounds source state))
   possible_or_none =
-      elim (differences source state sound) [
-        | inl (far, found) ↦ inl (possible_found (all_bounds source state) (events_of source) far found)
-        | inr (place, far, first) ↦ inr (λ (time, is). first.refused (time, schedule_before (all_bounds source state) (place + 1) time is))
+      elim (differences sound) [
+        | inl (far, found) ↦ inl (possible_found found)
+        | inr (place, far, first) ↦ inr (λ (time, is). first.refused (time, schedule_before _ _ time is))
       ]
 
   flagged : HasSchedule (all_bounds source state) → (done : List Bool) → length done ≡ events_of source + 1 → (table : Table) × AreFlagged (all_bounds source state) table done
   flagged (time, is) done one_each =
-      elim (differences source state sound) [
+      elim (differences sound) [
         | inl (far, found) ↦ (
           table_of (events_of source) far,
           record {
-            exact = exact_of_tightest (all_bounds source state) (events_of source) far found.named (possible_found (all_bounds source state) (events_of source) far found)
-                (tightest_found (all_bounds source state) (events_of source) far found);
+            exact = exact_of_tightest _ _ far found.named (possible_found found)
+                (tightest_found found);
             one_each = one_each;
           },
         )
-        | inr (place, far, first) ↦ absurd (first.refused (time, schedule_before (all_bounds source state) (place + 1) time is))
+        | inr (place, far, first) ↦ absurd (first.refused (time, schedule_before _ _ time is))
       ]
 
   -- something comes next
@@ -41,8 +41,7 @@ module _ (source : PlanSource) (state : Content) (sound : IsSoundState source st
   pub some_rehearsal : HasSchedule (all_bounds source state) → (done : List Bool) → length done ≡ events_of source + 1 → (now : ℤ)
       → ((runs : List (ℤ × ℕ)) × IsRehearsal (all_bounds source state) done now runs)
       ⊎ ((event : ℕ) × IsRehearseFault (all_bounds source state) done now (fault.Overdue event))
-  some_rehearsal possible done one_each now =
-      (let (table, are) = flagged possible done one_each in rehearsed_or_overdue (all_bounds source state) table done now are)
+  some_rehearsal possible done one_each now = (let (table, are) = flagged possible done one_each in rehearsed_or_overdue _ table done now are)
 
   -- a text says which events may run
   pub some_ready : (done : List Bool) → length done ≡ events_of source + 1 → (now : ℤ) → (text : List ℕ) × IsReadyWith (all_bounds source state) done now text
@@ -56,7 +55,7 @@ module _ (source : PlanSource) (state : Content) (sound : IsSoundState source st
           → (text : List ℕ) × IsReadyWith (all_bounds source state) done now text
       by possible (Run time event) next =
           let (table, are) = flagged possible done one_each in
-          let (ready, events) = some_ready_events (all_bounds source state) table done now are in (
+          let (ready, events) = some_ready_events _ table done now are in (
             flat_map ready_line ready,
             inl (record { possible = possible; answer = Run time event; next = next; said = record { ready = ready; events = events; lines = refl } }),
           )
@@ -65,15 +64,15 @@ module _ (source : PlanSource) (state : Content) (sound : IsSoundState source st
           (line (codes "overdue " ++ event_text event), inl (record { possible = possible; answer = Overdue event; next = next; said = refl }))
 
 -- a rehearsal is the rest of the plan
-pub some_rest : (source : PlanSource) (state : Content) → IsSoundState source state → AllProper state.additions → HasSchedule (all_bounds source state)
+pub some_rest : {source : PlanSource} {state : Content} → IsSoundState source state → AllProper state.additions → HasSchedule (all_bounds source state)
     → (done : List Bool) → length done ≡ events_of source + 1 → (now : ℤ)
     → ((runs : List (ℤ × ℕ)) × IsRestWith source state done now runs) ⊎ ((event : ℕ) × IsRehearseFault (all_bounds source state) done now (fault.Overdue event))
-some_rest source state sound proper possible done one_each now =
-    elim (some_rehearsal source state sound possible done one_each now) [
+some_rest {source} {state} sound proper possible done one_each now =
+    elim (some_rehearsal sound possible done one_each now) [
       | inr overdue ↦ inr overdue
       | inl (runs, rehearsal) ↦ inl (
         runs,
-        rest_of_plan source state done now runs proper rehearsal (rehearsed_once runs (all_bounds source state) done now rehearsal)
+        rest_of_plan source state done now runs proper rehearsal (rehearsed_once runs _ done now rehearsal)
             (rehearsed_rising runs (all_bounds source state) done now rehearsal) (rehearsed_in_time runs (all_bounds source state) done now possible rehearsal)
             (rehearsed_schedule runs (all_bounds source state) done now possible rehearsal),
       )

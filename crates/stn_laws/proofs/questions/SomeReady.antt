@@ -1,5 +1,5 @@
 -- The events that are ready have a list in their order.
-use Rattle.std.{proofs.{Common.{rules, ◌≡◌, ◌⊎◌, inl, inr, ℕ, ℤ, zero, suc, ◌+◌, ◌≤◌, Bool, eqb, cond, List, [], ◌∷◌, ◌++◌, get_or, All, Option, Some, None, refl, subst, add-one, ◌∙◌, arith}, lemmas.{Bool.cases_lt, Int.{ints, by_lt_z}, List.{Elements.{All-nil, All-cons, All-push}, Kept.AllPairs-cons, Sorted.{IsPermutation-refl, IsPermutation-cons, IsPermutation-middle, IsPermutation-trans, All-permutation, sum_by-IsPermutation}}}}, specs.List.{AllPairs, Sorted.IsPermutation}}
+use Rattle.std.{proofs.{Common.{rules, ◌≡◌, ◌⊎◌, inl, inr, ℕ, ℤ, zero, suc, ◌+◌, ◌≤◌, Bool, eqb, cond, List, [], ◌∷◌, ◌++◌, get_or, All, Option, Some, None, refl, ◌∙◌, arith}, lemmas.List.{Elements.{All-nil, All-cons, All-push}, Kept.AllPairs-cons, Sorted.{IsPermutation-refl, IsPermutation-cons, IsPermutation-middle, IsPermutation-trans, All-permutation, sum_by-IsPermutation}}}, specs.List.{AllPairs, Sorted.IsPermutation}}
 use Rattle.stn_net.{specs.{Difference.Difference, Matrix.Table.Table, Windows.Dispatch.AreReadyTimes}, proofs.{Readiness.left_within, ReadyTimes.some_ready_times, SomeNext.AreFlagged}}
 use Rattle.stn_questions.{specs.{declared.ready_event.ReadyEvent.ReadyEvent, Ready.{IsBefore, AreReadyEvents}}, proofs.ReadyLists.{counted, HasTimes, HasEachBelow, pushed_other, ready_pushed, ready_kept}}
 use Rattle.stn_laws.proofs.questions.OneReady.{first_before}
@@ -17,7 +17,7 @@ record IsOrdered (xs ys : List ReadyEvent) : Type 0 where
   order : AllPairs IsBefore ys
 
 one_ordered : (one : ReadyEvent) (xs : List ReadyEvent) → AllPairs IsBefore xs → (ys : List ReadyEvent) × IsOrdered (one ∷ xs) ys
-one_ordered one [] order = (one ∷ [], record { same = IsPermutation-refl (one ∷ []); order = AllPairs-cons IsBefore one [] (All-nil (IsBefore one)) order })
+one_ordered one [] order = (one ∷ [], record { same = IsPermutation-refl (one ∷ []); order = AllPairs-cons IsBefore one [] (All-nil _) order })
 one_ordered one (x ∷ xs) order =
     elim (before_or_after one x) [
       | inl before ↦ (
@@ -32,18 +32,18 @@ one_ordered one (x ∷ xs) order =
           let all : All (IsBefore x) (one ∷ xs) = All-cons (IsBefore x) one xs after (λ place d within. order 0 (suc place) d (omega arith) (omega arith)) in (
             x ∷ ys,
             record {
-              same = IsPermutation-trans (one ∷ x ∷ xs) (x ∷ one ∷ xs) (x ∷ ys) (IsPermutation-middle (one ∷ []) x xs) (IsPermutation-cons x (one ∷ xs) ys ordered.same);
+              same = IsPermutation-trans _ _ _ (IsPermutation-middle (one ∷ []) x xs) (IsPermutation-cons x (one ∷ xs) ys ordered.same);
               order = AllPairs-cons IsBefore x ys (All-permutation (IsBefore x) (one ∷ xs) ys ordered.same all) ordered.order;
             },
           )
     ]
 
 all_ordered : (xs : List ReadyEvent) → (ys : List ReadyEvent) × IsOrdered xs ys
-all_ordered [] = ([], record { same = IsPermutation-refl []; order = λ i j d less within. absurd (omega arith) })
+all_ordered [] = search (rules)
 all_ordered (x ∷ xs) =
     let (ys, rest) = all_ordered xs in
     let (zs, whole) = one_ordered x ys rest.order in
-    (zs, record { same = IsPermutation-trans (x ∷ xs) (x ∷ ys) zs (IsPermutation-cons x xs ys rest.same) whole.same; order = whole.order })
+    (zs, record { same = IsPermutation-trans _ _ zs (IsPermutation-cons x xs ys rest.same) whole.same; order = whole.order })
 
 -- ---- by number
 -- of the events with numbers below the limit, those that are ready, each once, and no other
@@ -59,7 +59,7 @@ module _ (bounds : List Difference) (table : Table) (done : List Bool) (now : �
     ready,
     record {
       times = so_far.times;
-      once = ready_kept bounds done now ready number number refl is so_far.once;
+      once = ready_kept _ done now ready _ _ refl is so_far.once;
       none = λ event past. so_far.none event (omega arith);
     },
   )
@@ -74,7 +74,7 @@ module _ (bounds : List Difference) (table : Table) (done : List Bool) (now : �
       )
 
   by_number : (limit : ℕ) → (ready : List ReadyEvent) × AreReadyBelow bounds done now limit ready
-  by_number zero = ([], record { times = All-nil (HasTimes bounds done now); once = λ event time below. absurd (omega arith); none = λ event past. refl })
+  by_number zero = search (rules, All-nil)
   by_number (suc number) =
       let (ready, so_far) = by_number number in
       let (times, is) = some_ready_times bounds table done now number are in

@@ -1,6 +1,6 @@
 -- What parts and images of lists have, and schedules of fewer bounds.
-use Rattle.std.{proofs.{Common.{◌≡◌, ℕ, ℤ, Bool, true, List, map, filter, refl, All}, lemmas.List.Elements.{All-contains, All-contains_itself, All-filter, All-map, All-weaker, filter_passes}}, specs.List.Contains}
-use Rattle.stn_net.specs.{Difference.Difference, Schedule.{Meets, IsSchedule, HasSchedule}}
+use Rattle.std.{proofs.{Common.{rules, ◌≡◌, Bool, true, List, [], ◌∷◌, ◌++◌, map, filter, refl, All, ⊎_elim}, lemmas.List.Elements.{Contains-append_cases, Contains-append_left, Contains-append_right, All-contains, All-contains_itself, All-filter, All-map, All-weaker, filter_passes}}, specs.List.Contains}
+use Rattle.stn_net.specs.{Difference.Difference, Schedule.{Meets, HasSchedule}}
 
 module _ {X : Type 0} where
   pub from_filter : (test : X → Bool) (xs : List X) (x : X) → Contains (filter test xs) x → Contains xs x × (test x ≡ true)
@@ -11,7 +11,7 @@ module _ {X : Type 0} where
 
   -- what holds of each element
   all_of : (P : X → Type 0) (xs : List X) → ((x : X) → Contains xs x → P x) → All P xs
-  all_of P xs f = All-weaker (Contains xs) P f xs (All-contains_itself xs)
+  all_of P xs f = All-weaker _ P f xs (All-contains_itself xs)
 
 module _ {X Y : Type 0} (f : X → Y) where
   abbrev IsImage : List X → Y → Type 0
@@ -20,12 +20,18 @@ module _ {X Y : Type 0} (f : X → Y) where
   pub from_map : (xs : List X) (y : Y) → Contains (map f xs) y → IsImage xs y
   from_map xs y has = All-contains (IsImage xs) (map f xs) y (All-map (IsImage xs) f xs (all_of (λ x. IsImage xs (f x)) xs (λ x found. (x, found, refl)))) has
 
--- a schedule of bounds is one of any that are among them
-schedule_of_fewer : (few many : List Difference) (time : ℕ → ℤ) → ((bound : Difference) → Contains few bound → Contains many bound) → IsSchedule many time → IsSchedule few time
-schedule_of_fewer few many time among is = record {
-  origin = is.origin;
-  met = all_of (Meets time) few (λ bound has. All-contains (Meets time) many bound is.met (among bound has));
-}
+-- all of the few are among the many
+abbrev pub AreAmong : List Difference → List Difference → Type 0
+AreAmong few many = (bound : Difference) → Contains few bound → Contains many bound
 
-pub fewer_have : (few many : List Difference) → ((bound : Difference) → Contains few bound → Contains many bound) → HasSchedule many → HasSchedule few
-fewer_have few many among (time, is) = (time, schedule_of_fewer few many time among is)
+pub both_among : (one other many : List Difference) → AreAmong one many → AreAmong other many → AreAmong (one ++ other) many
+both_among one other many first second bound there = ⊎_elim (first bound) (second bound) (Contains-append_cases one other bound there)
+
+-- so with one more
+pub more_among : (few many : List Difference) (bound : Difference) → AreAmong few many → AreAmong (few ++ bound ∷ []) (many ++ bound ∷ [])
+more_among few many bound are = search (rules, both_among, Contains-append_left, Contains-append_right)
+
+-- fewer bounds have a schedule where more have
+pub fewer_have : (few many : List Difference) → AreAmong few many → HasSchedule many → HasSchedule few
+fewer_have few many among (time, is) =
+    (time, record { origin = is.origin; met = all_of _ few (λ bound has. All-contains (Meets time) many bound is.met (among bound has)) })

@@ -1,13 +1,13 @@
 -- Each cause for which a command is declined is a refusal, and never a fault of a device or of memory.
-use Rattle.std.{proofs.{Common.{ℕ, ℤ, Bool, true, false, cond, List, [], ◌∷◌, length, Option, Some, None, IfSome, IfErr, arith}, lemmas.Grind.common_steps}, specs.{Option.option_map, Prelude.{◌==◌, option_and_then}}}
+use Rattle.std.{proofs.{Common.{rules, ℕ, ℤ, Bool, true, false, cond, List, [], ◌∷◌, length, Option, Some, None, IfSome, IfErr, arith}, lemmas.Grind.common_steps}, specs.{Option.option_map, Prelude.{◌==◌, option_and_then}}}
 use Rattle.stn_refusal.specs.declared.failure.Failure.{Failure, TheVariants.{Refused, Failed}}
 use Rattle.stn_text.specs.Numbers.{number_of}
 use Rattle.stn_records.specs.Content.{Content}
-use Rattle.stn_site.specs.{declared.{faults.ReplicaFault.ReplicaFault, change.Change.Change}, Change.change_refusal, Failures.replica_failure, Held.Held, Refusals.take_refusal}
+use Rattle.stn_site.specs.{declared.{faults.ReplicaFault.ReplicaFault, change.Change.Change}, Failures.replica_failure, Held.Held, Change.change_refusal, Refusals.take_refusal}
 use Rattle.stn_questions.specs.declared.words.Outlook.{Outlook}
-use Rattle.stn_world.specs.{declared.faults.WorldFault.WorldFault, Faults.of_replica_fault, Failures.world_failure, World.{World}, Steps.{Step, changed, merged, sent, delivered, step_refusal, send_refusal}}
+use Rattle.stn_world.specs.{World.{World}, Steps.{Step, changed, merged, sent, delivered, step_refusal, send_refusal}}
 use Rattle.stn_command.specs.Words.{time_read, times_read, side_read, bound_between}
-use Rattle.stn_exec.specs.Command.{Action, change, merge, deliver, query, sites_command, bound_asked, add_of, amend_of, withdraw_of, done_of, send_of, check_read, check_of, why_of, outlook_or_alone, action_of, command_of}
+use Rattle.stn_exec.specs.Command.{Action, change, query, sites_command, bound_asked, add_of, amend_of, done_of, send_of, check_read, check_of, why_of, outlook_or_alone, action_of, command_of}
 
 -- the failure is a refusal
 abbrev pub HasRefusal : Failure → Type 0
@@ -18,43 +18,40 @@ HasRefusal (Failed fault) = ⊥
 abbrev OfReplica : ReplicaFault → Type 0
 OfReplica fault = HasRefusal (replica_failure fault)
 
-abbrev pub OfWorld : WorldFault → Type 0
-OfWorld fault = HasRefusal (world_failure fault)
-
 change_fits : (held : Held) (asked : Change) → IfSome (change_refusal held asked) OfReplica
 change_fits held asked = grind (arith, common_steps)
 
 take_fits : (held : Held) (other : Content) → IfSome (take_refusal held other) OfReplica
-take_fits held other = grind (arith, common_steps)
+take_fits held other = grind (arith)
 
-replica_fits : (found : Option ReplicaFault) → IfSome found OfReplica → IfSome (option_map of_replica_fault found) OfWorld
+replica_fits : (found : Option ReplicaFault) → IfSome found OfReplica → IfSome (option_map replica_failure found) HasRefusal
 replica_fits found one = grind (arith, common_steps)
 
-pub step_fits : (world : World) (step : Step) → IfSome (step_refusal world step) OfWorld
+pub step_fits : (world : World) (step : Step) → IfSome (step_refusal world step) HasRefusal
 step_fits world (changed site asked) = grind (arith, common_steps, replica_fits, change_fits)
 step_fits world (merged site other) = grind (arith, common_steps, replica_fits, take_fits)
 step_fits world (sent site part) = grind (arith, common_steps)
 step_fits world (delivered site number) = grind (arith, common_steps, replica_fits, take_fits)
 
-pub send_fits : (world : World) (site : ℕ) (held : Bool) → IfSome (send_refusal world site held) OfWorld
+pub send_fits : (world : World) (site : ℕ) (held : Bool) → IfSome (send_refusal world site held) HasRefusal
 send_fits world site held = grind (arith, common_steps)
 
 -- ---- the words of times
 time_fits : (word : List ℕ) → IfErr (time_read word) HasRefusal
-time_fits word = grind (arith, common_steps)
+time_fits word = grind (arith)
 
 times_fits : (words : List (List ℕ)) → IfErr (times_read words) HasRefusal
 times_fits [] = tt
-times_fits (word ∷ words) = grind (arith, common_steps, time_fits, times_fits words)
+times_fits (word ∷ words) = grind (arith, time_fits, times_fits words)
 
 side_fits : (open_side : ℤ) (word : Option (List ℕ)) → IfErr (side_read open_side word) HasRefusal
-side_fits open_side word = grind (arith, common_steps, time_fits)
+side_fits open_side word = grind (arith, time_fits)
 
 between_fits : (from to : ℕ) (lo hi : Option (List ℕ)) → IfErr (bound_between from to lo hi) HasRefusal
-between_fits from to lo hi = grind (arith, common_steps, side_fits)
+between_fits from to lo hi = grind (arith, side_fits)
 
 bound_fits : (words : List (List ℕ)) → IfSome (bound_asked words) (λ bound. IfErr bound HasRefusal)
-bound_fits words = grind (arith, common_steps, between_fits)
+bound_fits words = grind (arith, between_fits)
 
 -- ---- the forms of commands
 -- what the action asks for could be read, or is refused
@@ -64,22 +61,19 @@ IsReadOrRefused (query asked) = IfErr asked HasRefusal
 IsReadOrRefused other = Unit {0}
 
 add_fits : (words : List (List ℕ)) → IfSome (add_of words) IsReadOrRefused
-add_fits words = grind (arith, common_steps, bound_fits)
+add_fits words = grind (arith, bound_fits)
 
 amend_fits : (words : List (List ℕ)) → IfSome (amend_of words) IsReadOrRefused
-amend_fits words = grind (arith, common_steps, bound_fits)
-
-withdraw_fits : (words : List (List ℕ)) → IfSome (withdraw_of words) IsReadOrRefused
-withdraw_fits words = grind (arith, common_steps)
+amend_fits words = grind (arith, bound_fits)
 
 done_fits : (words : List (List ℕ)) → IfSome (done_of words) IsReadOrRefused
-done_fits words = grind (arith, common_steps, time_fits)
+done_fits words = grind (arith, time_fits)
 
 number_fits : (make : ℕ → Action) (found : Option ℕ) → ((number : ℕ) → IsReadOrRefused (make number)) → IfSome (option_map make found) IsReadOrRefused
-number_fits make found each = grind (arith, common_steps, each)
+number_fits make found each = grind (arith, each)
 
 items_fits : (words : List (List ℕ)) → IfSome (send_of words) IsReadOrRefused
-items_fits words = grind (arith, common_steps)
+items_fits words = grind (arith)
 
 check_fits : (events : ℕ) (words : List (List ℕ)) → IfSome (check_of events words) IsReadOrRefused
 check_fits events words = by (length words == events)
@@ -89,10 +83,10 @@ check_fits events words = by (length words == events)
     by false = tt
 
 why_fits : (words : List (List ℕ)) → IfSome (why_of words) IsReadOrRefused
-why_fits words = grind (arith, common_steps)
+why_fits words = grind (arith)
 
 outlook_fits : (outlook : Option Outlook) (name : List ℕ) (words : List (List ℕ)) → IfSome (outlook_or_alone outlook name words) IsReadOrRefused
-outlook_fits outlook name words = grind (arith, common_steps, time_fits)
+outlook_fits outlook name words = grind (arith, time_fits)
 
 choice_fits : (test : Bool) (first second : Option Action) → IfSome first IsReadOrRefused → IfSome second IsReadOrRefused → IfSome (cond test first second) IsReadOrRefused
 choice_fits true first second one other = one
@@ -100,7 +94,7 @@ choice_fits false first second one other = other
 
 action_fits : (events : ℕ) (name : List ℕ) (words : List (List ℕ)) → IfSome (action_of events name words) IsReadOrRefused
 action_fits events name words =
-    search (choice_fits, add_fits, amend_fits, withdraw_fits, done_fits, number_fits merge, items_fits, number_fits deliver, check_fits, why_fits, outlook_fits) depth 14
+    search (rules, choice_fits, add_fits, amend_fits, done_fits, number_fits, items_fits, check_fits, why_fits, outlook_fits)
 
 pub command_fits : (events : ℕ) (words : List (List ℕ)) → IfSome (command_of events words) (λ command. IsReadOrRefused command.action)
 command_fits events [] = tt

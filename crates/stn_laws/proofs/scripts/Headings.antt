@@ -1,5 +1,5 @@
 -- A heading is read, with the source of a plan that is sound, or its cause is a refusal.
-use Rattle.std.proofs.{Common.{◌≡◌, ℕ, List, Option, Result, Ok, Err, IfErr, refl, arith}, lemmas.Grind.common_steps}
+use Rattle.std.proofs.Common.{rules, ◌≡◌, ℕ, List, Option, Result, Ok, Err, IfErr, refl, arith}
 use Rattle.stn_refusal.specs.declared.failure.Failure.{Failure}
 use Rattle.stn_lift.{specs.{declared.fault.BaseFault.BaseFault, PlanSource.{PlanSource, base_of, IsSoundSource}}, proofs.SoundSource.base_sound}
 use Rattle.stn_laws.proofs.scripts.{Causes.HasRefusal, Texts.{OfBase, base_fits}}
@@ -13,8 +13,7 @@ IsFitOrRefused Fits (Err failure) = HasRefusal failure
 
 then_fit : {X Y : Type 0} (Fits : X → Type 0) (Suits : Y → Type 0) (first : Result X Failure) (rest : X → Result Y Failure) → IsFitOrRefused Fits first
     → ((value : X) → Fits value → IsFitOrRefused Suits (rest value)) → IsFitOrRefused Suits (and_then first rest)
-then_fit Fits Suits (Ok value) rest one others = others value one
-then_fit Fits Suits (Err failure) rest one others = one
+then_fit Fits Suits first rest one others = search rules
 
 -- any value does
 abbrev Any : {X : Type 0} → X → Type 0
@@ -27,10 +26,10 @@ abbrev pub IsSoundStart : Start → Type 0
 IsSoundStart start = IsSoundSource start.source
 
 line_fits : {X : Type 0} (number : ℕ) (found : Option X) → IsFitOrRefused Any (or_line number found)
-line_fits number found = grind (arith, common_steps)
+line_fits number found = grind (arith)
 
 named_fits : (last : ℕ) (name : List ℕ) (found : Found) → IsFitOrRefused Any (named_block last name found)
-named_fits last name found = grind (arith, common_steps)
+named_fits last name found = grind (arith)
 
 base_made : (source : PlanSource) (number : ℕ) (lines : List (List ℕ)) → IsFitOrRefused IsSoundBase (with_base source number lines)
 base_made source number lines = by (base_of source) refl (base_fits source)
@@ -48,9 +47,9 @@ files_fit last found = search (then_fit {X = Block} Any IsSoundBase, then_fit {X
 
 based_fits : (last : ℕ) (lines : List (List ℕ)) → IsFitOrRefused IsSoundBase (based last lines)
 unfolding based
-based_fits last lines = grind (arith, common_steps, files_fit, bare_fits)
+based_fits last lines = grind (arith, files_fit, bare_fits)
 
 -- the heading of any lines
 pub heading_fits : (last : ℕ) (lines : List (List ℕ)) → IsFitOrRefused IsSoundStart (heading_of last lines)
 unfolding with_sites
-heading_fits last lines = grind (arith, common_steps, based_fits)
+heading_fits last lines = grind (arith, based_fits)

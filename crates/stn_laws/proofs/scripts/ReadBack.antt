@@ -1,15 +1,14 @@
 -- The printed line of a bound is read by an addition as the bound.
-use Rattle.std.{proofs.{Common.{◌≡◌, ℕ, ◌+◌, ◌-◌, ◌*◌, ◌/◌, ◌%◌, ◌<◌, ◌≤◌, ◌^◌, Bool, true, false, ◌==◌, cond, not, List, [], ◌∷◌, ◌++◌, length, ℤ, pos, negsuc, neg_ℤ, Option, Some, None, Ok, Err, codes, decimal, refl, sym, ap, ◌∙◌, arith, append_assoc, append-nil, bytes_eq}, lemmas.{Bool.{eqb-true, eqb-false, not-true, and_parts, and_from, Decides.{nat_tests, Decides-int_eq}}, Fmt.{digits_decimal, digits_value-decimal, decimal_nonempty}, Int.ints, List.Splits.slice_split-cons_no, Slice.Eq.bytes_eq-Decides}}, specs.{Prelude.{unsigned_abs, filter}, Char.is_ascii_digit, Fmt.sign_text, Int.is_negative, List.{list_all, slice_split, onto_first}, Ordering.int_eq, Str.{all_ascii_digits, Parse.digits_value}}}
+use Rattle.std.{proofs.{lemmas.{Grind.common_steps, Bool.{eqb-true, not-true, and_parts, and_from, Decides.Decides-int_eq}, Fmt.{digits_decimal, digits_value-decimal}, Int.ints, List.{Folds.list_all-append, Splits.{slice_split_at, slice_split_none}, Sums.AllPass-from_list_all}}, Common.{rules, ◌≡◌, ℕ, ◌+◌, ◌-◌, ◌*◌, ◌/◌, ◌%◌, ◌<◌, ◌≤◌, ◌^◌, Bool, true, false, ◌==◌, cond, not, List, [], ◌∷◌, ◌++◌, length, ℤ, neg_ℤ, Option, Some, None, Ok, Err, codes, decimal, refl, sym, ap, ◌∙◌, arith, append_assoc, append-nil, bytes_eq}}, specs.{Prelude.unsigned_abs, Fmt.sign_text, List.{All, list_all}, Ordering.int_eq, Str.{all_ascii_digits, Parse.digits_value}}}
 use Rattle.std.specs.FinMap as map
 use Rattle.stn_text.{specs.Lines.{is_gap, is_word, words_of}, proofs.Digits.own}
 use Rattle.stn_time.{specs.{Time.{horizon, IsWithinHorizon}, Text.{printed, whole_text, three_digits}, TimeOf.time_of, declared.reading.TimeFault.TheVariants.Malformed}, proofs.Prints.{time_of-printed, decimal-whole_text}}
 use Rattle.stn_net.specs.{Difference.Difference, Event.event_text}
 use Rattle.stn_records.specs.{Id.{SiteCounter, IsId, id_text}, Record.is_done_mark, declared.record.Record.Record, Content.Content}
 use Rattle.stn_site.specs.{declared.names.BoundName.BoundName, Lines.{line, done_text}, Names.name_text}
-use Rattle.stn_site.specs.declared.names.BoundName.TheVariants as kind
 use Rattle.stn_questions.specs.{Bounds.{lower_text, upper_text, bound_text, named_line}, Records.{held_text, amends_text, word_where, is_amended, record_line}}
 use Rattle.stn_laws.specs.ReadBack.{IsReadable, IsName, ReadsBack}
-use Rattle.stn_command.{specs.Words.{event_of, spelled, side_read}, proofs.Events.event_below-some}
+use Rattle.stn_command.{specs.Words.{event_of, side_read}, proofs.Events.event_below-some}
 use Rattle.stn_exec.specs.Command.{side_word, bound_asked}
 
 -- no byte parts words
@@ -26,29 +25,18 @@ abbrev is_apart : List ℕ → Bool
 is_apart [] = true
 is_apart (byte ∷ bytes) = byte == 32
 
-split_word : (word rest : List ℕ) → no_gap word ≡ true → slice_split is_gap (word ++ 32 ∷ rest) ≡ word ∷ slice_split is_gap rest
-split_word [] rest e = refl
-split_word (x ∷ xs) rest e =
-    let both = and_parts (not (is_gap x)) (no_gap xs) e in
-    slice_split-cons_no is_gap x (xs ++ 32 ∷ rest) (not-true (is_gap x) both.0) ∙ ap (onto_first x) (split_word xs rest both.1)
-
-split_last : (word : List ℕ) → no_gap word ≡ true → slice_split is_gap word ≡ word ∷ []
-split_last [] e = refl
-split_last (x ∷ xs) e =
-    let both = and_parts (not (is_gap x)) (no_gap xs) e in
-    slice_split-cons_no is_gap x xs (not-true (is_gap x) both.0) ∙ ap (onto_first x) (split_last xs both.1)
+gap_free : (word : List ℕ) → no_gap word ≡ true → All (λ byte. is_gap byte ≡ false) word
+gap_free word e = search (rules, not-true, AllPass-from_list_all)
 
 -- a word, a space, and what stands behind it
 words_behind : (word rest : List ℕ) → IsOneWord word → words_of (word ++ 32 ∷ rest) ≡ word ∷ words_of rest
 unfolding words_of
-words_behind [] rest is = let none = is.some in absurd (cc)
-words_behind (x ∷ xs) rest is = ap (filter is_word) (split_word (x ∷ xs) rest is.whole)
+words_behind word rest is = rw (slice_split_at is_gap word 32 rest (gap_free word is.whole) refl, is.some) refl
 
 -- a word alone
 word_alone : (word : List ℕ) → IsOneWord word → words_of word ≡ word ∷ []
 unfolding words_of
-word_alone [] is = let none = is.some in absurd (cc)
-word_alone (x ∷ xs) is = ap (filter is_word) (split_last (x ∷ xs) is.whole)
+word_alone word is = rw (slice_split_none is_gap word (gap_free word is.whole), is.some) refl
 
 -- a word and what stands apart behind it
 words_apart : (word tail : List ℕ) → IsOneWord word → is_apart tail ≡ true → (rest : List (List ℕ)) × (words_of (word ++ tail) ≡ word ∷ rest)
@@ -56,56 +44,39 @@ words_apart word [] is e = ([], ap words_of (append-nil word) ∙ word_alone wor
 words_apart word (byte ∷ bytes) is e =
     (words_of bytes, ap (λ (b : ℕ). words_of (word ++ b ∷ bytes)) (eqb-true byte 32 e) ∙ words_behind word bytes is)
 
-apart-append : (xs ys : List ℕ) → is_apart xs ≡ true → is_apart ys ≡ true → is_apart (xs ++ ys) ≡ true
-apart-append [] ys e f = f
-apart-append (x ∷ xs) ys e f = e
-
 -- five words, and what stands apart behind them
 five_words : (a b c d e tail : List ℕ) → IsOneWord a → IsOneWord b → IsOneWord c → IsOneWord d → IsOneWord e → is_apart tail ≡ true
     → (rest : List (List ℕ)) × (words_of (a ++ 32 ∷ (b ++ 32 ∷ (c ++ 32 ∷ (d ++ 32 ∷ (e ++ tail))))) ≡ a ∷ (b ∷ (c ∷ (d ∷ (e ∷ rest)))))
-five_words a b c d e tail is_a is_b is_c is_d is_e apart =
-    let last = words_apart e tail is_e apart in
-    (last.0, words_behind a _ is_a ∙ ap (λ l. a ∷ l) (words_behind b _ is_b ∙ ap (λ l. b ∷ l) (words_behind c _ is_c ∙ ap (λ l. c ∷ l) (words_behind d _ is_d ∙ ap (λ l. d ∷ l) last.1))))
+five_words a b c d e tail is_a is_b is_c is_d is_e apart = search (rules, words_apart, words_behind)
 
 -- a byte of a digit or above parts no words
 above_gaps : (byte : ℕ) → 48 ≤ byte → not (is_gap byte) ≡ true
-above_gaps byte le =
-    let space : (byte == 32) ≡ false = grind (arith, nat_tests) in
-    let tab : (byte == 9) ≡ false = grind (arith, nat_tests) in
-    let return : (byte == 13) ≡ false = grind (arith, nat_tests) in
-    rw space (rw tab (rw return refl))
-
-digit_no_gap : (byte : ℕ) → is_ascii_digit byte ≡ true → not (is_gap byte) ≡ true
-digit_no_gap byte e = above_gaps byte (grind (arith, nat_tests))
+above_gaps byte le = search (rules)
 
 digits_no_gap : (xs : List ℕ) → all_ascii_digits xs ≡ true → no_gap xs ≡ true
 digits_no_gap [] e = refl
-digits_no_gap (x ∷ xs) e = let both = and_parts _ _ e in and_from _ _ (digit_no_gap x both.0) (digits_no_gap xs both.1)
+digits_no_gap (x ∷ xs) e = search (rules, and_parts, and_from, (digits_no_gap xs))
 
 decimal_no_gap : (n : ℕ) → n < 2 ^ 64 → no_gap (decimal n) ≡ true
 decimal_no_gap n small = digits_no_gap (decimal n) (digits_decimal own n small)
 
 no_gap-append : (xs ys : List ℕ) → no_gap xs ≡ true → no_gap ys ≡ true → no_gap (xs ++ ys) ≡ true
-no_gap-append [] ys e f = f
-no_gap-append (x ∷ xs) ys e f = let both = and_parts _ _ e in and_from _ _ both.0 (no_gap-append xs ys both.1 f)
+no_gap-append xs ys e f = list_all-append (λ byte. not (is_gap byte)) xs ys ∙ and_from _ _ e f
 
 is_word-append : (xs ys : List ℕ) → is_word ys ≡ true → is_word (xs ++ ys) ≡ true
 is_word-append [] ys e = e
 is_word-append (x ∷ xs) ys e = refl
 
 some_word : (xs : List ℕ) → 0 < length xs → is_word xs ≡ true
-some_word [] lt = absurd (omega arith)
-some_word (x ∷ xs) lt = refl
+some_word xs lt = search rules
 
 -- the printed event is one word
 event_word-by : (event : ℕ) (zero odd : Bool) → event ≤ 512
     → IsOneWord (cond zero (codes "z") (cond odd (codes "s" ++ decimal (event / 2 + 1)) (codes "e" ++ decimal (event / 2))))
-event_word-by event true odd le = record { some = refl; whole = refl }
-event_word-by event false true le = record { some = refl; whole = decimal_no_gap (event / 2 + 1) (omega arith) }
-event_word-by event false false le = record { some = refl; whole = decimal_no_gap (event / 2) (omega arith) }
+event_word-by event zero odd le = search (rules, decimal_no_gap)
 
 event_word : (event : ℕ) → event ≤ 512 → IsOneWord (event_text event)
-event_word event le = event_word-by event (event == 0) (event % 2 == 1) le
+event_word event le = event_word-by event _ _ le
 
 -- the event that is printed so
 event_behind : Bool → Bool → List ℕ → ℕ
@@ -120,21 +91,14 @@ event_back (first ∷ digits) = event_behind (first == 122) (first == 115) digit
 event_back-by : (event : ℕ) (zero odd : Bool) → event ≤ 512 → (event == 0) ≡ zero → (event % 2 == 1) ≡ odd
     → event_back (cond zero (codes "z") (cond odd (codes "s" ++ decimal (event / 2 + 1)) (codes "e" ++ decimal (event / 2)))) ≡ event
 unfolding event_back event_behind
-event_back-by event true odd le e f = sym (eqb-true event 0 e)
-event_back-by event false true le e f =
-    let half = eqb-true (event % 2) 1 f in
-    rw (digits_value-decimal own (event / 2 + 1) (omega arith)) (omega arith)
-event_back-by event false false le e f =
-    let odd = eqb-false (event % 2) 1 f in
-    let even : event % 2 ≡ 0 = omega arith in
-    rw (digits_value-decimal own (event / 2) (omega arith)) (omega arith)
+event_back-by event zero odd le e f = search (rules, eqb-true, digits_value-decimal, own)
 
 event_back-text : (event : ℕ) → event ≤ 512 → event_back (event_text event) ≡ event
-event_back-text event le = event_back-by event (event == 0) (event % 2 == 1) le refl refl
+event_back-text event le = event_back-by event _ _ le refl refl
 
 event_of-text : (event : ℕ) → event ≤ 512 → event_of (event_text event) ≡ Some event
 event_of-text event le =
-    event_below-some 513 (event_text event) event (omega arith) refl
+    event_below-some 513 _ event (omega arith) refl
     (λ other lt same. ap (λ (n : ℕ). Some n) (sym (event_back-text event le) ∙ ap event_back same ∙ event_back-text other (omega arith)))
 
 -- a printed time is one word
@@ -142,7 +106,7 @@ digit_byte : (digit : ℕ) → not (is_gap (48 + digit)) ≡ true
 digit_byte digit = above_gaps (48 + digit) (omega arith)
 
 three_no_gap : (n : ℕ) → no_gap (three_digits n) ≡ true
-three_no_gap n = and_from _ _ (digit_byte (n / 100)) (and_from _ _ (digit_byte (n / 10 % 10)) (and_from _ _ (digit_byte (n % 10)) refl))
+three_no_gap n = simp (and_from, digit_byte)
 
 sign_no_gap : (negative : Bool) → no_gap (sign_text negative) ≡ true
 sign_no_gap true = refl
@@ -153,51 +117,41 @@ unfolding printed
 printed_word millis le =
     let n = unsigned_abs millis in
     let whole : no_gap (whole_text (n / 1000)) ≡ true = ap no_gap (sym (decimal-whole_text (n / 1000) (omega arith))) ∙ decimal_no_gap (n / 1000) (omega arith) in
-    record {
-      some = is_word-append (sign_text (is_negative millis)) _ (is_word-append (whole_text (n / 1000)) _ refl);
-      whole = no_gap-append (sign_text (is_negative millis)) _ (sign_no_gap (is_negative millis)) (no_gap-append (whole_text (n / 1000)) _ whole (three_no_gap (n % 1000)));
-    }
+    search (rules, is_word-append, no_gap-append, sign_no_gap, three_no_gap)
 
 star_is_no_time : time_of (codes "*") ≡ Err Malformed
 unfolding time_of
 star_is_no_time = refl
 
 no_star-by : (millis : ℤ) (star : Bool) → IsWithinHorizon millis → bytes_eq (printed millis) (codes "*") ≡ star → star ≡ false
-no_star-by millis true within e =
-    let same = (bytes_eq-Decides (printed millis) (codes "*")).0 e in
-    let two = sym (time_of-printed millis within) ∙ ap time_of same ∙ star_is_no_time in
-    absurd (cc)
-no_star-by millis false within e = refl
+no_star-by millis star within e = search (rules, time_of-printed, star_is_no_time)
 
 no_star : (millis : ℤ) → IsWithinHorizon millis → bytes_eq (printed millis) (codes "*") ≡ false
-no_star millis within = no_star-by millis (bytes_eq (printed millis) (codes "*")) within refl
+no_star millis within = no_star-by _ _ within refl
 
 -- a side that is printed, as `*` where it is the open one, reads as itself
 side_back-by : (widest side : ℤ) (is_open : Bool) → IsWithinHorizon side → (is_open ≡ true → side ≡ widest)
     → side_read widest (side_word (cond is_open (codes "*") (printed side))) ≡ Ok side
-side_back-by widest side true within same = ap (λ (n : ℤ). Ok n) (sym (same refl))
-side_back-by widest side false within same = rw (no_star side within) (ap spelled (time_of-printed side within))
+side_back-by widest side is_open within same = search (rules, no_star, time_of-printed)
 
 within_size : (millis : ℤ) → IsWithinHorizon millis → unsigned_abs millis ≤ 31536000000
-within_size (pos n) within = let high = within.1 in omega (arith, ints)
-within_size (negsuc n) within = let low = within.0 in omega (arith, ints)
+within_size millis within = omega (arith, ints)
 
 side_word-by : (side : ℤ) (is_open : Bool) → IsWithinHorizon side → IsOneWord (cond is_open (codes "*") (printed side))
 side_word-by side true within = record { some = refl; whole = refl }
 side_word-by side false within = printed_word side (within_size side within)
 
 lower_back : (lo : ℤ) → IsWithinHorizon lo → side_read (neg_ℤ horizon) (side_word (lower_text lo)) ≡ Ok lo
-lower_back lo within = side_back-by (neg_ℤ horizon) lo (int_eq lo (neg_ℤ horizon)) within (Decides-int_eq lo (neg_ℤ horizon)).0
+lower_back lo within = search (rules, side_back-by)
 
 upper_back : (hi : ℤ) → IsWithinHorizon hi → side_read horizon (side_word (upper_text hi)) ≡ Ok hi
-upper_back hi within = side_back-by horizon hi (int_eq hi horizon) within (Decides-int_eq hi horizon).0
+upper_back hi within = side_back-by _ hi _ within (Decides-int_eq hi horizon).0
 
 -- the words of a printed bound
 words_back : (bound : Difference) → IsReadable bound
     → bound_asked (event_text bound.from ∷ (event_text bound.to ∷ (lower_text bound.lo ∷ (upper_text bound.hi ∷ []))))
     ≡ Some (Ok (record { from = bound.from; to = bound.to; lo = bound.lo; hi = bound.hi }))
-words_back bound is =
-    rw (event_of-text bound.from is.events.from) (rw (event_of-text bound.to is.events.to) (rw (lower_back bound.lo is.lo) (rw (upper_back bound.hi is.hi) refl)))
+words_back bound is = search (rules, event_of-text, lower_back, upper_back)
 
 -- a printed bound, byte for byte
 bound_shape : (first tail : List ℕ) (bound : Difference) → ((first ++ codes " ") ++ bound_text bound) ++ tail
@@ -208,7 +162,7 @@ bound_shape first tail bound = simp append_assoc
 reads_back : (text first tail : List ℕ) (bound : Difference) → IsReadable bound → IsOneWord first → is_apart tail ≡ true
     → text ≡ ((first ++ codes " ") ++ bound_text bound) ++ tail → ReadsBack text bound
 reads_back text first tail bound is one apart whole =
-    let words = five_words first (event_text bound.from) (event_text bound.to) (lower_text bound.lo) (upper_text bound.hi) tail one
+    let words = five_words first _ _ _ _ tail one
     (event_word bound.from is.events.from) (event_word bound.to is.events.to)
     (side_word-by bound.lo (int_eq bound.lo (neg_ℤ horizon)) is.lo) (side_word-by bound.hi (int_eq bound.hi horizon) is.hi) apart in
     record {
@@ -223,17 +177,10 @@ reads_back text first tail bound is one apart whole =
     }
 
 id_word : (id : SiteCounter) → IsId id → IsOneWord (id_text id)
-id_word id is =
-    let most = is.site.most in
-    let few = is.most in
-    record {
-      some = is_word-append (decimal id.site ++ codes ".") (decimal id.counter) (some_word (decimal id.counter) (decimal_nonempty id.counter (omega arith)));
-      whole = no_gap-append (decimal id.site ++ codes ".") (decimal id.counter) (no_gap-append (decimal id.site) (codes ".") (decimal_no_gap id.site (omega arith)) refl) (decimal_no_gap id.counter (omega arith));
-    }
+id_word id is = search (rules, is_word-append, some_word, no_gap-append, decimal_no_gap)
 
 name_word : (name : BoundName) → IsName name → IsOneWord (name_text name)
-name_word (kind.Plan number) is = let small : number < 2 ^ 32 = is in record { some = refl; whole = decimal_no_gap number (omega arith) }
-name_word (kind.Record id) is = id_word id is
+name_word name is = grind (arith, common_steps, decimal_no_gap, id_word)
 
 -- a line of `bounds`
 pub named_back : (name : BoundName) (bound : Difference) → IsName name → IsReadable bound
@@ -241,7 +188,7 @@ pub named_back : (name : BoundName) (bound : Difference) → IsName name → IsR
 named_back name bound is readable = (
   (name_text name ++ codes " ") ++ bound_text bound,
   refl,
-  reads_back _ (name_text name) [] bound readable (name_word name is) refl (sym (append-nil _)),
+  reads_back _ _ [] bound readable (name_word name is) refl (sym (append-nil _)),
 )
 
 done_apart : (done : Bool) → is_apart (done_text done) ≡ true
@@ -263,9 +210,7 @@ behind state id one =
     ++ (word_where (map.contains_key state.tombstones id) (codes " withdrawn") ++ word_where (is_amended state id) (codes " replaced")))
 
 behind_apart : (state : Content) (id : SiteCounter) (one : Record) → is_apart (behind state id one) ≡ true
-behind_apart state id one =
-    apart-append (done_text (is_done_mark one.mark)) _ (done_apart (is_done_mark one.mark)) (apart-append (amends_text (map.get state.replacements id)) _ (amends_apart (map.get state.replacements id))
-    (apart-append (word_where (map.contains_key state.tombstones id) (codes " withdrawn")) _ (where_apart (map.contains_key state.tombstones id) (codes " withdrawn") refl) (where_apart (is_amended state id) (codes " replaced") refl)))
+behind_apart state id one = search (rules, done_apart, amends_apart, where_apart)
 
 record_shape : (state : Content) (id : SiteCounter) (one : Record) (held : Option Record) → held ≡ Some one
     → id_text id ++ held_text held ++ amends_text (map.get state.replacements id)
@@ -281,6 +226,6 @@ record_back state id one held is readable =
     ++ word_where (map.contains_key state.tombstones id) (codes " withdrawn") ++ word_where (is_amended state id) (codes " replaced") in (
       text,
       refl,
-      reads_back text (id_text id) (behind state id one) one.bound readable (id_word id is) (behind_apart state id one)
+      reads_back text _ _ _ readable (id_word id is) (behind_apart state id one)
           (record_shape state id one (map.get state.additions id) held),
     )

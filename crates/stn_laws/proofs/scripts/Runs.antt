@@ -1,13 +1,13 @@
 -- What a run leaves.
-use Rattle.std.{proofs.{Common.{◌≡◌, ◌⊎◌, ◌+◌, ◌++◌, arith, ℕ, List, [], Option, Some, None, Result, Ok, Err, IfSome, inl, inr, refl, sym, ap, ◌∙◌, subst, append-nil}, KnownBytes.Appends-nil}, specs.Io.KnownBytes.{Consumes, IsAtEnd}}
+use Rattle.std.{proofs.Common.{rules, ◌≡◌, ◌⊎◌, ◌+◌, ℕ, List, [], Option, Some, None, Result, Ok, Err, IfSome, inl, inr, sym, subst}, specs.Io.KnownBytes.{Consumes, IsAtEnd}}
 use Rattle.stn_device.{proofs.Known.not_err, specs.Bytes.{most_bytes, ConsumesAtMost}}
-use Rattle.stn_effects.specs.{Effects.{stopped, went}, Printing.Device}
+use Rattle.stn_effects.specs.{Printing.Device}
 use Rattle.stn_refusal.specs.declared.failure.Failure.{Failure}
 use Rattle.stn_exec.specs.{declared.script.Ran.Ran, Effect.CommandReply, Output.WritesOutputPart, Runs.{Streams, OnInput, OnOutput, ReadsScript, PrintsReplies, RunsScript}, Script.script_outcome}
 
 -- nothing was written
 part-nil : (a : Option (List ℕ)) (replies : List CommandReply) → WritesOutputPart a a replies
-part-nil a replies = ([], record { first = []; later = replies; output = []; left = []; parts = refl; printed = refl; front = refl }, Appends-nil a)
+part-nil a replies = search (rules)
 
 IfSome-all : {X : Type 0} (o : Option X) (P : X → Type 0) → ((x : X) → P x) → IfSome o P
 IfSome-all None P each = tt
@@ -15,9 +15,7 @@ IfSome-all (Some x) P each = each x
 
 -- the script is the whole input
 whole : (input rest : Option (List ℕ)) (script : List ℕ) → Consumes input rest script → IsAtEnd rest → IfSome input (λ bytes. bytes ≡ script)
-whole None rest script consumed ended = tt
-whole (Some bytes) None script consumed ended = absurd consumed
-whole (Some bytes) (Some more) script consumed ended = consumed ∙ ap (λ left. script ++ left) ended ∙ append-nil script
+whole input rest script consumed ended = search rules
 
 same_err : (failure other : Failure) → (let none : Result Ran Failure = Err failure in none) ≡ Err other → other ≡ failure
 same_err failure other is = cc
@@ -28,18 +26,16 @@ module _ (old between new : Streams) (script : List ℕ) (read : OnInput ReadsSc
   all_read same = subst (λ (input : Device). ReadsScript old.unread input (Ok script)) (sym same) read.0
 
   all_run : (ended : Result Ran Failure) → OnOutput (PrintsReplies (script_outcome script)) between new ended → PrintsReplies (script_outcome script) old.out new.out ended
-  all_run ended run = subst (λ (out : Device). PrintsReplies (script_outcome script) out new.out ended) read.1 run.0
+  all_run ended run = search rules
 
 pub done : (old new : Streams) (ran : Ran) → RunsScript old new (Ok ran)
     → (script : List ℕ) × ReadsScript old.unread new.unread (Ok script) × PrintsReplies (script_outcome script) old.out new.out (Ok ran)
-done old new ran (stopped failure read is) = absurd (not_err ran failure is)
-done old new ran (went script between read run) = (script, all_read old between new script read run.1, all_run old between new script read (Ok ran) run)
+done old new ran p = search (rules, not_err, all_run)
 
 pub ends : (old new : Streams) (failure : Failure) → RunsScript old new (Err failure)
     → (ReadsScript old.unread new.unread (Err failure) × (new.out ≡ old.out))
     ⊎ ((script : List ℕ) × ReadsScript old.unread new.unread (Ok script) × PrintsReplies (script_outcome script) old.out new.out (Err failure))
-ends old new failure (stopped why read is) = inl (subst (λ (one : Failure). ReadsScript old.unread new.unread (Err one)) (same_err failure why is) read.0, read.1)
-ends old new failure (went script between read run) = inr (script, all_read old between new script read run.1, all_run old between new script read (Err failure) run)
+ends old new failure p = search (rules, all_read, all_run)
 
 -- a front part of the output is written
 abbrev pub LeavesPart : Streams → Streams → Type 0
@@ -47,10 +43,10 @@ LeavesPart old new = IfSome old.unread.bytes (λ script. WritesOutputPart old.ou
     × ((script : List ℕ) × WritesOutputPart old.out.bytes new.out.bytes (script_outcome script).replies)
 
 pub part : (old new : Streams) (failure : Failure) → RunsScript old new (Err failure) → LeavesPart old new
-part old new failure run = by (ends old new failure run)
+part old new failure run = by (ends old new _ run)
   where
     none : new.out ≡ old.out → (script : List ℕ) → WritesOutputPart old.out.bytes new.out.bytes (script_outcome script).replies
-    none same script = subst (λ (out : Device). WritesOutputPart old.out.bytes out.bytes (script_outcome script).replies) (sym same) (part-nil old.out.bytes (script_outcome script).replies)
+    none same script = subst (λ (out : Device). WritesOutputPart old.out.bytes out.bytes (script_outcome script).replies) (sym same) (part-nil _ _)
 
     known : (input : Option (List ℕ)) (script : List ℕ) → IfSome input (λ text. text ≡ script) → WritesOutputPart old.out.bytes new.out.bytes (script_outcome script).replies
         → IfSome input (λ text. WritesOutputPart old.out.bytes new.out.bytes (script_outcome text).replies)
@@ -59,11 +55,8 @@ part old new failure run = by (ends old new failure run)
 
     by : (ReadsScript old.unread new.unread (Err failure) × (new.out ≡ old.out))
         ⊎ ((script : List ℕ) × ReadsScript old.unread new.unread (Ok script) × PrintsReplies (script_outcome script) old.out new.out (Err failure)) → LeavesPart old new
-    by (inl read) = (IfSome-all old.unread.bytes _ (none read.1), ([], none read.1 []))
-    by (inr run) = (known old.unread.bytes run.0 (whole old.unread.bytes new.unread.bytes run.0 run.1.0 run.1.1) run.2.0, (run.0, run.2.0))
+    by (inl read) = (IfSome-all _ _ (none read.1), ([], none read.1 []))
+    by (inr run) = (known old.unread.bytes run.0 (whole _ _ run.0 run.1.0 run.1.1) run.2.0, (run.0, run.2.0))
 
 pub used : (old new : Streams) (ended : Result Ran Failure) → RunsScript old new ended → ConsumesAtMost old.unread.bytes new.unread.bytes (most_bytes + 1)
-used old new ended (stopped failure read is) = read.0.0
-used old new ended (went script between read run) =
-    let all = all_read old between new script read run.1 in
-    (script, all.0, omega (arith, all.2))
+used old new ended p = search (rules)

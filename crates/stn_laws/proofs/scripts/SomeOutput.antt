@@ -1,13 +1,13 @@
 -- The lines of a script have an output, and so many of their replies are refusals.
-use Rattle.std.{proofs.{Common.{◌≡◌, ◌⊎◌, inl, inr, ℕ, ◌+◌, Bool, true, false, cond, List, [], ◌∷◌, ◌++◌, Option, Some, None, Result, Ok, Err, IfSome, refl, sym, ap, subst, ◌∙◌}, lemmas.Bool.false≢true}, specs.Prelude.length}
+use Rattle.std.{proofs.{Common.{rules, ◌≡◌, ◌⊎◌, inl, inr, ℕ, ◌+◌, Bool, true, false, cond, List, [], ◌∷◌, ◌++◌, Option, Some, None, Result, Ok, Err, IfSome, refl, sym, ap, subst, ◌∙◌}, lemmas.Bool.false≢true}, specs.Prelude.length}
 use Rattle.stn_refusal.specs.declared.code.Code.TheVariants as code
-use Rattle.stn_refusal.specs.{declared.{refusal.Refusal.Refusal, failure.Failure.{Failure, TheVariants.{Refused, Failed}}}, Refusals.{refused, refusal, refusal_at}, Printed.refusal_text}
+use Rattle.stn_refusal.specs.{declared.{refusal.Refusal.Refusal, failure.Failure.{Failure, TheVariants.Refused}}, Refusals.{refused, refusal, refusal_at}, Printed.refusal_text}
 use Rattle.stn_text.specs.Lines.{lines_of, words_of}
 use Rattle.stn_lift.specs.PlanSource.{events_of, IsSoundSource}
-use Rattle.stn_records.specs.Content.{Content, part_of}
+use Rattle.stn_records.specs.Content.{Content}
 use Rattle.stn_site.specs.{Held.{Held, holding_state}, SoundSite.IsSoundSite}
-use Rattle.stn_laws.{specs.Reports.line_steps, proofs.scripts.{Reports.line_run, Causes.{HasRefusal, OfWorld, step_fits, send_fits, IsReadOrRefused, command_fits}, Headings.{IsFitOrRefused, IsSoundStart, heading_fits}}}
-use Rattle.stn_world.{specs.{declared.faults.WorldFault.WorldFault, Failures.world_failure, Parts.holds_all, World.{World, has_site, opening_world, content_at, next_id_at}, Whole.IsCoherent, Steps.{Step, changed, merged, sent, delivered, step_refusal, send_refusal, after}}, proofs.{Runs.{run_keeps, coherent_run}, Whole.{coherent_at_first, site_bounds, site_proper}}}
+use Rattle.stn_laws.{specs.Reports.line_steps, proofs.{scripts.{Reports.line_run, Causes.{HasRefusal, step_fits, send_fits, IsReadOrRefused, command_fits}, Headings.{IsFitOrRefused, IsSoundStart, heading_fits}}, worlds.Runs.{run_keeps, coherent_run, site_bounds, site_proper}}}
+use Rattle.stn_world.{specs.{Parts.holds_all, World.{World, has_site, opening_world, content_at, next_id_at}, Whole.IsCoherent, Steps.{Step, changed, merged, sent, delivered, step_refusal, send_refusal, after}}, proofs.Whole.coherent_at_first}
 use Rattle.stn_command.specs.{Change.made_by, Query.{Query, IsSaid, IsQueryRefusal}}
 use Rattle.stn_exec.{specs.{declared.answer.Answer.Answer, Answer.answer_text, Command.{Action, Command, command_of, change, merge, send_all, send, deliver, query}, Effect.{CommandReply, CommandEffect, declined, told, refusing, answered, action_effect}, Output.{IsAnswerText, Declines, CountsRefusals, IsOutput}, Script.{Outcome, Start, is_skipped, form_effect, line_effect, line_outcome, lines_outcome, heading_of, started, last_line, script_outcome}}, proofs.{Outputs.{not_both, counts_join, count_one}, Scripts.{outputs_join, output_one, line_outcome-skipped, line_outcome-run, line_effect-is}}}
 use Rattle.stn_exec.specs.declared.answer.Answer.TheVariants as answer
@@ -41,32 +41,26 @@ one_reply reply (inl (text, is)) = record {
 }
 one_reply reply (inr (cause, is)) = record {
   text = refusal_text cause;
-  output = output_one reply (refusal_text cause) (inr (cause, is, refl));
+  output = output_one reply _ (inr (cause, is, refl));
   count = 1;
   refusals = count_one reply true 1 refl ((λ yes. (Refused cause, is)), (λ refused. refl));
 }
 
 more_replies : (first later : List CommandReply) → HasOutput first → HasOutput later → HasOutput (first ++ later)
-more_replies first later one other = record {
-  text = one.text ++ other.text;
-  output = outputs_join first later one.text other.text one.output other.output;
-  count = one.count + other.count;
-  refusals = counts_join first later one.count other.count one.refusals other.refusals;
-}
+more_replies first later one other = search (rules, outputs_join, counts_join)
 
 -- ---- a command
 declined_refused : (cause : Failure) → HasRefusal cause → IsAnsweredOrRefused (declined cause)
-declined_refused (Refused refusal) one = inr (refusal, refl)
-declined_refused (Failed fault) one = absurd one
+declined_refused cause one = search rules
 
-answered_or_refused : (world left : World) (made : Answer) (found : Option WorldFault) → IfSome found OfWorld → IsAnsweredOrRefused (answered world left made found).reply
+answered_or_refused : (world left : World) (made : Answer) (found : Option Failure) → IfSome found HasRefusal → IsAnsweredOrRefused (answered world left made found).reply
 answered_or_refused world left made None one = inl (answer_text made, refl)
-answered_or_refused world left made (Some fault) one = declined_refused (world_failure fault) one
+answered_or_refused world left made (Some cause) one = declined_refused cause one
 
 module _ (known : HasAnswers) (world : World) (coherent : IsCoherent world) (sound : IsSoundSource world.source) where
   -- what a site holds
   site_sound : (site : ℕ) → IsSoundSite (holding_state world.source (content_at world site))
-  site_sound site = record { based = sound; live = site_bounds world coherent site; proper = site_proper world coherent site }
+  site_sound site = search (rules, site_bounds, site_proper)
 
   told_or_refused : (site : ℕ) (asked : Query) → IsAnsweredOrRefused (told world.source (content_at world site) asked)
   told_or_refused site asked =
@@ -77,20 +71,18 @@ module _ (known : HasAnswers) (world : World) (coherent : IsCoherent world) (sou
       ]
 
   step_answered : (step : Step) (made : Answer) → IsAnsweredOrRefused (answered world (after world step) made (step_refusal world step)).reply
-  step_answered step made = answered_or_refused world (after world step) made (step_refusal world step) (step_fits world step)
+  step_answered step made = search (rules, answered_or_refused, step_fits)
 
   sending_answered : (site : ℕ) (part : Content) (held : Bool)
       → IsAnsweredOrRefused (answered world (after world (sent site part)) (answer.Sent (length world.packets + 1)) (send_refusal world site held)).reply
-  sending_answered site part held =
-      answered_or_refused world (after world (sent site part)) (answer.Sent (length world.packets + 1)) (send_refusal world site held) (send_fits world site held)
+  sending_answered site part held = search (rules, answered_or_refused, send_fits)
 
   action_answered : (site : ℕ) (action : Action) → IsReadOrRefused action → IsAnsweredOrRefused (action_effect world site action).reply
   action_answered site (change (Ok made)) one = step_answered (changed site made) (answer.Changed (made_by made (next_id_at world site)))
   action_answered site (change (Err cause)) one = declined_refused cause one
   action_answered site (merge other) one = step_answered (merged site other) answer.Merged
   action_answered site send_all one = sending_answered site (content_at world site) true
-  action_answered site (send records tombstones) one =
-      sending_answered site (part_of (content_at world site) records tombstones) (holds_all (content_at world site) records tombstones)
+  action_answered site (send records tombstones) one = search (rules, sending_answered)
   action_answered site (deliver packet) one = step_answered (delivered site packet) answer.Delivered
   action_answered site (query (Ok asked)) one = told_or_refused site asked
   action_answered site (query (Err cause)) one = declined_refused cause one
@@ -100,7 +92,7 @@ module _ (known : HasAnswers) (world : World) (coherent : IsCoherent world) (sou
   form_answered number (Some command) one = by (has_site world command.site)
     where
       by : (t : Bool) → IsAnsweredOrRefused (cond t (action_effect world command.site command.action) (refusing world (refused code.NoSite))).reply
-      by true = action_answered command.site command.action one
+      by true = action_answered _ _ one
       by false = inr (refusal code.NoSite, refl)
 
   -- ---- a line
@@ -113,7 +105,7 @@ module _ (known : HasAnswers) (world : World) (coherent : IsCoherent world) (sou
           let effect = line_effect number world words in
           subst (λ (o : Outcome). HasOutput o.replies) (sym (line_outcome-run number world words e))
           (one_reply effect.reply
-          (subst (λ (f : CommandEffect). IsAnsweredOrRefused f.reply) (line_effect-is number world words (command_of (events_of world.source) words) refl)
+          (subst (λ (f : CommandEffect). IsAnsweredOrRefused f.reply) (line_effect-is _ world words _ refl)
           (form_answered number (command_of (events_of world.source) words) (command_fits (events_of world.source) words))))
 
 -- ---- lines, one after the other
@@ -123,8 +115,8 @@ lines_answered known number world [] coherent sound = no_replies
 lines_answered known number world (line ∷ lines) coherent sound =
     let next = (line_outcome number world (words_of line)).world in
     let steps = line_steps world (words_of line) in
-    let is = line_run number world (words_of line) coherent in
-    more_replies (line_outcome number world (words_of line)).replies (lines_outcome (number + 1) next lines).replies
+    let is = line_run _ world _ coherent in
+    more_replies _ _
     (line_answered known world coherent sound number (words_of line))
     (lines_answered known (number + 1) next lines
     (subst IsCoherent (sym is) (coherent_run world steps coherent))
@@ -133,9 +125,9 @@ lines_answered known number world (line ∷ lines) coherent sound =
 -- ---- a script
 pub script_answered : HasAnswers → (script : List ℕ) → HasOutput (script_outcome script).replies
 unfolding script_outcome
-script_answered known script = by (heading_of (last_line script) (lines_of script)) (heading_fits (last_line script) (lines_of script))
+script_answered known script = by (heading_of (last_line script) (lines_of script)) (heading_fits _ _)
   where
     by : (heading : Result Start Failure) → IsFitOrRefused IsSoundStart heading → HasOutput (started heading).replies
     by (Ok start) sound =
-        lines_answered known start.number (opening_world start.source start.sites) start.lines (coherent_at_first start.source start.sites) sound
-    by (Err cause) one = one_reply (declined cause) (declined_refused cause one)
+        lines_answered known _ _ _ (coherent_at_first start.source start.sites) sound
+    by (Err cause) one = one_reply _ (declined_refused cause one)

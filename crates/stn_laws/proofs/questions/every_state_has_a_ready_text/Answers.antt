@@ -1,5 +1,5 @@
 use Rattle.stn_laws.proofs.questions.every_state_has_a_ready_text.Goals as goal
-use Rattle.stn_laws.proofs.questions.SomeDispatch.{some_ready}
+use Rattle.stn_laws.proofs.questions.{SomeReport.sound_state, SomeDispatch.some_ready}
 
 pub returns : goal.returns
-returns c = λ source state based live. some_ready source state (record { based = based; live = live })
+returns c = λ source state based live. some_ready (sound_state source state based live)

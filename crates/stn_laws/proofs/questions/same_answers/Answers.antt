@@ -1,9 +1,9 @@
 use Rattle.std.proofs.Common.{subst}
 use Rattle.stn_lift.specs.PlanSource.{PlanSource}
-use Rattle.stn_site.{specs.Bounds.all_bounds, proofs.Items.same_counts}
+use Rattle.stn_site.{proofs.Items.same_counts}
 use Rattle.stn_questions.specs.{Answer.IsAnswer, Ready.IsReadyText}
 use Rattle.stn_laws.proofs.questions.same_answers.Goals as goal
-use Rattle.stn_laws.{specs.Among.{done_or_unasked, IsReadyAmong}, proofs.questions.{Counted.{counted_answer, same_ready}, AmongSame.same_among, OneAnswer.{one_ready_text, same_answer}}}
+use Rattle.stn_laws.{specs.Among.IsReadyAmong, proofs.questions.{Counted.{counted_answer, same_ready, same_among}, OneAnswer.{one_ready_text, same_answer}}}
 
 pub returns-clause-items : goal.returns-clause-items
 returns-clause-items c = λ ours theirs one other p q same plan question text last.
@@ -24,6 +24,6 @@ returns-clause-ready c = λ ours theirs one other p q same plan now text last fi
 
 pub returns-clause-among : goal.returns-clause-among
 returns-clause-among c = λ ours theirs one other p q same plan asked now text last first second.
-    one_ready_text (all_bounds other.source other.state) (done_or_unasked asked other.source other.state) now text last
+    one_ready_text _ _ now text last
     (same_among other.source one.state other.state (c.counts_same.ensures.live one.state other.state (same_counts ours theirs one other p q same)) asked now text
     (subst (λ (source : PlanSource). IsReadyAmong asked source one.state now text) plan first)) second

@@ -1,4 +1,6 @@
-use Rattle.stn_laws.proofs.scripts.Reports.{script_run, world_run, prints, reports, unions, same_bytes}
+use Rattle.stn_site.specs.Report.{IsReport}
+use Rattle.stn_world.specs.Steps.{TookSameAt}
+use Rattle.stn_laws.{specs.Reports.ReportsSite, proofs.scripts.Reports.{script_run, world_run, prints, reports, unions, print_same}}
 use Rattle.stn_laws.proofs.scripts.scripts_are_runs.Goals as goal
 
 pub returns-clause-end : goal.returns-clause-end
@@ -18,5 +20,5 @@ returns-clause-union c = unions c.sites_are_unions.ensures
 
 pub returns-clause-bytes : goal.returns-clause-bytes
 returns-clause-bytes c =
-    same_bytes (λ source sites others ours theirs site other here there same.
-    (c.sites_took_same_same_bytes.ensures.bytes source sites others ours theirs site other here there same).1)
+    print_same (λ _ at site. ReportsSite at site) TookSameAt IsReport (λ script at site says. says.there) reports
+    (λ source sites others ours theirs site other here there took. (c.sites_took_same_same_bytes.ensures.bytes source sites others ours theirs site other here there took).1)

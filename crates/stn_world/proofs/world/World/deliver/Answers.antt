@@ -1,6 +1,6 @@
 use Rattle.std.{proofs.{Common.{◌≡◌, Result, Ok, Err, refl, set, ◌∙◌, map, ap}, lemmas.Result.on_err_weaker}, specs.{Prelude.{⊤, IfOk}, Rc.rc_value}}
 use Rattle.stn_site.specs.{Calls.took, Refusals.take_refusal}
-use Rattle.stn_world.{specs.{Steps.{delivered, IsDeliveryFault}, World.packet_at}, proofs.{Accepted.delivery_refusal, Merges.delivery_agrees, Sites.{part_there, packet_there}, Calls.{IsPlaced, IsAnswer, IsTaken, held, take_taken, take_agreed}, world.World.deliver.Given.Over}}
+use Rattle.stn_world.{specs.{Steps.{delivered, IsDeliveryFailure}, World.packet_at}, proofs.{Accepted.delivery_refusal, Merges.delivery_agrees, Sites.{part_there, packet_there}, Calls.{IsPlaced, IsAnswer, IsTaken, held, take_taken, take_agreed}, world.World.deliver.Given.Over}}
 use Rattle.stn_world.proofs.Copies as copy
 use Rattle.stn_world.proofs.world.World.deliver.Goals as goal
 
@@ -34,6 +34,6 @@ returns g c =
           let same = c.take.ensures.again (part_there c.args.self.now c.args.site (g.C.SiteCopy.held c.index_mut.result.now) c.index.result.now (packet_at c.args.self.now c.args.packet) (held (placed g c)) (packet g c) inside) in
           (c.map_err.ensures.variant ∙ same.0, copy.stayed g.C.SiteCopy.held c.self.inside.copies.items c.index_mut.result.now c.take.new.self (placed g c) same.1);
       agreed = take_agreed (placed g c) (delivered c.args.site c.args.packet) c.index.result.now (packet_at c.args.self.now c.args.packet) (packet g c)
-          (delivery_refusal c.args.self.now c.args.site c.args.packet c.in_ok-place.ensures.there c.in_ok-from.ensures.there) IsDeliveryFault (delivery_agrees c.args.self.now c.args.site c.args.packet) c.take.result
+          (delivery_refusal c.args.self.now c.args.site c.args.packet c.in_ok-place.ensures.there c.in_ok-from.ensures.there) IsDeliveryFailure (delivery_agrees c.args.self.now c.args.site c.args.packet) c.take.result
           (g.C.SiteCopy.held c.take.new.self) c.map_err.result (answer g c);
     }

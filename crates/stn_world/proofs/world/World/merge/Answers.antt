@@ -1,6 +1,6 @@
-use Rattle.std.{proofs.{Common.{◌≡◌, ◌<◌, get_or, Result, Ok, Err, set, length, map, refl, sym, ap, subst, ◌∙◌, arith}, lemmas.{List.length-map, Result.{err_from_is_err_and, on_err_weaker}}}, specs.{Prelude.{⊤, IfOk, IsOk, if◌then◌else◌, option_map}, List.insert, Rc.rc_value}}
-use Rattle.stn_site.specs.{Calls.took, Refusals.take_refusal}
-use Rattle.stn_world.{specs.{Steps.{step_refusal, merged, IsMergeFault}, Faults.of_replica_fault, World.{HasSite, held_at, content_at}}, proofs.{Accepted.{site_missing, merge_itself, merge_refusal, other_missing}, Sites.{place_within, part_there, held_there}, Calls.{IsPlaced, IsAnswer, IsTaken, held, take_taken, take_agreed}, Merges.{one_site, other_site, merged_itself, merge_agrees}, world.World.merge.{Given.Over, Goals.After-map_err}}}
+use Rattle.std.{proofs.{Common.{inl, ◌≡◌, ◌<◌, get_or, Result, Ok, Err, set, length, map, refl, sym, ap, subst, ◌∙◌, arith}, lemmas.{List.length-map, Result.{err_from_is_err_and, on_err_weaker}}}, specs.{Prelude.{⊤, IfOk, IsOk, if◌then◌else◌, option_map}, List.insert, Rc.rc_value}}
+use Rattle.stn_site.specs.{Calls.took, Failures.replica_failure, Refusals.take_refusal}
+use Rattle.stn_world.{specs.{Steps.{step_refusal, merged, IsMergeFailure}, World.{HasSite, held_at, content_at}}, proofs.{Accepted.{site_missing, merge_itself, merge_refusal, other_missing}, Sites.{place_within, part_there, held_there}, Calls.{IsPlaced, IsAnswer, IsTaken, held, take_taken, take_agreed}, Merges.{one_site, other_site, merged_itself, merge_agrees}, world.World.merge.{Given.Over, Goals.After-map_err}}}
 use Rattle.stn_world.proofs.Copies as copy
 use Rattle.stn_world.proofs.world.World.merge.Goals as goal
 
@@ -12,7 +12,7 @@ returns-in_err-ours g c =
       step = (site_missing c.args.self.now c.args.site _ c.in_err-ours.field-0.0 c.in_err-ours.ensures.missing missing, refl);
       itself = λ there one. absurd (missing there);
       again = λ there others inside. absurd (missing there);
-      agreed = subst IsMergeFault (sym c.in_err-ours.ensures.missing) tt;
+      agreed = inl c.in_err-ours.ensures.missing;
     })
 
 pub returns-in_err-theirs : goal.returns-in_err-theirs
@@ -23,7 +23,7 @@ returns-in_err-theirs g c =
       step = (other_missing c.args.self.now c.args.site c.args.other c.in_err-theirs.field-0.0 c.in_ok-ours.ensures.there c.in_err-theirs.ensures.missing missing, refl);
       itself = λ there one. absurd (missing (subst (HasSite c.args.self.now) one there));
       again = λ there others inside. absurd (missing others);
-      agreed = subst IsMergeFault (sym c.in_err-theirs.ensures.missing) tt;
+      agreed = inl c.in_err-theirs.ensures.missing;
     })
 
 pub returns-then-ours-theirs : goal.returns-then-ours-theirs
@@ -79,7 +79,7 @@ answer g c = record {
   same = c.map_err.ensures.cases;
 }
 
-refused : (g : Over) (c : After-map_err g) → step_refusal c.args.self.now (merged c.args.site c.args.other) ≡ option_map of_replica_fault (take_refusal (held_at c.args.self.now c.args.site) (content_at c.args.self.now c.args.other))
+refused : (g : Over) (c : After-map_err g) → step_refusal c.args.self.now (merged c.args.site c.args.other) ≡ option_map replica_failure (take_refusal (held_at c.args.self.now c.args.site) (content_at c.args.self.now c.args.other))
 refused g c =
     merge_refusal c.args.self.now c.args.site c.args.other c.in_ok-ours.ensures.there c.in_ok-theirs.ensures.there
     (other_site c.in_ok-ours.ours c.in_ok-theirs.theirs c.args.site c.args.other c.in_ok-ours.ensures.place c.in_ok-theirs.ensures.place c.if-ours-theirs.false)
@@ -106,5 +106,5 @@ returns-clause-again g c = λ there others inside.
 pub returns-clause-agreed : goal.returns-clause-agreed
 returns-clause-agreed g c =
     let at = (goal.at.returns-clause-agreed g c).After-map_err in
-    take_agreed (placed g at) (merged c.args.site c.args.other) c.records.result.now (content_at c.args.self.now c.args.other) (theirs g at) (refused g at) IsMergeFault
+    take_agreed (placed g at) (merged c.args.site c.args.other) c.records.result.now (content_at c.args.self.now c.args.other) (theirs g at) (refused g at) IsMergeFailure
     (merge_agrees c.args.self.now c.args.site c.args.other) c.take-outcome.result (g.C.SiteCopy.held c.take-outcome.new.self) c.map_err.result (answer g at)

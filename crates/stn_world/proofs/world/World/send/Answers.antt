@@ -1,9 +1,16 @@
-use Rattle.std.{proofs.{Common.{List, refl, ap, ◌∙◌, map}, lemmas.Result.err_from_is_err_and}, specs.Rc.rc_value}
+use Rattle.std.{proofs.{Common.{◌≡◌, List, Ok, refl, sym, subst, ap, ◌∙◌, map}, lemmas.Result.err_from_is_err_and}, specs.{Prelude.IfOk, Rc.rc_value}}
 use Rattle.stn_records.specs.Content.{Content, part_of}
 use Rattle.stn_site.proofs.Values.{ok_not_err}
-use Rattle.stn_world.{specs.{Parts.holds_all, Sites.world_of, World.content_at}, proofs.{Sites.held_there, Calls.{held, sent_sound, sent_taken}, Sendings.{send_memory, part_refused, holds_there, part_free}}}
+use Rattle.stn_world.{specs.{Parts.holds_all, Sites.world_of, World.content_at}, proofs.{Sites.held_there, Calls.{held, sent_sound, sent_taken}, Sendings.{send_memory, part_made, part_refused, holds_there, part_free}, world.World.send.{Given.Over, Goals.In_ok-part}}}
 use Rattle.stn_world.proofs.Copies as copy
 use Rattle.stn_world.proofs.world.World.send.Goals as goal
+
+-- the part that was made
+made : (g : Over) (c : In_ok-part g) → c.part.result ≡ Ok c.in_ok-part.part
+made g c = part_made c.part.result c.map_err.result c.in_ok-part.part c.map_err.ensures.cases c.in_ok-part.was
+
+is_part : (g : Over) (c : In_ok-part g) → c.in_ok-part.part ≡ part_of c.records.result.now c.args.records.now c.args.tombstones.now
+is_part g c = subst (λ part. IfOk part (λ one. one ≡ part_of c.records.result.now c.args.records.now c.args.tombstones.now)) (made g c) c.part.ensures.part
 
 pub returns-in_err-part : goal.returns-in_err-part
 returns-in_err-part g c =
@@ -11,8 +18,8 @@ returns-in_err-part g c =
     let held = held_there c.args.self.now _ (map g.C.SiteCopy.held c.self.inside.copies.items) _ c.args.site (g.C.SiteCopy.held c.index.result.now) c.self.view_is c.self.invariant.sites c.in_ok-place.ensures.place c.in_ok-place.ensures.there (copy.got g.C.SiteCopy.held c.self.inside.copies.items c.in_ok-place.place c.index.result.now c.index.ensures) in
     rw (p.1, p.2) (record {
       step = (
-        part_refused c.args.self.now c.args.site c.in_ok-place.ensures.there c.in_ok-number.ensures.room c.records.result.now c.args.records.now c.args.tombstones.now _ c.in_err-part.field-0.0
-            (c.records.ensures.value ∙ c.plan.ensures.state ∙ held.state) c.in_err-part.ensures.unknown,
+        part_refused c.args.self.now c.args.site c.in_ok-place.ensures.there c.in_ok-number.ensures.room c.records.result.now c.args.records.now c.args.tombstones.now _ c.part.result c.in_err-part.field-0.0
+            (c.records.ensures.value ∙ c.plan.ensures.state ∙ held.state) c.part.ensures.unknown c.map_err.result c.map_err.ensures.cases c.in_err-part.was,
         refl,
       );
     })
@@ -21,7 +28,7 @@ pub returns-in_err-push : goal.returns-in_err-push
 returns-in_err-push g c =
     let p = err_from_is_err_and c.from_residual-in_err-push.result c.from_residual-in_err-push.ensures.1 in
     let held = held_there c.args.self.now _ (map g.C.SiteCopy.held c.self.inside.copies.items) _ c.args.site (g.C.SiteCopy.held c.index.result.now) c.self.view_is c.self.invariant.sites c.in_ok-place.ensures.place c.in_ok-place.ensures.there (copy.got g.C.SiteCopy.held c.self.inside.copies.items c.in_ok-place.place c.index.result.now c.index.ensures) in
-    let all = holds_there c.records.result.now (content_at c.args.self.now c.args.site) c.args.records.now c.args.tombstones.now (c.records.ensures.value ∙ c.plan.ensures.state ∙ held.state) (c.in_ok-part.ensures.held ok_not_err) in
+    let all = holds_there c.records.result.now (content_at c.args.self.now c.args.site) c.args.records.now c.args.tombstones.now (c.records.ensures.value ∙ c.plan.ensures.state ∙ held.state) (c.part.ensures.held (λ unknown. ok_not_err (sym (made g (goal.at.returns-in_err-push g c).In_ok-part) ∙ unknown))) in
     rw (p.1, p.2) (record {
       step = (
         send_memory c.args.self.now c.args.site c.in_ok-place.ensures.there c.in_ok-number.ensures.room (holds_all (content_at c.args.self.now c.args.site) c.args.records.now c.args.tombstones.now) all,
@@ -32,13 +39,13 @@ returns-in_err-push g c =
 pub invariant_of-self-2 : goal.invariant_of-self-2
 invariant_of-self-2 g c =
     let placed = copy.placed g.C.SiteCopy.held c.self.inside.copies.items c.index.result.now c.self.view_is c.self.invariant c.in_ok-place.ensures.place c.in_ok-place.ensures.there c.index.ensures in
-    let same = c.in_ok-part.ensures.part ∙ ap (λ (s : Content). part_of s c.args.records.now c.args.tombstones.now) (c.records.ensures.value ∙ c.plan.ensures.state ∙ (held placed).state) in
+    let same = is_part g (goal.at.invariant_of-self-2 g c).In_ok-part ∙ ap (λ (s : Content). part_of s c.args.records.now c.args.tombstones.now) (c.records.ensures.value ∙ c.plan.ensures.state ∙ (held placed).state) in
     sent_sound placed c.in_ok-number.ensures.room _ c.in_ok-part.part _ same (part_free c.args.self.now c.args.site c.args.records.now c.args.tombstones.now c.in_ok-place.ensures.there) c.in_ok-push.ensures.items
 
 pub returns : goal.returns
 returns g c =
     let placed = copy.placed g.C.SiteCopy.held c.self.inside.copies.items c.index.result.now c.self.view_is c.self.invariant c.in_ok-place.ensures.place c.in_ok-place.ensures.there c.index.ensures in
     let state = c.records.ensures.value ∙ c.plan.ensures.state ∙ (held placed).state in
-    let same = c.in_ok-part.ensures.part ∙ ap (λ (s : Content). part_of s c.args.records.now c.args.tombstones.now) state in
-    let all = holds_there c.records.result.now (content_at c.args.self.now c.args.site) c.args.records.now c.args.tombstones.now state (c.in_ok-part.ensures.held ok_not_err) in
+    let same = is_part g (goal.at.returns g c).In_ok-part ∙ ap (λ (s : Content). part_of s c.args.records.now c.args.tombstones.now) state in
+    let all = holds_there c.records.result.now (content_at c.args.self.now c.args.site) c.args.records.now c.args.tombstones.now state (c.part.ensures.held (λ unknown. ok_not_err (sym (made g (goal.at.returns g c).In_ok-part) ∙ unknown))) in
     record { step = sent_taken placed c.in_ok-number.ensures.room _ c.in_ok-part.part _ same (part_free c.args.self.now c.args.site c.args.records.now c.args.tombstones.now c.in_ok-place.ensures.there) c.in_ok-push.ensures.items _ all c.in_ok-number.number c.in_ok-number.ensures.number }

@@ -1,0 +1,4 @@
+mod OneSession
+mod OneReception
+mod SomeSession
+mod SomeReception

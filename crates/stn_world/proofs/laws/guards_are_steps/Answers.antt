@@ -1,5 +1,0 @@
-use Rattle.stn_world.proofs.GuardSteps.{guard_steps}
-use Rattle.stn_world.proofs.laws.guards_are_steps.Goals as goal
-
-pub returns : goal.returns
-returns c = λ world site there owned ids new adds accepted. guard_steps world site there owned ids new adds accepted

@@ -1,8 +1,0 @@
-use Rattle.stn_world.proofs.{EachRun.{delivery_accepted, merge_accepted}, Lawful.lawful_run}
-use Rattle.stn_world.proofs.laws.none_refused.Goals as goal
-
-pub returns-clause-delivery : goal.returns-clause-delivery
-returns-clause-delivery c = λ source sites steps. delivery_accepted _ _ (lawful_run source sites steps)
-
-pub returns-clause-merge : goal.returns-clause-merge
-returns-clause-merge c = λ source sites steps. merge_accepted _ _ (lawful_run source sites steps)
