@@ -5,8 +5,8 @@ use Rattle.stn_refusal.specs.{declared.failure.Failure.Failure, Refusals.refused
 use Rattle.stn_lift.specs.{PlanSource.PlanSource}
 use Rattle.stn_records.specs.Content.{Content}
 use Rattle.stn_site.specs.{Held.Held}
-use Rattle.stn_questions.specs.declared.{asked.Question.Question, words.Outlook.Outlook}
-use Rattle.stn_command.{specs.{Query.{Query, report, check, foresee, ask, repairs, draw, IsRehearseRefusal, IsOutlookRefusal, IsQuestionRefusal, IsQueryRefusal}, Dispatch.done_or_not_chosen}, proofs.Foresight.one_overdue}
+use Rattle.stn_questions.specs.{declared.{asked.Question.Question, words.Outlook.Outlook}, Answer.IsQuestionRefusal}
+use Rattle.stn_command.{specs.{Query.{Query, report, check, foresee, ask, repairs, draw, IsRehearseRefusal, IsOutlookRefusal, IsQueryRefusal}, Dispatch.done_or_not_chosen}, proofs.Foresight.one_overdue}
 use Rattle.stn_questions.specs.declared.words.Outlook.TheVariants as outlook
 use Rattle.stn_net.specs.{Failures.bound_failure, declared.bound.BoundFault.TheVariants.NoEvent}
 

@@ -2,11 +2,11 @@
 use Rattle.std.specs.{Prelude.{◌≡◌, ◌≢◌, ◌⊎◌, ℕ, ℤ, pos, Bool, true, false, List, [], ◌∷◌, length, bytes_eq, codes, if◌then◌else◌, Vec, Option, Some, None, option_map, unwrap_or, Result, Ok, Err}, List.list_all}
 use Rattle.stn_refusal.specs.declared.code.Code.TheVariants as code
 use Rattle.stn_refusal.specs.{declared.failure.Failure.Failure, Refusals.{refused_of, out_of_memory}}
-use Rattle.stn_net.specs.{Failures.bound_failure, Schedule.times_of, declared.bound.BoundFault.TheVariants.{NoEvent, SameEvent}}
+use Rattle.stn_net.specs.{Failures.bound_failure, Schedule.times_of, declared.bound.BoundFault.TheVariants.NoEvent}
 use Rattle.stn_lift.specs.PlanSource.{PlanSource, events_of, steps_of}
 use Rattle.stn_records.specs.Content.{Content}
 use Rattle.stn_site.specs.{Bounds.all_bounds, Held.Held, Names.broken_bound, Report.IsReport, Own.{is_within, are_within}}
-use Rattle.stn_questions.specs.{declared.{asked.Question.Question, words.{LoneQuery.LoneQuery, Outlook.Outlook}}, Answer.{IsAnswer, AsksOfNoEvent, AsksOfSameEvent}, Ready.IsReadyWith, Steps.source_names}
+use Rattle.stn_questions.specs.{declared.{asked.Question.Question, words.{LoneQuery.LoneQuery, Outlook.Outlook}}, Answer.{IsAnswer, IsQuestionRefusal}, Ready.IsReadyWith, Steps.source_names}
 use Rattle.stn_repairs.specs.Text.{IsRepairsText}
 use Rattle.stn_chart.specs.Chart.{Look, seen_look}
 use Rattle.stn_picture.specs.Picture.{IsPicture}
@@ -84,12 +84,6 @@ has_steps choice steps = list_all (λ range. is_within steps range) (unwrap_or c
 abbrev pub IsForesightRefusal : PlanSource → Content → Outlook → ℤ → Choice → Option Failure → Type 0
 IsForesightRefusal source state outlook now choice cause = ((has_steps choice (steps_of source) ≡ false) × (cause ≡ Some (bound_failure NoEvent)))
     ⊎ ((has_steps choice (steps_of source) ≡ true) × IsOutlookRefusal outlook source state (done_or_not_chosen choice source state) now cause)
-
--- why a question is: it is about an event that the plan has not, or about an event and itself
-abbrev pub IsQuestionRefusal : PlanSource → Question → Option Failure → Type 0
-IsQuestionRefusal source question cause = (AsksOfNoEvent source question × (cause ≡ Some (bound_failure NoEvent)))
-    ⊎ ((¬ AsksOfNoEvent source question) × AsksOfSameEvent question × (cause ≡ Some (bound_failure SameEvent)))
-    ⊎ ((¬ AsksOfNoEvent source question) × (¬ AsksOfSameEvent question) × (cause ≡ None))
 
 -- why a picture is: the plan has not all steps that sites are said to own
 abbrev pub draw_refusal : Look → PlanSource → Option Failure

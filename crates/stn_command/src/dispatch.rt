@@ -1,15 +1,14 @@
 //! What is said of times, of what comes next, and of the rest of the plan.
 
 ghost use Rattle.std.specs.Prelude.{◌≡◌, ◌⊎◌, ◌++◌, ◌+◌, List, ℕ, length, codes, OnOk, IfErr};
-ghost use Rattle.stn_net.specs.{Event.event_text, declared.windows.answers.RehearseFault.TheVariants.{Overdue, Memory as want_of_memory}};
+ghost use Rattle.stn_net.specs.{declared.windows.answers.RehearseFault.TheVariants.{Overdue, Memory as want_of_memory}};
 ghost use Rattle.stn_lift.specs.PlanSource.{events_of};
 ghost use Rattle.stn_records.specs.Content.{AllProper};
-ghost use Rattle.stn_site.specs.Lines.{line};
 ghost use Rattle.stn_command.specs.Dispatch.{check_text, run_line, runs_text, next_text, IsNextText, IsRestText, IsOverdueAt, IsRefusedRehearsal};
 
 use std::alloc::Allocator;
 use stn_net::{Event, Next, RehearseFault};
-use stn_questions::{next_with, rehearse_with};
+use stn_questions::{append_event_line, next_with, rehearse_with};
 use stn_site::{BoundName, SitePlan};
 use stn_time::{Memory, Ms};
 
@@ -104,17 +103,4 @@ fn append_run_line<B: Allocator>(out: &mut Vec<u8, B>, time: Ms, event: Event) -
     out.extend_from_slice(b"run ")?;
     time.print(out)?;
     append_event_line(out, b" ", event)
-}
-
-// Appends a line of these words and the event's printed form.
-fn append_event_line<B: Allocator>(
-    out: &mut Vec<u8, B>,
-    words: &[u8],
-    event: Event,
-) -> Result<(), Memory>
-    ensures { OnOk result (out.new.items ≡ out.old.items ++ line (words.now ++ event_text event)) }
-{
-    out.extend_from_slice(words)?;
-    event.print(out)?;
-    out.extend_from_slice(b"\n")
 }

@@ -5,8 +5,7 @@ ghost use Rattle.stn_refusal.specs.Refusals.{out_of_memory};
 ghost use Rattle.stn_lift.specs.Plan.Steps.{plan_of};
 ghost use Rattle.stn_questions.specs.Steps.{planned_steps};
 ghost use Rattle.stn_chart.specs.Chart.{seen_look};
-ghost use Rattle.stn_command.specs.{Query.{ask, draw, seen_query}, Named.{IsNamed, IsNamesRefusal, SaysNamed, IsSaidWithNames, count_refusal}};
-ghost use Rattle.stn_command.specs.Query.{IsQueryRefusal};
+ghost use Rattle.stn_command.specs.{Query.{ask, draw, seen_query, IsQueryRefusal}, Named.{IsNamed, IsNamesRefusal, SaysNamed, IsSaidWithNames, count_refusal}};
 
 use crate::named_lines::with_names;
 use crate::queries::{Query, say};

@@ -16,10 +16,8 @@ use std::alloc::Allocator;
 use stn_chart::Look;
 use stn_net::BoundFault;
 use stn_picture::print_picture;
-use stn_questions::{
-    LoneQuery, Outlook, Question, WhyFault, print_answer, print_ready_with, source_names,
-};
-use stn_refusal::{Failure, Fault};
+use stn_questions::{LoneQuery, Outlook, Question, print_answer, print_ready_with, source_names};
+use stn_refusal::Failure;
 use stn_repairs::print_repairs;
 use stn_site::{EVENT_FLAGS, Own, SitePlan, StepRange, are_within, flags_among};
 use stn_time::{Memory, Ms};
@@ -221,12 +219,8 @@ fn tell<A: Allocator + Copy>(plan: &SitePlan<A>, question: Question) -> Result<V
     ensures { Says (ask question) plan.now result }
 {
     let mut text = Vec::new(plan.alloc());
-    match print_answer(plan, question, &mut text) {
-        Ok(()) => Ok(text),
-        Err(WhyFault::NoEvent) => Err(Failure::from(BoundFault::NoEvent)),
-        Err(WhyFault::SameEvent) => Err(Failure::from(BoundFault::SameEvent)),
-        Err(WhyFault::Memory) => Err(Failure::Failed(Fault::Memory)),
-    }
+    print_answer(plan, question, &mut text)?;
+    Ok(text)
 }
 
 // What mends a conflict.

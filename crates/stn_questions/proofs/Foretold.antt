@@ -1,6 +1,6 @@
 -- What the searches of a plan's bounds find of the events that are left.
-use Rattle.std.{proofs.{Common.{rules, ◌≡◌, ℕ, ℤ, ◌+◌, ◌<◌, ◌≤◌, ◌≤ℤ◌, ◌<ℤ◌, Bool, true, List, [], ◌++◌, length, Option, Some, None, refl, ap, subst, ◌∙◌, arith}, lemmas.{Option.MatchOption-at_some, Int.ints, List.Elements.{All-append, All-nil}}}, specs.Prelude.{Vec, All, Result, Ok, Err, IfOk, MatchOption, is_some}}
-use Rattle.stn_net.{specs.{Event.most_events, Difference.{Difference, NamesEvents}, Schedule.{HasSchedule, times_of}, Windows.{Dispatch.{IsLeft, IsReady, AreReadyTimes, CanWaitUntil}, Leading.IsLeastLatest, Soonest.{AreEarliest, AreLatest, AreSoonest}}}, proofs.Readiness.left_within}
+use Rattle.std.{proofs.{Common.{rules, ◌≡◌, ℕ, ℤ, ◌+◌, ◌<◌, ◌≤◌, ◌≤ℤ◌, ◌<ℤ◌, Bool, true, List, [], ◌++◌, length, Option, Some, None, refl, ap, subst, ◌∙◌, arith}, lemmas.{Int.ints, List.Elements.{All-append}}}, specs.Prelude.{Vec, All, Result, Ok, Err, IfOk, MatchOption, is_some}}
+use Rattle.stn_net.{specs.{Event.most_events, Difference.{Difference, NamesEvents}, Schedule.{HasSchedule, times_of}, Windows.{Dispatch.{IsLeft, IsReady, CanWaitUntil}, Leading.IsLeastLatest, Soonest.{AreEarliest, AreLatest, AreSoonest}}}, proofs.Readiness.left_within}
 use Rattle.stn_lift.specs.PlanSource.{PlanSource, base_bounds, events_of, IsSoundSource}
 use Rattle.stn_records.specs.Content.{Content}
 use Rattle.stn_site.specs.Bounds.{all_bounds, live_bounds}

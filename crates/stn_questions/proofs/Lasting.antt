@@ -1,21 +1,9 @@
 -- How long the steps of a plan last, by its bounds.
-use Rattle.std.{proofs.{Common.{rules, ◌≡◌, ℕ, ℤ, zero, suc, ◌+◌, ◌*◌, ◌<◌, ◌≤◌, List, [], ◌∷◌, ◌++◌, length, drop, get_or, Result, Ok, Err, refl, sym, ap, ◌∙◌, arith, length-append, length-drop, ⊎_elim}, lemmas.{List.{get_or-drop, get_or_append_left, get_or-append_right, get_or_at}, Bool.cases_lt}}, specs.Result.result_unwrap_or}
-use Rattle.stn_lift.{proofs.{FewBounds.length-duration_bounds, Steps.length-activities}, specs.{declared.{plan.fault.PlanFault.PlanFault, fault.{LiftFault.LiftFault, BaseFault.BaseFault}}, Plan.Steps.{PlannedStep, plan_of}, Activities.{Activity, activities}, BaseBounds.{duration_bound, duration_bounds, duration_of, events_interfere, event_times, orders, lifted_bounds}, PlanSource.{files, of_lift, steps_in, lifted, activities_of, source_with, base_of, base_bounds, events_of, IsSoundSource}}}
-use Rattle.stn_net.{specs.{Difference.Difference, Horizon.horizon_bounds, Schedule.times_of}, proofs.Horizons.length-horizon_bounds}
+use Rattle.std.{proofs.{Common.{rules, ◌≡◌, ℕ, ◌+◌, ◌*◌, ◌<◌, ◌≤◌, List, [], ◌++◌, length, drop, get_or, Result, Ok, Err, refl, sym, ap, ◌∙◌, length-append, length-drop}, lemmas.List.{get_or-drop, get_or_append_left, get_or-append_right}}, specs.Result.result_unwrap_or}
+use Rattle.stn_lift.{proofs.{FewBounds.{length-duration_bounds, duration_at}, Steps.length-activities}, specs.{declared.{plan.fault.PlanFault.PlanFault, fault.{LiftFault.LiftFault, BaseFault.BaseFault}}, Plan.Steps.{PlannedStep, plan_of}, Activities.{Activity, activities}, BaseBounds.{duration_of, lifted_bounds}, PlanSource.{files, of_lift, steps_in, lifted, activities_of, source_with, base_of, base_bounds, events_of, IsSoundSource}}}
+use Rattle.stn_net.{specs.Difference.Difference, proofs.Horizons.length-horizon_bounds}
 use Rattle.stn_pddl.specs.{declared.fault.DomainFault.DomainFault, Schemas.ActionSchema, Domains.domain_of}
 use Rattle.stn_questions.specs.{Steps.planned_steps, Durations.{least_of, AreDurations}}
-
-duration_at : (duration : ℕ → ℤ) (steps place : ℕ) (d : Difference) → place < steps → get_or (duration_bounds duration steps) place d ≡ duration_bound place (duration place)
-unfolding duration_bounds
-duration_at duration zero place d within = absurd (omega arith)
-duration_at duration (suc steps) place d within =
-    ⊎_elim
-    (λ before. get_or_append_left (duration_bounds duration steps) (duration_bound steps (duration steps) ∷ []) d place (omega (arith, length-duration_bounds duration steps, before))
-    ∙ duration_at duration steps place d before)
-    (λ after. let same : steps ≡ place = omega (arith, after) in
-    get_or_at (duration_bounds duration steps) (duration_bound steps (duration steps)) [] d place (length-duration_bounds duration steps ∙ same)
-    ∙ ap (λ n. duration_bound n (duration n)) same)
-    (cases_lt place steps)
 
 -- a step in each place
 same_count : (actions : Result (List ActionSchema) DomainFault) (plan : Result (List PlannedStep) PlanFault) (found : List Activity)

@@ -1,5 +1,5 @@
 -- Texts that grow by a line.
-use Rattle.std.{proofs.{Common.{rules, ◌≡◌, ℕ, ℤ, zero, suc, ◌+◌, List, [], ◌∷◌, ◌++◌, length, map, take, get_or, ◌<◌, refl, sym, ap, ◌∙◌, arith, append_assoc}, lemmas.List.{append-nil, take_more, length-map, length-take, get_or_read, map_more, Concat.flat_map-append}}, specs.List.{flat_map, range_with_len}}
+use Rattle.std.{proofs.{Common.{rules, ◌≡◌, ℕ, ℤ, ◌+◌, List, [], ◌∷◌, ◌++◌, length, map, take, get_or, ◌<◌, refl, sym, ap, ◌∙◌, arith, append_assoc}, lemmas.List.{append-nil, length-map, length-take, get_or_read, map_more}}}
 use Rattle.stn_net.specs.Difference.{Difference}
 use Rattle.stn_lift.specs.Plan.Steps.{PlannedStep}
 use Rattle.stn_site.specs.Lines.{line}

@@ -1,6 +1,5 @@
 -- The events that are ready: each once, and in their order.
-use Rattle.std.proofs.lemmas.Grind.{common_steps}
-use Rattle.std.{proofs.{Common.{rules, ◌≡◌, ◌≢◌, inl, inr, ℕ, ℤ, ◌+◌, ◌<◌, ◌≤ℤ◌, ◌<ℤ◌, Bool, true, false, cond, eqb, List, [], ◌∷◌, ◌++◌, get_or, Some, None, Ordering, Less, Equal, Greater, sym, ap, subst, ◌∙◌, arith}, lemmas.{Bool.{false≢true, cases_lt, eq-eqb, ne_eqb}, Int.ints, List.{Sorted.{sorted_far, ranks_by}, Sums.sum_by_push}, Cmp.{nat_cmp_total, int_cmp_total, on_total, then_total}}}, specs.{Cmp.{IsTotalOrder, ranks, int_ranks}, List.{AllPairs, count_by, Sorted.IsSorted}, Ordering.{MatchOrdering, nat_cmp, int_cmp, is_lt, ordering_then}}}
+use Rattle.std.{proofs.{lemmas.{Grind.common_steps, Bool.{false≢true, cases_lt, eq-eqb, ne_eqb}, Int.ints, List.{Sorted.{sorted_far, ranks_by}, Sums.sum_by_push}, Cmp.{nat_cmp_total, int_cmp_total, on_total, then_total}}, Common.{rules, ◌≡◌, ◌≢◌, ℕ, ℤ, ◌+◌, ◌<◌, ◌≤ℤ◌, ◌<ℤ◌, Bool, true, false, cond, eqb, List, [], ◌∷◌, ◌++◌, get_or, Some, None, Ordering, Less, Equal, Greater, sym, ap, ◌∙◌, arith}}, specs.{Cmp.{IsTotalOrder, ranks, int_ranks}, List.{AllPairs, count_by, Sorted.IsSorted}, Ordering.{MatchOrdering, nat_cmp, int_cmp, is_lt, ordering_then}}}
 use Rattle.stn_net.specs.{Difference.Difference, Windows.Dispatch.{IsReady, AreReadyTimes}}
 use Rattle.stn_questions.specs.{declared.ready_event.ReadyEvent.ReadyEvent, Ready.IsBefore}
 

@@ -1,5 +1,7 @@
--- What is printed for a question.
-use Rattle.std.specs.Prelude.{◌≡◌, ◌<◌, ℕ, List}
+-- What is printed for a question, and why it is refused.
+use Rattle.std.specs.Prelude.{◌≡◌, ◌⊎◌, ◌<◌, ℕ, List, Option, Some, None}
+use Rattle.stn_refusal.specs.{declared.failure.Failure.Failure, Refusals.out_of_memory}
+use Rattle.stn_net.specs.{Failures.bound_failure, declared.bound.BoundFault.TheVariants.{NoEvent, SameEvent}}
 use Rattle.stn_lift.specs.PlanSource.{PlanSource, events_of}
 use Rattle.stn_records.specs.Content.{Content}
 use Rattle.stn_questions.specs.{declared.asked.Question.{Question, TheVariants.{Records, Steps, Bounds, Why, WhyApart}}, Records.IsRecordsText, Steps.steps_text, Bounds.bounds_text, Why.{IsWhyText, IsApartText, NamesNoEvent}}
@@ -22,6 +24,17 @@ AsksOfNoEvent source other = ⊥
 abbrev pub AsksOfSameEvent : Question → Type 0
 AsksOfSameEvent (WhyApart from to) = from ≡ to
 AsksOfSameEvent other = ⊥
+
+-- why a question is refused, or that it is not: it is about an event that the plan has not, or about an event and itself
+abbrev pub IsQuestionRefusal : PlanSource → Question → Option Failure → Type 0
+IsQuestionRefusal source question cause = (AsksOfNoEvent source question × (cause ≡ Some (bound_failure NoEvent)))
+    ⊎ ((¬ AsksOfNoEvent source question) × AsksOfSameEvent question × (cause ≡ Some (bound_failure SameEvent)))
+    ⊎ ((¬ AsksOfNoEvent source question) × (¬ AsksOfSameEvent question) × (cause ≡ None))
+
+-- the failure is that cause, or lack of memory if there is none
+abbrev pub IsQuestionFailure : PlanSource → Question → Failure → Type 0
+IsQuestionFailure source question failure = IsQuestionRefusal source question (Some failure)
+    ⊎ ((failure ≡ out_of_memory) × IsQuestionRefusal source question None)
 
 -- the question is about the plan, and not about the records themselves
 abbrev pub AsksOfPlan : Question → Type 0

@@ -1,7 +1,7 @@
 -- What `why` prints of an event, and of two.
 use Rattle.std.specs.{Prelude.{◌≡◌, ◌⊎◌, ◌<◌, ℕ, ℤ, neg_ℤ, ◌+◌, List, ◌++◌, codes}, List.flat_map}
 use Rattle.stn_time.specs.Text.{printed}
-use Rattle.stn_net.specs.{Difference.Difference, Event.event_text, Schedule.HasSchedule, Windows.Window.IsWindow, Ranges.IsRange}
+use Rattle.stn_net.specs.{Difference.Difference, Schedule.HasSchedule, Windows.Window.IsWindow, Ranges.IsRange}
 use Rattle.stn_lift.specs.PlanSource.{PlanSource, base_bounds, events_of}
 use Rattle.stn_records.specs.Content.{Content}
 use Rattle.stn_conflict.specs.{declared.links.{Link.Link, BothWays.BothWays}, Arcs.weight_of, Named.{IsWay, IsWayOf}}

@@ -1,13 +1,14 @@
-ghost use Rattle.std.specs.Prelude.{◌≡◌, ◌↔◌, ◌++◌, ℕ, List, OnOk, OnErr, IsErrOf};
-ghost use Rattle.stn_questions.specs.Answer.{IsAnswer, AsksOfNoEvent, AsksOfSameEvent};
+ghost use Rattle.std.specs.Prelude.{◌≡◌, ◌++◌, ℕ, List, None, IfErr, OnOk, OnErr};
+ghost use Rattle.stn_questions.specs.Answer.{IsAnswer, IsQuestionRefusal, IsQuestionFailure};
 
 use crate::apart::print_apart;
 use crate::asked::Question;
 use crate::bounds::print_bounds;
 use crate::records::print_records;
 use crate::steps::print_steps;
-use crate::why::{WhyFault, print_why};
+use crate::why::print_why;
 use std::alloc::Allocator;
+use stn_refusal::Failure;
 use stn_site::SitePlan;
 
 /// Appends the answer to a question about a plan and what a site holds of it.
@@ -19,10 +20,10 @@ pub fn print_answer<A: Allocator + Copy, B: Allocator>(
     plan: &SitePlan<A>,
     question: Question,
     out: &mut Vec<u8, B>,
-) -> Result<(), WhyFault>
+) -> Result<(), Failure>
     ensures answer { OnOk result ((text : List ℕ) × IsAnswer plan.now.source plan.now.state question text × (out.new.items ≡ out.old.items ++ text)) }
-    ensures no_event { IsErrOf result WhyFault.NoEvent ↔ AsksOfNoEvent plan.now.source question }
-    ensures same { IsErrOf result WhyFault.SameEvent ↔ (AsksOfSameEvent question × ¬ AsksOfNoEvent plan.now.source question) }
+    ensures accepted { OnOk result (IsQuestionRefusal plan.now.source question None) }
+    ensures refused { IfErr result (IsQuestionFailure plan.now.source question) }
     ensures kept { OnErr result (out.new.items ≡ out.old.items) }
 {
     match question {

@@ -1,13 +1,13 @@
-ghost use Rattle.std.specs.Prelude.{◌≡◌, ◌↔◌, ◌≤◌, ◌++◌, ℕ, List, IfOk, OnOk, OnErr, IsErrOf};
+ghost use Rattle.std.specs.Prelude.{◌≡◌, ◌≤◌, ◌++◌, ℕ, List, None, IfOk, IfErr, OnOk, OnErr};
 ghost use Rattle.stn_lift.specs.PlanSource.{events_of};
 ghost use Rattle.stn_site.specs.Lines.{range_line};
-ghost use Rattle.stn_questions.specs.Why.{HoldEnds, IsApartPart, IsApartText, NamesNoEvent};
+ghost use Rattle.stn_questions.specs.{Answer.{IsQuestionRefusal, IsQuestionFailure}, Why.{HoldEnds, IsApartPart, IsApartText}, declared.asked.Question.TheVariants.WhyApart};
 
 use crate::ends::{append_ends, ends_of, times_of};
-use crate::why::WhyFault;
 use std::alloc::Allocator;
 use stn_conflict::BothWays;
-use stn_net::Event;
+use stn_net::{BoundFault, Event};
+use stn_refusal::Failure;
 use stn_site::{SitePlan, append_range_line};
 use stn_time::Memory;
 
@@ -22,18 +22,18 @@ pub fn print_apart<A: Allocator + Copy, B: Allocator>(
     from: Event,
     to: Event,
     out: &mut Vec<u8, B>,
-) -> Result<(), WhyFault>
+) -> Result<(), Failure>
     ensures printed { OnOk result ((text : List ℕ) × IsApartText plan.now.source plan.now.state from to text × (out.new.items ≡ out.old.items ++ text)) }
-    ensures no_event { IsErrOf result WhyFault.NoEvent ↔ NamesNoEvent plan.now.source from to }
-    ensures same { IsErrOf result WhyFault.SameEvent ↔ ((from ≡ to) × ¬ NamesNoEvent plan.now.source from to) }
+    ensures accepted { OnOk result (IsQuestionRefusal plan.now.source (WhyApart from to) None) }
+    ensures refused { IfErr result (IsQuestionFailure plan.now.source (WhyApart from to)) }
     ensures kept { OnErr result (out.new.items ≡ out.old.items) }
 {
     let events = plan.base().events();
     if from.number() > events || to.number() > events {
-        return Err(WhyFault::NoEvent);
+        return Err(Failure::from(BoundFault::NoEvent));
     }
     if from == to {
-        return Err(WhyFault::SameEvent);
+        return Err(Failure::from(BoundFault::SameEvent));
     }
     append_apart(plan, from, to, out)?;
     Ok(())

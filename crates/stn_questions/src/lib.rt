@@ -9,11 +9,11 @@ pub use asked::Question;
 pub use bounds::print_bounds;
 pub use foresight::{next_with, rehearse_with};
 pub use names::{source_names, step_names};
-pub use ready::print_ready_with;
+pub use ready::{append_event_line, print_ready_with};
 pub use ready_event::ReadyEvent;
 pub use records::print_records;
 pub use steps::{names_of, print_steps};
-pub use why::{WhyFault, print_why};
+pub use why::print_why;
 pub use words::{LoneQuery, Outlook, lone_query, read_outlook};
 
 mod answer;

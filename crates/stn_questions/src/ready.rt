@@ -1,8 +1,8 @@
-ghost use Rattle.std.specs.{Prelude.{◌≡◌, ℕ, ℤ, ◌+◌, ◌≤◌, ◌≤ℤ◌, ◌++◌, List, length, codes, IfOk, OnOk, OnErr, MatchOption}, List.flat_map};
+ghost use Rattle.std.specs.{Prelude.{◌≡◌, ℕ, ℤ, ◌+◌, ◌≤◌, ◌≤ℤ◌, ◌++◌, List, length, IfOk, OnOk, OnErr, MatchOption}, List.flat_map};
 ghost use Rattle.stn_net.specs.{Difference.Difference, Event.{event_text, most_events}, Schedule.{HasSchedule, times_of}, Windows.{Dispatch.IsLeft, Leading.{AreReadyAt, IsLeastLatest}}};
 ghost use Rattle.stn_lift.specs.PlanSource.{events_of};
 ghost use Rattle.stn_site.specs.{Bounds.all_bounds, Lines.line};
-ghost use Rattle.stn_questions.specs.{Foresight.earlier_time, Ready.{AreReadyEvents, AreReadyLines, IsReadyAnswer, IsReadyWith, ready_line}};
+ghost use Rattle.stn_questions.specs.{Foresight.earlier_time, Ready.{AreReadyEvents, IsReadyWith, ready_line}};
 
 use crate::foresight::next_with;
 use crate::ready_event::ReadyEvent;
@@ -30,71 +30,28 @@ pub fn print_ready_with<A: Allocator + Copy, B: Allocator>(
     ensures kept { OnErr result (out.new.items ≡ out.old.items) }
 {
     let mut text = Vec::new(plan.alloc());
-    append_text(plan, done, now, &mut text)?;
+    match next_with(plan, done, now)? {
+        Some(answer) => match answer {
+            Next::Run(_, _) => append_lines(&ready_events(plan, done, now)?, &mut text)?,
+            Next::AllDone => text.extend_from_slice(b"all done\n")?,
+            Next::Overdue(event) => append_event_line(&mut text, b"overdue ", event)?,
+        },
+        None => text.extend_from_slice(b"conflict\n")?,
+    }
     out.extend_from_slice(&text)
 }
 
-fn append_text<A: Allocator + Copy>(
-    plan: &SitePlan<A>,
-    done: &[bool],
-    now: Ms,
-    out: &mut Vec<u8, A>,
+/// Appends a line of these words and an event.
+pub fn append_event_line<B: Allocator>(
+    out: &mut Vec<u8, B>,
+    words: &[u8],
+    event: Event,
 ) -> Result<(), Memory>
-    requires { length done.now ≡ events_of plan.now.source + 1 }
-    ensures { OnOk result ((text : List ℕ)
-        × IsReadyWith (all_bounds plan.now.source plan.now.state) done.now now text
-        × (out.new.items ≡ out.old.items ++ text)) }
+    ensures { OnOk result (out.new.items ≡ out.old.items ++ line (words.now ++ event_text event)) }
 {
-    match next_with(plan, done, now)? {
-        Some(answer) => append_answer(plan, done, now, answer, out),
-        None => out.extend_from_slice(b"conflict\n"),
-    }
-}
-
-// Appends what is printed where this comes next.
-fn append_answer<A: Allocator + Copy>(
-    plan: &SitePlan<A>,
-    done: &[bool],
-    now: Ms,
-    answer: Next,
-    out: &mut Vec<u8, A>,
-) -> Result<(), Memory>
-    requires one_each { length done.now ≡ events_of plan.now.source + 1 }
-    requires possible { HasSchedule (all_bounds plan.now.source plan.now.state) }
-    ensures { OnOk result ((text : List ℕ)
-        × IsReadyAnswer (all_bounds plan.now.source plan.now.state) done.now now answer text
-        × (out.new.items ≡ out.old.items ++ text)) }
-{
-    match answer {
-        Next::Run(_, _) => append_ready(plan, done, now, out),
-        Next::AllDone => out.extend_from_slice(b"all done\n"),
-        Next::Overdue(event) => append_overdue(event, out),
-    }
-}
-
-fn append_overdue<B: Allocator>(event: Event, out: &mut Vec<u8, B>) -> Result<(), Memory>
-    ensures { OnOk result (out.new.items ≡ out.old.items ++ line (codes "overdue " ++ event_text event)) }
-{
-    out.extend_from_slice(b"overdue ")?;
+    out.extend_from_slice(words)?;
     event.print(out)?;
     out.extend_from_slice(b"\n")
-}
-
-// Appends the lines of the events that are ready from now on.
-fn append_ready<A: Allocator + Copy>(
-    plan: &SitePlan<A>,
-    done: &[bool],
-    now: Ms,
-    out: &mut Vec<u8, A>,
-) -> Result<(), Memory>
-    requires one_each { length done.now ≡ events_of plan.now.source + 1 }
-    requires possible { HasSchedule (all_bounds plan.now.source plan.now.state) }
-    ensures { OnOk result ((text : List ℕ)
-        × AreReadyLines (all_bounds plan.now.source plan.now.state) done.now now text
-        × (out.new.items ≡ out.old.items ++ text)) }
-{
-    let ready = ready_events(plan, done, now)?;
-    append_lines(&ready, out)
 }
 
 // The events that are ready from now on, in the order in which they are printed: none after the least of

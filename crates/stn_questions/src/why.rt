@@ -1,36 +1,14 @@
-ghost use Rattle.std.specs.Prelude.{◌≡◌, ◌↔◌, ◌<◌, ◌≤◌, ◌++◌, ℕ, List, IfOk, OnOk, OnErr, IsErrOf};
+ghost use Rattle.std.specs.Prelude.{◌≡◌, ◌≤◌, ◌++◌, ℕ, List, None, IfOk, IfErr, OnOk, OnErr};
 ghost use Rattle.stn_lift.specs.PlanSource.{events_of};
-ghost use Rattle.stn_questions.specs.{Why.{HoldEnds, IsWhyPart, IsWhyText}, declared.why.WhyFault.TheVariants.Memory as want_of_memory};
+ghost use Rattle.stn_questions.specs.{Answer.{IsQuestionRefusal, IsQuestionFailure}, Why.{HoldEnds, IsWhyPart, IsWhyText}, declared.asked.Question.TheVariants.Why};
 
 use crate::ends::{append_ends, ends_of, times_of};
-use std::alloc::{AllocError, Allocator};
+use std::alloc::Allocator;
 use stn_conflict::BothWays;
-use stn_net::Event;
+use stn_net::{BoundFault, Event};
+use stn_refusal::Failure;
 use stn_site::{SitePlan, append_window_line};
 use stn_time::Memory;
-use thiserror::Error;
-
-/// Why a question about an event, or about two, has no answer.
-#[derive(Clone, Copy, Debug, PartialEq, Eq, Error)]
-pub enum WhyFault {
-    /// An event is not one of the plan.
-    #[error("no such event")]
-    NoEvent,
-    /// Both events are the same.
-    #[error("an event and itself")]
-    SameEvent,
-    /// Memory ran out.
-    #[error("out of memory")]
-    Memory,
-}
-
-impl From<AllocError> for WhyFault {
-    ghost from_gives = { λ _ made. made ≡ want_of_memory };
-
-    fn from(_refused: AllocError) -> WhyFault {
-        WhyFault::Memory
-    }
-}
 
 /// Appends why an event's window ends where it does: the line of its window, and for each end of it the
 /// end's time and the way of bounds that holds it. Where all bounds have no schedule, it appends the
@@ -42,15 +20,14 @@ pub fn print_why<A: Allocator + Copy, B: Allocator>(
     plan: &SitePlan<A>,
     event: Event,
     out: &mut Vec<u8, B>,
-) -> Result<(), WhyFault>
+) -> Result<(), Failure>
     ensures printed { OnOk result ((text : List ℕ) × IsWhyText plan.now.source plan.now.state event text × (out.new.items ≡ out.old.items ++ text)) }
-    ensures there { OnOk result (event ≤ events_of plan.now.source) }
-    ensures no_event { IsErrOf result WhyFault.NoEvent ↔ (events_of plan.now.source < event) }
-    ensures one { ¬ IsErrOf result WhyFault.SameEvent }
+    ensures accepted { OnOk result (IsQuestionRefusal plan.now.source (Why event) None) }
+    ensures refused { IfErr result (IsQuestionFailure plan.now.source (Why event)) }
     ensures kept { OnErr result (out.new.items ≡ out.old.items) }
 {
     if event.number() > plan.base().events() {
-        return Err(WhyFault::NoEvent);
+        return Err(Failure::from(BoundFault::NoEvent));
     }
     append_why(plan, event, out)?;
     Ok(())

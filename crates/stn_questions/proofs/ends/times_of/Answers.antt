@@ -1,4 +1,4 @@
-use Rattle.std.proofs.{Common.{rules, ◌≡◌, neg_ℤ, arith}, lemmas.Int.ints}
+use Rattle.std.proofs.{Common.{rules}, lemmas.Int.ints}
 use Rattle.stn_questions.proofs.ends.times_of.Goals as goal
 
 pub returns : goal.returns

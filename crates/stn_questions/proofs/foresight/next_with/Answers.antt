@@ -1,4 +1,4 @@
-use Rattle.std.proofs.Common.{length, ap, arith}
+use Rattle.std.proofs.Common.{arith}
 use Rattle.stn_net.specs.{Schedule.times_of, Windows.Soonest.AreSoonest}
 use Rattle.stn_lift.specs.PlanSource.{events_of}
 use Rattle.stn_site.specs.Bounds.{all_bounds}
@@ -6,11 +6,7 @@ use Rattle.stn_questions.specs.Foresight.{AreSoonestOf}
 use Rattle.stn_questions.proofs.foresight.next_with.Goals as goal
 
 pub soonest_next-requires-clause-few : goal.soonest_next-requires-clause-few
-soonest_next-requires-clause-few g c =
-    let source = c.args.plan.now.source in
-    let found : AreSoonestOf (all_bounds source c.args.plan.now.state) (events_of source) c.args.done.now c.args.now c.in-Soonest.times.items =
-    rw c.in-Soonest.is at c.in_ok-look_ahead.ensures in
-    omega arith
+soonest_next-requires-clause-few g c = omega (arith, rw c.in-Soonest.is at c.in_ok-look_ahead.ensures)
 
 pub returns-in-Soonest : goal.returns-in-Soonest
 returns-in-Soonest g c =

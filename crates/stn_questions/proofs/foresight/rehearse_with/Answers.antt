@@ -1,4 +1,4 @@
-use Rattle.std.proofs.Common.{inr, length, refl, ap, arith}
+use Rattle.std.proofs.Common.{inr, refl, arith}
 use Rattle.stn_net.{specs.{Schedule.{HasSchedule, times_of}, Windows.{Dispatch.IsOverdue, Soonest.AreSoonest}}, proofs.Rehearsals.{overdue_cannot_wait, rehearsed_schedule, rehearsed_rising, rehearsed_in_time, rehearsed_once}}
 use Rattle.stn_lift.specs.PlanSource.{events_of}
 use Rattle.stn_site.{specs.Bounds.all_bounds, proofs.Rest.rest_of_plan}
@@ -6,11 +6,7 @@ use Rattle.stn_questions.specs.Foresight.{AreSoonestOf}
 use Rattle.stn_questions.proofs.foresight.rehearse_with.Goals as goal
 
 pub soonest_runs-requires-clause-few : goal.soonest_runs-requires-clause-few
-soonest_runs-requires-clause-few g c =
-    let source = c.args.plan.now.source in
-    let found : AreSoonestOf (all_bounds source c.args.plan.now.state) (events_of source) c.args.done.now c.args.now c.in-Soonest.times.items =
-    rw c.in-Soonest.is at c.in_ok-look_ahead.ensures in
-    omega arith
+soonest_runs-requires-clause-few g c = omega (arith, rw c.in-Soonest.is at c.in_ok-look_ahead.ensures)
 
 pub returns-in-Overdue-clause-fault : goal.returns-in-Overdue-clause-fault
 returns-in-Overdue-clause-fault g c =

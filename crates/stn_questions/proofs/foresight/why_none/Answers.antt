@@ -1,8 +1,8 @@
-use Rattle.std.proofs.{Common.{rules, ◌≡◌, ◌+◌, ◌++◌, length, ap, subst, ◌∙◌, arith}, lemmas.Option.MatchOption-at_some}
-use Rattle.stn_net.specs.{Schedule.times_of, Windows.{Dispatch.{IsOverdue, CanWaitUntil}, Soonest.AreLatest}}
-use Rattle.stn_lift.specs.PlanSource.{base_bounds, events_of, IsSoundSource}
+use Rattle.std.proofs.{Common.{rules, ◌≡◌, ◌+◌, ◌++◌, length, ap, ◌∙◌, arith}}
+use Rattle.stn_net.specs.{Schedule.times_of, Windows.{Soonest.AreLatest}}
+use Rattle.stn_lift.specs.PlanSource.{events_of, IsSoundSource}
 use Rattle.stn_site.specs.Bounds.{all_bounds}
-use Rattle.stn_questions.proofs.Foretold.{all_in, all_named}
+use Rattle.stn_questions.proofs.Foretold.{all_named}
 use Rattle.stn_questions.proofs.foresight.why_none.Goals as goal
 
 pub returns-in-Some : goal.returns-in-Some

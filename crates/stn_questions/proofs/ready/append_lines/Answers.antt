@@ -1,6 +1,4 @@
-use Rattle.std.proofs.lemmas.Grind.{common_steps}
-use Rattle.std.proofs.Common.{arith}
-use Rattle.stn_questions.specs.Ready.{ready_line}
+use Rattle.std.proofs.{lemmas.Grind.common_steps, Common.arith}
 use Rattle.stn_text.proofs.Growing.{lines_grown}
 use Rattle.stn_questions.proofs.ready.append_lines.Goals as goal
 

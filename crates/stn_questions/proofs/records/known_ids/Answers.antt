@@ -1,5 +1,5 @@
-use Rattle.std.{proofs.{Common.{rules, ◌≡◌, ◌++◌, map, ap, ◌∙◌}, lemmas.List.Filters.dedup_is}, specs.FinMap.entries}
-use Rattle.stn_records.specs.{Id.SiteCounter, declared.record.Record.Record, Content.Content}
+use Rattle.std.{proofs.{Common.{rules, ◌≡◌, ap, ◌∙◌}, lemmas.List.Filters.dedup_is}, specs.FinMap.entries}
+use Rattle.stn_records.specs.{Content.Content}
 use Rattle.stn_questions.proofs.KnownOnce.{same_numbers, listed_ids, known_once}
 use Rattle.stn_questions.proofs.records.known_ids.Goals as goal
 

@@ -1,5 +1,5 @@
-use Rattle.std.proofs.{Common.{rules, ◌≡◌, ◌≤◌, ◌++◌, Ok, length, sym, ap, subst, ◌∙◌, arith}, lemmas.Result.IfOk-equal}
-use Rattle.stn_lift.specs.{BaseBounds.duration_of, Plan.Steps.plan_of, PlanSource.{bare, files, plan_source, activities_of, IsSoundSource}}
+use Rattle.std.proofs.{Common.{rules, ◌≡◌, ◌≤◌, Ok, length, sym, ap, subst, ◌∙◌}}
+use Rattle.stn_lift.specs.{Plan.Steps.plan_of, PlanSource.{files, plan_source, IsSoundSource}}
 use Rattle.stn_questions.{specs.{Durations.least_of, Steps.{planned_steps, step_lines, steps_text}}, proofs.{Lasting.plan_was_read, Listing.step_lines-same}}
 use Rattle.stn_questions.proofs.steps.append_steps.Goals as goal
 

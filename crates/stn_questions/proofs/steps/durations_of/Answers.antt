@@ -1,4 +1,4 @@
-use Rattle.std.proofs.{Common.{rules, length, drop, sym, ap, subst, ◌∙◌, arith}, lemmas.List.take_rest}
+use Rattle.std.proofs.{Common.{rules, drop, sym, ap, subst, ◌∙◌}, lemmas.List.take_rest}
 use Rattle.stn_lift.{specs.PlanSource.{base_bounds, events_of, IsSoundSource}, proofs.PlanHorizon.horizon_within}
 use Rattle.stn_questions.{specs.Durations.AreDurations, proofs.Lasting.durations_last}
 use Rattle.stn_questions.proofs.steps.durations_of.Goals as goal

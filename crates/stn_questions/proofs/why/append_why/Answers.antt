@@ -1,6 +1,4 @@
-use Rattle.std.proofs.{Common.{rules, inl, inr}, lemmas.Result.IfOk-weaker}
-use Rattle.stn_site.proofs.Printing.{kept_err}
-use Rattle.stn_questions.{specs.Why.IsWhyText, proofs.Reasons.reasons_appended}
+use Rattle.std.proofs.{Common.{rules, inr}, lemmas.Result.IfOk-weaker}
 use Rattle.stn_questions.proofs.why.append_why.Goals as goal
 
 pub returns-in_ok-text-in-Some : goal.returns-in_ok-text-in-Some
