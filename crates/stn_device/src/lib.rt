@@ -7,7 +7,7 @@ pub use connection::{Connection, Watch};
 pub use counted::Counted;
 pub use deadline::{Deadline, TimedStream, Timer, UntilDeadline};
 pub use partner::{Ear, Finish, Partner};
-pub use whole::{MOST_BYTES, OutputFault, ReadFault, WriteFault, drain, read_whole, write_whole};
+pub use whole::{MOST_BYTES, ReadFault, WriteFault, drain, read_whole, write_whole};
 
 mod callers;
 mod connection;

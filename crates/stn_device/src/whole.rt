@@ -1,6 +1,7 @@
 ghost use Rattle.std.specs.{Prelude.{◌≡◌, ◌≢◌, ◌<◌, ◌≤◌, ◌+◌, length, Err, OnOk, OnErr, IfOk, IfSome, IsErrOf}, Io.KnownBytes.{Appends, Consumes, IsAtEnd}};
-ghost use Rattle.stn_device.specs.{Counted.{counted_device, CountsFailure, KeepsCount}, Bytes.{ConsumesAtMost, AppendsPart, UsesUpTo}, declared.whole.ReadFault.TheVariants.Memory, Failures.{read_failure, output_failure}};
-ghost use Rattle.stn_device.specs.declared.whole.OutputFault.TheVariants as output;
+ghost use Rattle.stn_refusal.specs.declared.failure.Failure.TheVariants.{Failed};
+ghost use Rattle.stn_refusal.specs.declared.failure.Fault.TheVariants as device;
+ghost use Rattle.stn_device.specs.{Counted.{counted_device, CountsFailure, KeepsCount}, Bytes.{ConsumesAtMost, AppendsPart, UsesUpTo}, declared.whole.ReadFault.TheVariants.Memory, Failures.read_failure};
 
 use crate::counted::Counted;
 use std::alloc::{AllocError, Allocator};
@@ -53,41 +54,11 @@ impl From<ReadFault> for Failure {
 #[error("a write failed")]
 pub struct WriteFault;
 
-/// Why what is to be written was not.
-#[derive(Clone, Copy, Debug, PartialEq, Eq, Error)]
-pub enum OutputFault {
-    /// A call of the writer failed, or took nothing.
-    #[error("a write failed")]
-    Write,
-    /// Memory was refused.
-    #[error("out of memory")]
-    Memory,
-}
+impl From<WriteFault> for Failure {
+    ghost from_gives = { λ _ given. given ≡ Failed device.Write };
 
-impl From<AllocError> for OutputFault {
-    ghost from_gives = { λ _ fault. fault ≡ output.Memory };
-
-    fn from(_refused: AllocError) -> OutputFault {
-        OutputFault::Memory
-    }
-}
-
-impl From<WriteFault> for OutputFault {
-    ghost from_gives = { λ _ fault. fault ≡ output.Write };
-
-    fn from(_fault: WriteFault) -> OutputFault {
-        OutputFault::Write
-    }
-}
-
-impl From<OutputFault> for Failure {
-    ghost from_gives = { λ fault given. given ≡ output_failure fault };
-
-    fn from(fault: OutputFault) -> Failure {
-        match fault {
-            OutputFault::Write => Failure::Failed(Fault::Write),
-            OutputFault::Memory => Failure::Failed(Fault::Memory),
-        }
+    fn from(_fault: WriteFault) -> Failure {
+        Failure::Failed(Fault::Write)
     }
 }
 

@@ -13,10 +13,8 @@ pub fn print<W: Write>(text: &[u8], out: &mut Counted<W>) -> Result<(), Failure>
     ensures printed { OnOk result (Prints (device_of W.contents out.old) (device_of W.contents out.new) text.now) }
     ensures failed { IfErr result (IsUnprinted (device_of W.contents out.old) (device_of W.contents out.new) text.now) }
 {
-    match write_whole(out, text) {
-        Ok(()) => Ok(()),
-        Err(_) => Err(Failure::Failed(Fault::Write)),
-    }
+    write_whole(out, text)?;
+    Ok(())
 }
 
 /// Prints a line that is to be seen before the program goes on.

@@ -1,4 +1,3 @@
 pub mod Served
 pub mod Joined
-mod Asked
 mod Keepings

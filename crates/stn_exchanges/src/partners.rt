@@ -214,8 +214,7 @@ fn ask<R: Read, W: Finish, A: Allocator + Copy, C: SiteCopy<A>>(
         (meeting (partner_state R.remaining W.contents W.ended partner.old) (shared (C.held copy.now).state entries) out)
         (meeting (partner_state R.remaining W.contents W.ended partner.new) (shared (C.held copy.now).state entries) out) result }
 {
-    send_requests(alloc, copy, &mut partner.writer)?;
-    Ok(())
+    send_requests(alloc, copy, &mut partner.writer)
 }
 
 // Receives the replies: the text that came.

@@ -8,8 +8,7 @@ use Rattle.stn_exec.{specs.{Heading.IsHeadingFailure, Effect.{CommandReply, Comm
 use Rattle.stn_command.specs.Words.{and_then}
 use Rattle.stn_lift.specs.PlanSource.{events_of}
 use Rattle.stn_records.specs.Id.{IsSite}
-use Rattle.stn_world.specs.{declared.faults.WorldFault.WorldFault, Failures.world_failure, Faults.IsOpeningFault, World.{World, opening_world}}
-use Rattle.stn_world.specs.declared.faults.WorldFault.TheVariants as world_fault
+use Rattle.stn_world.specs.{Faults.IsOpeningFailure, World.{World, opening_world}}
 
 -- an empty text has no lines
 pub lines_of-none : (text : List ℕ) → length text ≡ 0 → lines_of text ≡ []
@@ -66,14 +65,10 @@ module _ (last : ℕ) (lines : List (List ℕ)) (base : Based) (found : Found) (
   unfolding with_sites
   heading-none sites g none = ap (λ r. and_then r (with_sites last)) e ∙ rw (f, g, none) refl
 
-  pub heading-unopened : (sites count : ℕ) (fault : WorldFault) (failure : Failure) → or_line found.number (heading_number (codes "sites") found.words) ≡ Ok sites
-      → (1 ≤ sites → sites ≤ 64 → IsSite count) → IsOpeningFault count fault → failure ≡ world_failure fault → IsHeadingFailure (heading_of last lines) failure
-  heading-unopened sites count world_fault.Memory failure g site none gives = inl gives
-  heading-unopened sites count world_fault.TooManyPackets failure g site none gives = absurd none
-  heading-unopened sites count world_fault.NoPacket failure g site none gives = absurd none
-  heading-unopened sites count (world_fault.Replica fault) failure g site none gives = absurd none
-  heading-unopened sites count world_fault.NoSite failure g site none gives =
-      inr (heading-none sites g (sites_of-none sites (λ least most. none (site least most))) ∙ ap Err (sym gives))
+  pub heading-unopened : (sites count : ℕ) (failure : Failure) → or_line found.number (heading_number (codes "sites") found.words) ≡ Ok sites
+      → (1 ≤ sites → sites ≤ 64 → IsSite count) → IsOpeningFailure count failure → IsHeadingFailure (heading_of last lines) failure
+  heading-unopened sites count failure g site (inl none) = inr (heading-none sites g (sites_of-none sites (λ least most. none.0 (site least most))) ∙ ap Err (sym none.1))
+  heading-unopened sites count failure g site (inr lacking) = inl lacking.1
 
   pub heading-made : (sites : ℕ) → or_line found.number (heading_number (codes "sites") found.words) ≡ Ok sites → sites_of sites ≡ Ok sites
       → heading_of last lines ≡ Ok (record { source = base.source; sites = sites; number = found.number + 1; lines = found.behind })

@@ -4,7 +4,7 @@ use Rattle.stn_refusal.specs.{declared.{code.Code.TheVariants.NoSite, failure.Fa
 use Rattle.stn_lift.specs.PlanSource.{PlanSource}
 use Rattle.stn_records.specs.Content.{Content, part_of}
 use Rattle.stn_site.specs.declared.change.Change.{Change}
-use Rattle.stn_world.specs.{declared.faults.WorldFault.WorldFault, Failures.world_failure, Parts.holds_all, World.{World, has_site, content_at, next_id_at}, Steps.{Step, changed, merged, sent, delivered, step_refusal, send_refusal, after}}
+use Rattle.stn_world.specs.{Parts.holds_all, World.{World, has_site, content_at, next_id_at}, Steps.{Step, changed, merged, sent, delivered, step_refusal, send_refusal, after}}
 use Rattle.stn_command.specs.{Change.made_by, Query.Query}
 use Rattle.stn_exec.specs.{declared.answer.Answer.Answer, Command.{Action, change, merge, send_all, send, deliver, query, Command}}
 use Rattle.stn_exec.specs.declared.answer.Answer.TheVariants as answer
@@ -26,10 +26,10 @@ refusing world cause = record { world = world; reply = declined cause }
 
 -- a call of the world, which leaves a world and answers what was made;
 -- where something refuses the call, that is the answer, and nothing changes
-abbrev pub answered : World → World → Answer → Option WorldFault → CommandEffect
+abbrev pub answered : World → World → Answer → Option Failure → CommandEffect
 answered world left made cause = record {
   world = if is_some cause then world else left;
-  reply = option_map_or (λ fault. declined (world_failure fault)) cause (said made);
+  reply = option_map_or declined cause (said made);
 }
 
 -- a call that is a step

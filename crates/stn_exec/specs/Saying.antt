@@ -2,7 +2,7 @@
 -- What a call answered or why it was declined, and how that was appended.
 use Rattle.std.specs.Prelude.{◌≡◌, ◌⊎◌, ℕ, List, ◌++◌, Result, Ok, Err}
 use Rattle.stn_refusal.specs.{declared.failure.Failure.Failure, Refusals.out_of_memory}
-use Rattle.stn_world.specs.{declared.faults.WorldFault.WorldFault, Failures.world_failure, World.{World, content_at}}
+use Rattle.stn_world.specs.World.{World, content_at}
 use Rattle.stn_site.specs.Held.{Held}
 use Rattle.stn_command.specs.Query.{Query}
 use Rattle.stn_exec.specs.{declared.answer.Answer.{Answer, TheVariants.Sent}, Effect.{CommandEffect, said, declined, telling}, Output.{IsAnswerText, Declines}}
@@ -13,14 +13,14 @@ IsEffect (Ok answer) world effect = record { world = world; reply = said answer 
 IsEffect (Err failure) world effect = (failure ≡ out_of_memory) ⊎ (record { world = world; reply = declined failure } ≡ effect)
 
 -- what a call of the world answers: what is said where it was accepted, or why it was refused
-abbrev pub call_answer : Result (Unit {0}) WorldFault → Answer → Result Answer Failure
+abbrev pub call_answer : Result (Unit {0}) Failure → Answer → Result Answer Failure
 call_answer (Ok done) made = Ok made
-call_answer (Err fault) made = Err (world_failure fault)
+call_answer (Err failure) made = Err failure
 
 -- so of one that sends a packet
-abbrev pub sent_answer : Result ℕ WorldFault → Result Answer Failure
+abbrev pub sent_answer : Result ℕ Failure → Result Answer Failure
 sent_answer (Ok number) = Ok (Sent number)
-sent_answer (Err fault) = Err (world_failure fault)
+sent_answer (Err failure) = Err failure
 
 -- the effect's world is left, and its answer was appended; or nothing was, and the failure is why there is no answer; or memory ran out
 abbrev pub IsDone : World → List ℕ → List ℕ → CommandEffect → Result (Unit {0}) Failure → Type 0

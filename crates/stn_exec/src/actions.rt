@@ -11,7 +11,7 @@ use std::alloc::Allocator;
 use stn_command::{Made, Query, append_said};
 use stn_refusal::Failure;
 use stn_site::{Change, SitePlan};
-use stn_world::{World, WorldFault};
+use stn_world::World;
 
 /// Changes what a site holds, if the words of the change could be read.
 pub fn change<A: Allocator + Copy>(
@@ -42,22 +42,22 @@ pub fn send<A: Allocator + Copy>(
 }
 
 /// What a call that sends answers.
-pub fn sent(call: Result<u16, WorldFault>) -> Result<Answer, Failure>
+pub fn sent(call: Result<u16, Failure>) -> Result<Answer, Failure>
     ensures { result ≡ sent_answer call }
 {
     match call {
         Ok(number) => Ok(Answer::Sent(number)),
-        Err(fault) => Err(Failure::from(fault)),
+        Err(failure) => Err(failure),
     }
 }
 
 /// What a call that makes nothing answers.
-pub fn answered(call: Result<(), WorldFault>, answer: Answer) -> Result<Answer, Failure>
+pub fn answered(call: Result<(), Failure>, answer: Answer) -> Result<Answer, Failure>
     ensures { result ≡ call_answer call answer }
 {
     match call {
         Ok(()) => Ok(answer),
-        Err(fault) => Err(Failure::from(fault)),
+        Err(failure) => Err(failure),
     }
 }
 

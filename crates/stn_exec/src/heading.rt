@@ -55,10 +55,8 @@ pub fn open<A: Allocator + Copy>(
         number: found.number + 1,
         text: found.behind,
     };
-    match World::of_plans(alloc, Rc::new(alloc, base)?, saturated(sites)) {
-        Ok(world) => Ok((world, rest)),
-        Err(fault) => Err(Failure::from(fault)),
-    }
+    let world = World::of_plans(alloc, Rc::new(alloc, base)?, saturated(sites))?;
+    Ok((world, rest))
 }
 
 // The number as a byte, or the greatest byte if it is too large for one.

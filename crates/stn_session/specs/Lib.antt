@@ -1,6 +1,5 @@
 pub mod Session
 pub mod Serving
 pub mod Exchange
-pub mod Reception
 pub mod Turns
 pub mod Failures

@@ -1,7 +1,8 @@
 // What a site asks of another, and what it makes of the replies.
 ghost use Rattle.std.specs.Prelude.{◌≡◌, ◌≢◌, ◌⊎◌, ◌++◌, List, ℕ, Option, Err, IfOk, IfErr, OnOk, OnErr, IsErrOf};
-ghost use Rattle.stn_device.specs.{Counted.{counted_device, CountsFailure, KeepsCount}, Failures.output_failure};
-ghost use Rattle.stn_effects.specs.{Effects.failing, Printing.{device_of, Writes}};
+ghost use Rattle.stn_device.specs.Counted.{counted_device, CountsFailure, KeepsCount};
+ghost use Rattle.stn_effects.specs.Printing.{device_of, Writes};
+ghost use Rattle.stn_refusal.specs.Refusals.{out_of_memory};
 ghost use Rattle.stn_lift.specs.PlanSource.{PlanSource};
 ghost use Rattle.stn_records.specs.Content.{Content};
 ghost use Rattle.stn_wire.specs.{Frame.{content, same, records, text}, Stream.{unread, pending, IsReading}};
@@ -10,7 +11,7 @@ ghost use Rattle.stn_session.specs.{Exchange.{request_bytes, at_stage, greeting,
 use crate::replies::append_state;
 use std::alloc::{AllocError, Allocator};
 use std::io::{Read, Write};
-use stn_device::{Counted, OutputFault, ReadFault, write_whole};
+use stn_device::{Counted, ReadFault, write_whole};
 use stn_records::Records;
 use stn_refusal::{Code, Failure, Fault};
 use stn_site::{ReplicaFault, SiteCopy};
@@ -25,10 +26,10 @@ pub fn send_requests<W: Write, A: Allocator + Copy, C: SiteCopy<A>>(
     alloc: A,
     copy: &C,
     writer: &mut Counted<W>,
-) -> Result<(), OutputFault>
+) -> Result<(), Failure>
     ensures asked { Writes (request_bytes (C.held copy.now).source (C.held copy.now).state)
-        (device_of W.contents writer.old) (device_of W.contents writer.new) (failing output_failure result) }
-    ensures unwritten { IsErrOf result OutputFault.Memory → writer.new ≡ writer.old }
+        (device_of W.contents writer.old) (device_of W.contents writer.new) result }
+    ensures unwritten { IsErrOf result out_of_memory → writer.new ≡ writer.old }
 {
     let mut out = Vec::new(alloc);
     append_requests(copy, &mut out)?;

@@ -4,15 +4,11 @@
 
 pub use exchange::{ReplyFault, receive_replies, send_requests};
 pub use keeper::{Keeper, Nowhere};
-pub use laws::{one_session, some_session};
-pub use reception::{one_reception, some_reception};
 pub use session::{End, KeepingFault, ServeFault, Served, serve, serve_keeping};
 pub use stn_device::{Counted, MOST_BYTES};
 pub use stn_wire::FrameFault;
 
 mod exchange;
 mod keeper;
-mod laws;
-mod reception;
 mod replies;
 mod session;

@@ -1,6 +1,5 @@
 -- What is read of a line, byte after byte.
-use Rattle.std.proofs.lemmas.Grind.{common_steps}
-use Rattle.std.{proofs.Common.{rules, zero, suc, ◌≡◌, ◌≢◌, ◌∙◌, ap, sym, ⊎_elim, refl, ℕ, ◌+◌, ◌<◌, List, [], ◌∷◌, ◌++◌, length, take, Option, None, Some, Ok, Vec, arith, length-append}, specs.{Prelude.{IsNone, IfSome, option_map}, Io.KnownBytes.{Consumes, IsAtEnd}}}
+use Rattle.std.{proofs.{lemmas.Grind.common_steps, Common.{rules, zero, suc, ◌≡◌, ◌≢◌, ◌∙◌, ap, sym, ⊎_elim, refl, ℕ, ◌+◌, ◌<◌, List, [], ◌∷◌, ◌++◌, length, take, Option, None, Some, Ok, Vec, arith, length-append}}, specs.{Prelude.{IsNone, IfSome, option_map}, Io.KnownBytes.{Consumes, IsAtEnd}}}
 use Rattle.stn_text.specs.Bytes.{line_feed}
 use Rattle.stn_effects.specs.Printing.{Device}
 use Rattle.stn_shell.specs.Lines.{AreWithinLine, AreOfLine, Takes, TakesLine}

@@ -5,8 +5,7 @@ ghost use Rattle.clap.specs.Words.{kind_of};
 ghost use Rattle.stn_device.specs.Counted.{failure_count};
 ghost use Rattle.stn_effects.specs.{Effects.seen, Printing.{Device, device_of}};
 ghost use Rattle.stn_shell.specs.{Carried.{RunsInput, Listens, ServesLog, SendsLog, Answers, Does}, Executed.{IsExecuted, SaysText, TellsLackOfMemory}, Outside.{outside, Ends}};
-ghost use Rattle.stn_refusal.specs.declared.failure.Failure.TheVariants.{Failed as FailedBy};
-ghost use Rattle.stn_refusal.specs.declared.failure.Fault.TheVariants.{Net as FaultOfNet};
+ghost use Rattle.stn_refusal.specs.declared.failure.{Failure.TheVariants.Failed as FailedBy, Fault.TheVariants.Net as FaultOfNet};
 ghost use Rattle.stn_store.specs.{Files.IsFileFault, Steps.{Entries, LoadsLog}};
 
 use crate::coprocess::run_shell;

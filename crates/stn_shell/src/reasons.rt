@@ -3,8 +3,7 @@
 ghost use Rattle.std.specs.Prelude.{◌≡◌};
 ghost use Rattle.stn_effects.specs.Printing.{device_of};
 ghost use Rattle.stn_reasons.specs.{Hints.IsHinted, Reasons.{IsReason, IsReasonInLine}, Waiting.TellsWaiting};
-ghost use Rattle.stn_refusal.specs.declared.failure.Failure.TheVariants.{Failed};
-ghost use Rattle.stn_refusal.specs.declared.failure.Fault.TheVariants.{Net as FaultOfNet};
+ghost use Rattle.stn_refusal.specs.declared.failure.{Failure.TheVariants.Failed, Fault.TheVariants.Net as FaultOfNet};
 ghost use Rattle.stn_shell.specs.Outside.{TellsSome};
 
 use std::alloc::Global;

@@ -1,6 +1,5 @@
 -- What stands under a name, entry by entry.
-use Rattle.std.proofs.lemmas.Grind.{common_steps}
-use Rattle.std.{proofs.Common.{arith, ◌≡◌, ℕ, ◌+◌, ◌<◌, true, false, List, [], ◌∷◌, ◌++◌, length, map, take, get_or, Option, Some, None, refl, sym}, specs.{Bool.then_some, Option.option_or, Str.bytes_eq}}
+use Rattle.std.{proofs.{lemmas.Grind.common_steps, Common.{arith, ◌≡◌, ℕ, ◌+◌, ◌<◌, true, false, List, [], ◌∷◌, ◌++◌, length, map, take, get_or, Option, Some, None, refl, sym}}, specs.{Bool.then_some, Option.option_or, Str.bytes_eq}}
 use Rattle.stn_store.specs.{Memory.entry_of, Store.{Entry, bytes_under}, declared.memory.NamedBytes.NamedBytes}
 
 or_none : {X : Type 0} (o : Option X) → option_or o None ≡ o

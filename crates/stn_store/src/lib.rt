@@ -2,7 +2,7 @@
 #![tactic(auto)]
 
 pub use files::FileStore;
-pub use log::{LoadFault, load, load_plan, logs_are_sound, one_log, save, some_log, spell_log};
+pub use log::{LoadFault, load, load_plan, logs_are_sound, save, spell_log};
 pub use look::{Look, SeenFile};
 pub use memory::MemoryStore;
 pub use merging::{find_same, take_in};

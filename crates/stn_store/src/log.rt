@@ -1,7 +1,7 @@
 //! Logs: what a site knows, as the bytes of a file.
 
 pub use fault::LoadFault;
-pub use laws::{logs_are_sound, one_log, some_log};
+pub use laws::logs_are_sound;
 pub use reading::{load, load_plan};
 pub use writing::{save, spell_log};
 

@@ -1,8 +1,9 @@
 // Logs and requests, of which each request for memory, each read and each write is refused in turn.
 use crate::calls::sweep::{Kind, Trial};
 use std::alloc::Global;
-use stn_device::{Counted, OutputFault};
+use stn_device::Counted;
 use stn_records::Site;
+use stn_refusal::{Failure, Fault};
 use stn_refusing::{Outcome, Refusing};
 use stn_replica::Replica;
 use stn_session::send_requests;
@@ -32,26 +33,10 @@ pub struct Task<'a> {
     pub wanted: &'a [u8],
 }
 
-/// What a call that writes answers.
-#[derive(Clone, Copy, PartialEq)]
-pub enum Answer {
-    Written,
-    Memory,
-    Write,
-}
-
-fn of_output(answer: Result<(), OutputFault>) -> Answer {
-    match answer {
-        Ok(()) => Answer::Written,
-        Err(OutputFault::Memory) => Answer::Memory,
-        Err(OutputFault::Write) => Answer::Write,
-    }
-}
-
 /// What came of a call that writes.
 #[derive(Drop)]
 pub struct Writing {
-    pub answer: Answer,
+    pub answer: Result<(), Failure>,
     pub failed: bool,
     pub written: Vec<u8>,
 }
@@ -63,8 +48,8 @@ fn written<'a>(
 ) -> Writing {
     let mut device = Counted::new(trial.writer());
     let answer = match output {
-        Output::Log => of_output(save(trial.heap, replica, &mut device)),
-        Output::Requests => of_output(send_requests(trial.heap, replica, &mut device)),
+        Output::Log => save(trial.heap, replica, &mut device),
+        Output::Requests => send_requests(trial.heap, replica, &mut device),
     };
     Writing {
         answer,
@@ -80,7 +65,7 @@ pub fn saved<'a>(trial: &Trial<'a>, replica: &Replica<&'a Refusing<Global>>) -> 
 
 // Whether all of this is written.
 fn is_all(writing: &Writing, wanted: &[u8]) -> bool {
-    writing.answer == Answer::Written && writing.written.as_slice() == wanted
+    writing.answer == Ok(()) && writing.written.as_slice() == wanted
 }
 
 /// Whether this is the log of a replica.
@@ -101,9 +86,12 @@ fn writes_then<'a>(
 // Of a refused request for memory nothing was written; of a failed write a part was.
 fn is_written(writing: &Writing, wanted: &[u8], refused: bool) -> bool {
     match writing.answer {
-        Answer::Written => !writing.failed && writing.written.as_slice() == wanted,
-        Answer::Memory => refused && writing.written.is_empty(),
-        Answer::Write => writing.failed && wanted.starts_with(&writing.written),
+        Ok(()) => !writing.failed && writing.written.as_slice() == wanted,
+        Err(Failure::Failed(Fault::Memory)) => refused && writing.written.is_empty(),
+        Err(Failure::Failed(Fault::Write)) => {
+            writing.failed && wanted.starts_with(&writing.written)
+        }
+        Err(_) => false,
     }
 }
 

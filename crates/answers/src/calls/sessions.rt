@@ -1,5 +1,5 @@
 // Sessions, of which each request for memory, each read and each write is refused in turn.
-use crate::calls::logs::{Answer, Writing, opened, saved};
+use crate::calls::logs::{Writing, opened, saved};
 use crate::calls::sweep::{Failing, Kind, NOTHING, Trial};
 use crate::calls::words::whole_frames;
 use std::alloc::Global;
@@ -173,7 +173,7 @@ fn outcome_at(talk: Talk, stage: &Stage, failing: Failing) -> Outcome {
     let Stage { serving, log } = stage;
     let refused = serving.refused || serving.failed;
     let right = (refused || serving.answer.is_ok())
-        && log.answer == Answer::Written
+        && log.answer == Ok(())
         && is_right(talk, serving, &log.written, failing);
     Outcome::of(refused, right)
 }

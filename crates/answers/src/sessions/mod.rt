@@ -88,7 +88,7 @@ fn print_requests(rt: &HostRuntime, replica: &Replica<Global>) -> io::Result<()>
     let mut writer = Counted::new(Vec::new(rt.alloc()));
     match send_requests(rt.alloc(), replica, &mut writer) {
         Ok(()) => print_hex(rt, &writer.into_inner()),
-        Err(fault) => print!(rt; "{fault}"),
+        Err(failure) => print!(rt; "{failure:?}"),
     }
 }
 

@@ -1,6 +1,5 @@
 -- What is answered where no read failed and the log is not too long.
-use Rattle.std.proofs.Common.{rules, ◌≡◌, ℕ, ◌+◌, false, List, Option, Ok, Err, IfSome}
-use Rattle.std.specs.Io.KnownBytes.{IsAtEnd}
+use Rattle.std.{proofs.Common.{rules, ◌≡◌, ℕ, ◌+◌, false, List, Option, Ok, Err, IfSome}, specs.Io.KnownBytes.IsAtEnd}
 use Rattle.stn_device.specs.{declared.counted.Counted.Counted, Counted.{counted_device, KeepsCount}, Bytes.{most_bytes, ConsumesAtMost}}
 use Rattle.stn_site.specs.Held.{Held}
 use Rattle.stn_store.specs.{Log.{log_held, meaning_of, IsDecided, Loading.Loads, Opening.is_cut_off}, declared.log.fault.LoadFault.LoadFault}

@@ -1,10 +1,11 @@
-ghost use Rattle.std.specs.{Prelude.{◌≡◌, ◌≢◌, ◌^◌, ◌-◌, ◌<◌, Ok, Err, IfOk, OnOk, OnErr, IsErrOf}, Io.KnownBytes.{Appends, Keeps}};
-ghost use Rattle.stn_device.specs.{Counted.{counted_device, failure_count, KeepsCount}, Bytes.AppendsPart};
+ghost use Rattle.std.specs.Prelude.{◌≡◌, Ok, IfOk, OnOk};
+ghost use Rattle.stn_effects.specs.Printing.{device_of, Writes};
 ghost use Rattle.stn_store.specs.Log.{log_held, log_text, IsLog};
 
 use std::alloc::Allocator;
 use std::io::Write;
-use stn_device::{Counted, OutputFault, write_whole};
+use stn_device::{Counted, write_whole};
+use stn_refusal::Failure;
 use stn_site::{SiteCopy, SitePlan};
 use stn_time::Memory;
 use stn_wire::{Said, say};
@@ -18,23 +19,12 @@ pub fn save<W: Write, A: Allocator + Copy, C: SiteCopy<A>>(
     alloc: A,
     copy: &C,
     writer: &mut Counted<W>,
-) -> Result<(), OutputFault>
-    requires writer_counts { failure_count writer.old < 2 ^ 64 - 1 }
-
-    // The whole log was written.
-    ensures written { OnOk result (Appends (W.contents (counted_device writer.old))
-        (W.contents (counted_device writer.new)) (log_text (log_held (C.held copy.now)))) }
+) -> Result<(), Failure>
+    ensures saved { Writes (log_text (log_held (C.held copy.now)))
+        (device_of W.contents writer.old) (device_of W.contents writer.new) result }
 
     // It says what the site holds.
     ensures loaded { OnOk result (IsLog (log_text (log_held (C.held copy.now))) (Ok (log_held (C.held copy.now)))) }
-
-    // What a fault leaves.
-    ensures part { OnErr result (AppendsPart (W.contents (counted_device writer.old))
-        (W.contents (counted_device writer.new)) (log_text (log_held (C.held copy.now)))) }
-    ensures unwritten { IsErrOf result OutputFault.Memory
-        → Keeps (W.contents (counted_device writer.old)) (W.contents (counted_device writer.new)) }
-    ensures write { IsErrOf result OutputFault.Write → failure_count writer.old < failure_count writer.new }
-    ensures kept { result ≢ Err OutputFault.Write → KeepsCount writer.old writer.new }
 {
     let text = spell_log(alloc, copy.plan())?;
     write_whole(writer, &text)?;

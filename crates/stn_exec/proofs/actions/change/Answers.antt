@@ -11,8 +11,8 @@ returns-in_err-asked g c =
 pub returns-in_err-id : goal.returns-in_err-id
 returns-in_err-id g c =
     let returned = err_from_is_err_and c.from_residual-in_err-id.result c.from_residual-in_err-id.ensures.1 in
-    rw returned.1 (refused_change SiteCounter c.args.world.now c.change.new.self c.args.site c.args.asked c.in_ok-asked.asked
-    c.in_err-id.field-0.0 returned.0 c.in_ok-asked.was c.in_err-id.ensures.step returned.2)
+    rw (returned.1, returned.2) (refused_change SiteCounter c.args.world.now c.change.new.self c.args.site c.args.asked c.in_ok-asked.asked
+    c.in_err-id.field-0.0 c.in_ok-asked.was c.in_err-id.ensures.step)
 
 pub returns : goal.returns
 returns g c =

@@ -1,5 +1,4 @@
-use Rattle.std.proofs.lemmas.Grind.{common_steps}
-use Rattle.std.proofs.Common.{refl, inr, arith}
+use Rattle.std.proofs.{lemmas.Grind.common_steps, Common.{refl, inr, arith}}
 use Rattle.stn_shell.proofs.execution.execute_over.Goals as goal
 
 pub returns-in-Ok : goal.returns-in-Ok

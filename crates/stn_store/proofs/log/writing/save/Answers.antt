@@ -1,47 +1,29 @@
-use Rattle.std.{proofs.{Common.{◌≡◌, Ok, [], refl, sym, ap, subst, ◌∙◌}, KnownBytes.{Appends-nil, Keeps-refl}}, specs.Io.KnownBytes.Appends}
-use Rattle.stn_device.{specs.{Bytes.AppendsPart, Counted.counted_device, declared.whole.OutputFault.TheVariants.{Write, Memory}}, proofs.Known.{fails_more, fault_or, not_err}}
-use Rattle.stn_store.{specs.Log.{Log, log_held, log_text, IsLog}, proofs.log.Saved.same_log, proofs.Lacks.passed_on}
+use Rattle.std.{proofs.{Common.{◌≡◌, Ok, inl, inr, refl, ap, subst, ◌∙◌}, lemmas.Result.err_from_is_err_and}, specs.Io.KnownBytes.Appends}
+use Rattle.stn_device.specs.Bytes.{AppendsPart}
+use Rattle.stn_store.{specs.Log.{Log, log_held, log_text, IsLog}, proofs.log.{Saved.same_log, writing.save.{Given.Over, Goals.In_ok-text}}}
 use Rattle.stn_store.proofs.log.writing.save.Goals as goal
 
-apart : Write ≡ Memory → ⊥
-apart is = cc
+-- what is written is the log of what the site holds
+text_is : (g : Over) (c : In_ok-text g) → c.in_ok-text.text.items ≡ log_text (log_held (g.C.SiteCopy.held c.args.copy.now))
+text_is g c = c.in_ok-text.ensures.text ∙ ap log_text (same_log (g.C.SiteCopy.held c.args.copy.now) c.plan.result.now c.plan.ensures.source c.plan.ensures.state)
 
 pub returns-in_err-text : goal.returns-in_err-text
 returns-in_err-text g c =
-    rw (passed_on _ _ c.from_residual.ensures.1) (record {
-      written = tt;
-      loaded = tt;
-      part = ([], log_text (log_held (g.C.SiteCopy.held c.args.copy.now)), refl, Appends-nil _);
-      unwritten = λ _. Keeps-refl _;
-      write = λ e. absurd (apart (sym (ap (fault_or Write) e)));
-      kept = λ _. refl;
-    })
+    let p = err_from_is_err_and c.from_residual.result c.from_residual.ensures.1 in
+    rw (p.1, p.2) (record { saved = inl (refl, refl); loaded = tt })
 
 pub returns-in_err-write_whole : goal.returns-in_err-write_whole
 returns-in_err-write_whole g c =
-    let before = g.W.Write.contents (counted_device c.args.writer.now) in
-    let after = g.W.Write.contents (counted_device c.write_whole.new.writer) in
-    let same = same_log (g.C.SiteCopy.held c.args.copy.now) c.plan.result.now c.plan.ensures.source c.plan.ensures.state in
+    let p = err_from_is_err_and c.from_residual-in_err-write_whole.result c.from_residual-in_err-write_whole.ensures.1 in
     let lost = c.in_err-write_whole.ensures in
-    rw (passed_on _ _ c.from_residual-in_err-write_whole.ensures.1) (record {
-      written = tt;
-      loaded = tt;
-      part = subst (AppendsPart before after) (c.deref.ensures.value ∙ c.in_ok-text.ensures.text ∙ ap log_text same) lost.part;
-      unwritten = λ e. absurd (apart (ap (fault_or Write) e));
-      write = λ _. fails_more _ _ _ lost.failed refl c.requires.writer_counts;
-      kept = λ other. absurd (other refl);
-    })
+    let text = c.deref.ensures.value ∙ text_is g (goal.at.returns-in_err-write_whole g c).In_ok-text in
+    rw (p.1, p.2) (record { saved = inr (refl, (subst (AppendsPart _ _) text lost.part, lost.failed)); loaded = tt })
 
 pub returns : goal.returns
 returns g c =
-    let before = g.W.Write.contents (counted_device c.args.writer.now) in
-    let after = g.W.Write.contents (counted_device c.write_whole.new.writer) in
+    let text = c.deref.ensures.value ∙ text_is g (goal.at.returns g c).In_ok-text in
     let same = same_log (g.C.SiteCopy.held c.args.copy.now) c.plan.result.now c.plan.ensures.source c.plan.ensures.state in
     record {
-      written = subst (Appends before after) (c.deref.ensures.value ∙ c.in_ok-text.ensures.text ∙ ap log_text same) c.in_ok-write_whole.ensures.written;
+      saved = (subst (Appends _ _) text c.in_ok-write_whole.ensures.written, c.in_ok-write_whole.ensures.kept);
       loaded = subst (λ (log : Log). IsLog (log_text log) (Ok log)) same c.in_ok-text.ensures.loaded;
-      part = tt;
-      unwritten = λ e. absurd (not_err _ _ e);
-      write = λ e. absurd (not_err _ _ e);
-      kept = λ _. c.in_ok-write_whole.ensures.kept;
     }

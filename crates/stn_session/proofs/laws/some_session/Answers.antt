@@ -1,9 +1,0 @@
-use Rattle.std.proofs.Common.{length, arith}
-use Rattle.stn_wire.proofs.Cuts.{some_cut}
-use Rattle.stn_session.proofs.SomeSession.{session_of_cut}
-use Rattle.stn_session.proofs.laws.some_session.Goals as goal
-
-pub returns : goal.returns
-returns c = λ first bytes small none.
-    some_cut (length bytes) bytes (omega arith) small
-    (λ frames rest cut. let some = session_of_cut first bytes frames rest cut in none some.0 some.1 some.2)
