@@ -1,6 +1,5 @@
 -- Texts that grow by a line.
-use Rattle.std.{proofs.{Common.{◌≡◌, ℕ, ℤ, suc, ◌+◌, ◌&&◌, not, Bool, true, false, cond, if◌then◌else◌, List, [], ◌∷◌, ◌++◌, length, filter, map, drop, drop-cons, get_or, ◌<◌, ◌≤◌, refl, sym, ap, ◌∙◌, add-one, arith, append_assoc}, lemmas.List.{length-append, map-append, Elements.filter-append}}, specs.{List.range_with_len, Prelude.int_lt}}
-use Rattle.std.specs.Int.{from_bool}
+use Rattle.std.{proofs.{Common.{◌≡◌, ℕ, ℤ, suc, ◌+◌, ◌&&◌, not, Bool, true, false, cond, if◌then◌else◌, List, [], ◌∷◌, ◌++◌, length, filter, map, drop, drop-cons, get_or, ◌<◌, ◌≤◌, refl, sym, ap, ◌∙◌, add-one, arith, append_assoc}, lemmas.List.{length-append, map-append, Elements.filter-append}}, specs.{List.range_with_len, Prelude.int_lt, Int.from_bool}}
 use Rattle.stn_records.specs.Content.{Content}
 use Rattle.stn_site.specs.{Report.is_done, Windows.window_at}
 use Rattle.stn_text.proofs.Growing.{range_push}

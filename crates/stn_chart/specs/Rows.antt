@@ -113,17 +113,20 @@ owner_text chart step =
 abbrev pub arrow_along : ℕ → ℕ → ℕ → ℕ → List ℕ → List ℕ
 arrow_along left begin right end tip = codes "<path class='v' d='M" ++ decimal left ++ codes " " ++ decimal begin ++ codes "V" ++ decimal end ++ codes "H" ++ decimal right ++ tip ++ codes "'/>"
 
--- an arrow from below the one row to above the other, or from above it to below the other
-abbrev pub arrow_path : ℕ → ℕ → ℕ → ℕ → List ℕ
-arrow_path left top right other =
+-- the arrow from an event to the start of a step: from below the row of the event to above that of the step, or from above it to below that
+abbrev pub arrow_path : Chart → ℕ → ℕ → List ℕ
+arrow_path chart event step =
+    let left = place_of chart (soonest chart event) in
+    let right = place_of chart (soonest chart (start_of step)) in
+    let top = top_of chart (step_of event) in
+    let other = top_of chart step in
     if nat_lt top other then arrow_along left (top + 18) right other (codes "v6") else arrow_along left (top + 6) right (other + row_height) (codes "v-6")
 
 -- the arrow to the start of a step that has not begun, from the event that holds it
 abbrev pub arrow_text : Chart → ℕ → List ℕ
 arrow_text chart step =
     if chart.look.arrows && (not (is_begun chart step) && not (holder_of chart step == 0))
-    then arrow_path (place_of chart (soonest chart (holder_of chart step))) (top_of chart (step_of (holder_of chart step)))
-    (place_of chart (soonest chart (start_of step))) (top_of chart step)
+    then arrow_path chart (holder_of chart step) step
     else []
 
 -- the row of a step

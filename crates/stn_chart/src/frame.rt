@@ -99,7 +99,11 @@ impl<'a, 'b, A: Allocator> Chart<'a, 'b, A> {
         ensures { OnOk result (out.new.items ≡ out.old.items ++ frame.summary_text (seen_chart self.now)) }
     {
         let (done, running) = (self.count_of(Part::Done), self.count_of(Part::Running));
-        append_counts(out, done, self.steps, running)?;
+        let steps = self.steps;
+        in_memory(write!(
+            out,
+            "<text class='s e' x='992' y='20'>{done} of {steps} steps done, {running} running"
+        ))?;
         append_overdue(out, self.overdue)?;
         append_now(out, self.look.present)?;
         out.extend_from_slice(b"</text>\n")
@@ -117,21 +121,6 @@ impl<'a, 'b, A: Allocator> Chart<'a, 'b, A> {
             None => Ok(()),
         }
     }
-}
-
-// Appends how many of so many steps are done, and how many run.
-fn append_counts<A: Allocator>(
-    out: &mut Vec<u8, A>,
-    done: u16,
-    steps: u16,
-    running: u16,
-) -> Result<(), Memory>
-    ensures { OnOk result (out.new.items ≡ out.old.items ++ frame.counts_text done steps running) }
-{
-    in_memory(write!(
-        out,
-        "<text class='s e' x='992' y='20'>{done} of {steps} steps done, {running} running"
-    ))
 }
 
 fn append_overdue<A: Allocator>(out: &mut Vec<u8, A>, event: u16) -> Result<(), Memory>

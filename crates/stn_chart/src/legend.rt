@@ -1,5 +1,5 @@
 //! The legend of what occurs.
-ghost use Rattle.std.specs.Prelude.{◌≡◌, ◌+◌, ◌++◌, ◌≤◌, ◌<◌, ◌^◌, OnOk};
+ghost use Rattle.std.specs.Prelude.{◌≡◌, ◌+◌, ◌++◌, ◌≤◌, ◌<◌, ◌^◌, IfOk, OnOk};
 ghost use Rattle.stn_chart.specs.Frame as frame;
 ghost use Rattle.stn_chart.specs.{Frame.{sample_text, meaning_text}, Seen.seen_chart};
 
@@ -31,42 +31,31 @@ impl<'a, 'b, A: Allocator> Chart<'a, 'b, A> {
         let base = row_top(u64::from(self.steps)) + 44;
         let mut left = LEGEND_LEFT;
         for part in PARTS {
-            self.append_entry_at(out, base, left, part)?;
-            left = self.left_after(left, part);
+            left = self.append_entry_at(out, base, left, part)?;
         }
         Ok(())
     }
 
-    // Appends the entry of a part, where it occurs.
+    // Appends the entry of a part, where it occurs: where the next entry begins.
     fn append_entry_at(
         &self,
         out: &mut Vec<u8, A>,
         base: u64,
         left: u64,
         part: Part,
-    ) -> Result<(), Memory>
+    ) -> Result<u64, Memory>
         requires left { left < 2 ^ 40 }
         requires base { 12 ≤ base }
-        ensures { OnOk result (out.new.items ≡ out.old.items ++ frame.entry_at (seen_chart self.now) base left part) }
+        ensures entry { OnOk result (out.new.items ≡ out.old.items ++ frame.entry_at (seen_chart self.now) base left part) }
+        ensures next { IfOk result (λ next. next ≡ frame.left_after (seen_chart self.now) left part) }
+        ensures near { IfOk result (λ next. next ≤ left + 120) }
     {
         if self.count_of(part) == 0 {
-            return Ok(());
+            return Ok(left);
         }
         append_sample(out, part, left, base)?;
-        append_meaning(out, part, left + 24, base)
-    }
-
-    // Where the next entry begins.
-    fn left_after(&self, left: u64, part: Part) -> u64
-        requires { left < 2 ^ 40 }
-        ensures value { result ≡ frame.left_after (seen_chart self.now) left part }
-        ensures near { result ≤ left + 120 }
-    {
-        if self.count_of(part) > 0 {
-            left + LEGEND_APART
-        } else {
-            left
-        }
+        append_meaning(out, part, left + 24, base)?;
+        Ok(left + LEGEND_APART)
     }
 }
 

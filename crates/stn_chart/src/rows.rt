@@ -1,7 +1,7 @@
 //! The rows of the steps.
 ghost use Rattle.std.specs.Prelude.{◌≡◌, ◌++◌, ◌≤◌, ◌<◌, ◌^◌, OnOk};
 ghost use Rattle.stn_chart.specs.Rows as row;
-ghost use Rattle.stn_chart.specs.{Rows.{bar_text, arrow_path}, Seen.seen_chart};
+ghost use Rattle.stn_chart.specs.{Rows.bar_text, Seen.seen_chart};
 
 use crate::look::Chart;
 use crate::parts::step_of;
@@ -247,37 +247,24 @@ impl<'a, 'b, A: Allocator> Chart<'a, 'b, A> {
     {
         let holder = self.holder_of(step);
         if self.look.arrows && !self.is_begun(step) && holder != 0 {
-            let left = self.place_of(self.soonest(usize::from(holder)));
-            let right = self.place_of(self.soonest(start_of(step)));
-            append_arrow(
-                out,
-                left,
-                self.top_of(step_of(holder)),
-                right,
-                self.top_of(step),
-            )
+            self.append_arrow_from(out, holder, step)
         } else {
             Ok(())
         }
     }
-}
 
-// Appends an arrow from one row to the other.
-fn append_arrow<A: Allocator>(
-    out: &mut Vec<u8, A>,
-    left: u64,
-    top: u64,
-    right: u64,
-    other: u64,
-) -> Result<(), Memory>
-    requires top { top < 2 ^ 45 }
-    requires other { other < 2 ^ 45 }
-    ensures { OnOk result (out.new.items ≡ out.old.items ++ arrow_path left top right other) }
-{
-    if top < other {
-        append_along(out, left, top + 18, right, other, "v6")
-    } else {
-        append_along(out, left, top + 6, right, other + ROW_HEIGHT, "v-6")
+    // Appends the arrow from an event to the start of a step.
+    fn append_arrow_from(&self, out: &mut Vec<u8, A>, event: u16, step: u16) -> Result<(), Memory>
+        ensures { OnOk result (out.new.items ≡ out.old.items ++ row.arrow_path (seen_chart self.now) event step) }
+    {
+        let left = self.place_of(self.soonest(usize::from(event)));
+        let right = self.place_of(self.soonest(start_of(step)));
+        let (top, other) = (self.top_of(step_of(event)), self.top_of(step));
+        if top < other {
+            append_along(out, left, top + 18, right, other, "v6")
+        } else {
+            append_along(out, left, top + 6, right, other + ROW_HEIGHT, "v-6")
+        }
     }
 }
 

@@ -1,7 +1,7 @@
 //! A question about a log, and what was answered.
 
 ghost use Rattle.std.specs.Prelude.{◌≡◌, true, IfSome};
-ghost use Rattle.stn_command.specs.Query.{foresee, seen_query, seen_choice};
+ghost use Rattle.stn_command.specs.Query.{seen_query, seen_choice};
 ghost use Rattle.stn_logs.specs.Keeping.{asked_query, of_all};
 
 use std::alloc::Allocator;
@@ -52,39 +52,11 @@ impl AskedBefore {
             (AskedBefore::Report, Query::Report) => true,
             (AskedBefore::Repairs, Query::Repairs) => true,
             (AskedBefore::Foresee(outlook, now, starts), Query::Foresee(other, time, choice)) => {
-                asks_again(*outlook, *now, *starts, *other, *time, choice)
+                is_outlook(*outlook, *other) && *now == *time && is_of_all(choice, *starts)
             }
             _ => false,
         }
     }
-}
-
-// Whether the same is asked of all events, or of all starts, from the same time on.
-fn asks_again(
-    outlook: Outlook,
-    now: Ms,
-    starts: bool,
-    other: Outlook,
-    time: Ms,
-    choice: &Choice<'_>,
-) -> bool
-    ensures { result ≡ true → foresee outlook now (of_all starts) ≡ foresee other time (seen_choice choice.now) }
-{
-    are_same(outlook, now, starts, other, time, choice)
-}
-
-// The same, part by part.
-fn are_same(
-    outlook: Outlook,
-    now: Ms,
-    starts: bool,
-    other: Outlook,
-    time: Ms,
-    choice: &Choice<'_>,
-) -> bool
-    ensures { result ≡ true → (outlook ≡ other) × (now ≡ time) × (of_all starts ≡ seen_choice choice.now) }
-{
-    is_outlook(outlook, other) && now == time && is_of_all(choice, starts)
 }
 
 impl<A: Allocator + Copy> Answered<A> {

@@ -1,5 +1,5 @@
 -- A record without which the others have a schedule lies on each negative cycle.
-use Rattle.std.{proofs.{Common.{rules, ◌≡◌, ◌≢◌, ℕ, ℤ, ◌+◌, ◌-◌, ◌<◌, ◌≤◌, true, not, List, [], ◌∷◌, ◌++◌, length, map, get_or, refl, sym, ap, subst, ◌∙◌, inl, inr, ⊎_elim, arith, ◌⊎◌, length-append}, lemmas.{Bool.cases_lt, Int.ints, List.{get_or_append_left, get_or-append_right, get_or-map, length-map, Elements.{All-contains, Contains-append_left, Contains-append_right, Contains-get_or}}}}, specs.{Prelude.{◌-ℤ◌, ◌≤ℤ◌}, List.Contains}}
+use Rattle.std.{proofs.{Common.{rules, ◌≡◌, ◌≢◌, ℕ, ℤ, ◌-◌, ◌<◌, ◌≤◌, true, not, List, [], ◌∷◌, ◌++◌, length, map, get_or, refl, sym, ap, subst, ◌∙◌, inl, inr, ⊎_elim, arith, ◌⊎◌, length-append}, lemmas.{Bool.cases_lt, Int.ints, List.{get_or_append_left, get_or-append_right, get_or-map, length-map, Elements.{All-contains, Contains-append_left, Contains-append_right, Contains-get_or}}}}, specs.{Prelude.{◌-ℤ◌, ◌≤ℤ◌}, List.Contains}}
 use Rattle.stn_net.specs.{Difference.Difference, Schedule.{Meets, HasSchedule}}
 use Rattle.stn_conflict.{specs.{declared.links.Link.Link, Arcs.{bound_at, IsChain, weight_of, IsNegativeCycle}}, proofs.Tightness.arc_kept}
 use Rattle.stn_records.specs.{Id.{SiteCounter, same_ids}, declared.record.{Mark.TheVariants.Plain, Record.Record}}

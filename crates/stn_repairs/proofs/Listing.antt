@@ -1,6 +1,5 @@
 -- Lists that have grown by one more of the live records, and their bounds.
-use Rattle.std.proofs.lemmas.Grind.{common_steps}
-use Rattle.std.{proofs.{Common.{rules, arith, ◌≡◌, ℕ, ◌+◌, ◌<◌, Bool, true, false, cond, not, List, [], ◌∷◌, ◌++◌, length, map, filter, take, get_or, refl, sym, ap, subst, ◌↔◌, IsTrue, All}, lemmas.{Bool.false≢true, List.Elements.{All-append, All-filter}, Map.Made.is_member-Decides}}, specs.{List.Contains, Set.is_member}}
+use Rattle.std.{proofs.{lemmas.{Grind.common_steps, Bool.false≢true, List.Elements.{All-append, All-filter}, Map.Made.is_member-Decides}, Common.{rules, arith, ◌≡◌, ℕ, ◌+◌, ◌<◌, Bool, true, false, cond, not, List, [], ◌∷◌, ◌++◌, length, map, filter, take, get_or, refl, sym, ap, subst, ◌↔◌, IsTrue, All}}, specs.{List.Contains, Set.is_member}}
 use Rattle.stn_net.specs.Difference.{Difference, NamesEvents}
 use Rattle.stn_records.specs.{Id.{SiteCounter, same_ids}, Record.same_marks, declared.record.{Mark.{Mark, TheVariants.{Plain, Done}}, Record.Record}, Content.listed, ContentLaws.ids_decide}
 use Rattle.stn_site.{specs.Bounds.bounds_of, proofs.Named.{records_from_bounds, bounds_from_records}}

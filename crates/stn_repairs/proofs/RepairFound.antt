@@ -1,6 +1,5 @@
 -- The repair by a record, by the tightest differences of its events over the others.
-use Rattle.std.proofs.lemmas.Grind.{common_steps}
-use Rattle.std.{proofs.{Common.{rules, ◌≡◌, ℕ, ℤ, neg_ℤ, ◌+◌, ◌<◌, ◌≤◌, List, ◌++◌, length, get_or, refl, sym, ap, subst, ◌∙◌, arith, All}, lemmas.List.get_or_read}, specs.List.Any}
+use Rattle.std.{proofs.{lemmas.{Grind.common_steps, List.get_or_read}, Common.{rules, ◌≡◌, ℕ, ℤ, neg_ℤ, ◌+◌, ◌<◌, ◌≤◌, List, ◌++◌, length, get_or, refl, sym, ap, subst, ◌∙◌, arith, All}}, specs.List.Any}
 use Rattle.stn_conflict.{proofs.CycleSums.places_of_chain, specs.{declared.links.Link.Link, Arcs.IsNegativeCycle, Distances.{AreDistancesFrom, AreDistancesTo}}}
 use Rattle.stn_net.{specs.{Difference.{Difference, NamesEvents}, Schedule.{HasSchedule, times_of}, Matrix.Tightest.IsTightest, Ranges.IsRange}, proofs.Ranges.range_of_ends}
 use Rattle.stn_records.specs.{Id.SiteCounter, declared.record.Record.Record}

@@ -6,22 +6,21 @@ ghost use Rattle.stn_repairs.specs.Dropped.{marked, facts_first, AreRefused, Are
 
 use std::alloc::Allocator;
 use stn_conflict::Network;
-use stn_lift::Base;
 use stn_records::{Id, Mark, Record};
+use stn_site::SitePlan;
 use stn_time::Memory;
 
 // The ids of the live records that are dropped, in order.
 pub fn dropped_ids<A: Allocator + Copy>(
-    alloc: A,
-    base: &Base<A>,
+    plan: &SitePlan<A>,
     live: &[(Id, Record)],
 ) -> Result<Vec<Id, A>, Memory>
-    requires { All (NamesEvents (events_of base.now)) (bounds_of live.now) }
-    ensures { IfOk result (λ ids. AreDropped (base_bounds base.now) live.now ids.items) }
+    requires { All (NamesEvents (events_of plan.now.source)) (bounds_of live.now) }
+    ensures { IfOk result (λ ids. AreDropped (base_bounds plan.now.source) live.now ids.items) }
 {
-    let order = facts_first(alloc, live)?;
-    let refused = refused_ids(alloc, base, &order)?;
-    let mut ids = Vec::new(alloc);
+    let order = facts_first(plan.alloc(), live)?;
+    let refused = refused_ids(plan, &order)?;
+    let mut ids = Vec::new(plan.alloc());
     for &(id, _) in live {
         if is_among(&refused, id) {
             ids.push(id)?;
@@ -61,15 +60,15 @@ fn append_marked<A: Allocator>(
 
 // The ids of the records with which the plan's bounds and those of the records kept before have no schedule.
 fn refused_ids<A: Allocator + Copy>(
-    alloc: A,
-    base: &Base<A>,
+    plan: &SitePlan<A>,
     order: &[(Id, Record)],
 ) -> Result<Vec<Id, A>, Memory>
-    requires { All (NamesEvents (events_of base.now)) (bounds_of order.now) }
-    ensures { IfOk result (λ refused. AreRefused (base_bounds base.now) order.now refused.items) }
+    requires { All (NamesEvents (events_of plan.now.source)) (bounds_of order.now) }
+    ensures { IfOk result (λ refused. AreRefused (base_bounds plan.now.source) order.now refused.items) }
 {
-    let mut kept = Network::new(alloc, base.events(), base.bounds(), &[])?;
-    let mut refused = Vec::new(alloc);
+    let base = plan.base();
+    let mut kept = Network::new(plan.alloc(), base.events(), base.bounds(), &[])?;
+    let mut refused = Vec::new(plan.alloc());
     for &(id, record) in order {
         if !kept.take(record.bound)? {
             refused.push(id)?;

@@ -1,10 +1,9 @@
-ghost use Rattle.std.specs.{Prelude.{◌≡◌, ◌++◌, ℕ, List, All, IfOk, OnOk, OnErr}, List.flat_map};
-ghost use Rattle.stn_net.specs.Difference.{NamesEvents};
-ghost use Rattle.stn_lift.specs.PlanSource.{base_bounds, events_of};
+ghost use Rattle.std.specs.{Prelude.{◌≡◌, ◌++◌, ℕ, List, IfOk, OnOk, OnErr}, List.flat_map};
+ghost use Rattle.stn_lift.specs.PlanSource.{base_bounds};
 ghost use Rattle.stn_conflict.specs.Arcs.{IsNegativeCycle};
 ghost use Rattle.stn_records.specs.Content.{live_of};
-ghost use Rattle.stn_site.specs.Bounds.{all_bounds, bounds_of};
-ghost use Rattle.stn_repairs.specs.{Repairs.AreRepairs, Text.{listed_id, repair_line, drop_line, SaysRepairs, SaysWhatMends, IsRepairsText}};
+ghost use Rattle.stn_site.specs.Bounds.{all_bounds};
+ghost use Rattle.stn_repairs.specs.{Repairs.AreRepairs, Text.{listed_id, repair_line, drop_line, IsRepairsText}};
 
 use crate::dropped::dropped_ids;
 use crate::live::{bounds_of, live_records};
@@ -12,8 +11,7 @@ use crate::repair::Repair;
 use crate::repairs::repairs_on;
 use std::alloc::Allocator;
 use stn_conflict::{Link, cycle};
-use stn_lift::Base;
-use stn_records::{Id, Record};
+use stn_records::Id;
 use stn_site::{SitePlan, append_range_line};
 use stn_time::Memory;
 
@@ -30,8 +28,7 @@ pub fn print_repairs<A: Allocator + Copy, B: Allocator>(
     ensures printed { OnOk result ((text : List ℕ) × IsRepairsText plan.now.source plan.now.state text × (out.new.items ≡ out.old.items ++ text)) }
     ensures kept { OnErr result (out.new.items ≡ out.old.items) }
 {
-    let live = live_records(plan)?;
-    let text = text_of(plan.alloc(), plan.base(), &live)?;
+    let text = text_of(plan)?;
     out.extend_from_slice(&text)
 }
 
@@ -45,39 +42,22 @@ pub fn repairs_of<A: Allocator + Copy>(
     ensures { IfOk result (λ repairs. AreRepairs (base_bounds plan.now.source) (live_of plan.now.state) (live_of plan.now.state) repairs.items) }
 {
     let live = live_records(plan)?;
-    repairs_on(plan.alloc(), plan.base(), &live, cycle)
+    repairs_on(plan, &live, cycle)
 }
 
 // What mends a conflict of the plan's bounds and those of the live records.
-fn text_of<A: Allocator + Copy>(
-    alloc: A,
-    base: &Base<A>,
-    live: &[(Id, Record)],
-) -> Result<Vec<u8, A>, Memory>
-    requires { All (NamesEvents (events_of base.now)) (bounds_of live.now) }
-    ensures { IfOk result (λ text. SaysWhatMends (base_bounds base.now) live.now text.items) }
+fn text_of<A: Allocator + Copy>(plan: &SitePlan<A>) -> Result<Vec<u8, A>, Memory>
+    ensures { IfOk result (λ text. IsRepairsText plan.now.source plan.now.state text.items) }
 {
-    let bounds = bounds_of(alloc, live)?;
-    match cycle(alloc, base.events(), base.bounds(), &bounds)? {
-        Some(found) => mending_text(alloc, base, live, &found.links),
-        None => Vec::from_slice(alloc, b"ok\n"),
-    }
-}
-
-// The repairs and the records to drop, where the links are a negative cycle of all bounds.
-fn mending_text<A: Allocator + Copy>(
-    alloc: A,
-    base: &Base<A>,
-    live: &[(Id, Record)],
-    cycle: &[Link],
-) -> Result<Vec<u8, A>, Memory>
-    requires named { All (NamesEvents (events_of base.now)) (bounds_of live.now) }
-    requires negative { IsNegativeCycle (base_bounds base.now ++ bounds_of live.now) cycle.now }
-    ensures { IfOk result (λ text. SaysRepairs (base_bounds base.now) live.now text.items) }
-{
-    let repairs = repairs_on(alloc, base, live, cycle)?;
-    let ids = dropped_ids(alloc, base, live)?;
-    let mut text = Vec::new(alloc);
+    let live = live_records(plan)?;
+    let others = bounds_of(plan.alloc(), &live)?;
+    let base = plan.base();
+    let Some(found) = cycle(plan.alloc(), base.events(), base.bounds(), &others)? else {
+        return Vec::from_slice(plan.alloc(), b"ok\n");
+    };
+    let repairs = repairs_on(plan, &live, &found.links)?;
+    let ids = dropped_ids(plan, &live)?;
+    let mut text = Vec::new(plan.alloc());
     append_repairs(&repairs, &mut text)?;
     append_dropped(&ids, &mut text)?;
     Ok(text)

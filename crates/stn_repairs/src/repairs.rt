@@ -9,25 +9,24 @@ use crate::live::{bounds_of, without};
 use crate::repair::Repair;
 use std::alloc::Allocator;
 use stn_conflict::{Link, distances};
-use stn_lift::Base;
 use stn_net::Bound;
 use stn_records::{Id, Record};
+use stn_site::SitePlan;
 use stn_time::Memory;
 
 // The repairs by the live records, in order of id, where the links are a negative cycle of all bounds.
 pub fn repairs_on<A: Allocator + Copy>(
-    alloc: A,
-    base: &Base<A>,
+    plan: &SitePlan<A>,
     live: &[(Id, Record)],
     cycle: &[Link],
 ) -> Result<Vec<Repair, A>, Memory>
-    requires named { All (NamesEvents (events_of base.now)) (bounds_of live.now) }
-    requires negative { IsNegativeCycle (base_bounds base.now ++ bounds_of live.now) cycle.now }
-    ensures { IfOk result (λ repairs. AreRepairs (base_bounds base.now) live.now live.now repairs.items) }
+    requires named { All (NamesEvents (events_of plan.now.source)) (bounds_of live.now) }
+    requires negative { IsNegativeCycle (base_bounds plan.now.source ++ bounds_of live.now) cycle.now }
+    ensures { IfOk result (λ repairs. AreRepairs (base_bounds plan.now.source) live.now live.now repairs.items) }
 {
-    let mut repairs = Vec::new(alloc);
+    let mut repairs = Vec::new(plan.alloc());
     for &(id, record) in live {
-        if let Some(repair) = repair_by(alloc, base, live, cycle, id, record.bound)? {
+        if let Some(repair) = repair_by(plan, live, cycle, id, record.bound)? {
             repairs.push(repair)?;
         }
     }
@@ -36,43 +35,42 @@ pub fn repairs_on<A: Allocator + Copy>(
 
 // The repair by a record; none where the others have no schedule, as where the cycle has no link of the record.
 fn repair_by<A: Allocator + Copy>(
-    alloc: A,
-    base: &Base<A>,
+    plan: &SitePlan<A>,
     live: &[(Id, Record)],
     cycle: &[Link],
     id: Id,
     bound: Bound,
 ) -> Result<Option<Repair>, Memory>
-    requires named { All (NamesEvents (events_of base.now)) (bounds_of live.now) }
-    requires negative { IsNegativeCycle (base_bounds base.now ++ bounds_of live.now) cycle.now }
-    requires bound_named { NamesEvents (events_of base.now) bound }
-    ensures { IfOk result (λ found. MatchOption found (¬ HasSchedule (others (base_bounds base.now) live.now id))
-        (λ repair. IsRepair (others (base_bounds base.now) live.now id) id bound repair)) }
+    requires named { All (NamesEvents (events_of plan.now.source)) (bounds_of live.now) }
+    requires negative { IsNegativeCycle (base_bounds plan.now.source ++ bounds_of live.now) cycle.now }
+    requires bound_named { NamesEvents (events_of plan.now.source) bound }
+    ensures { IfOk result (λ found. MatchOption found (¬ HasSchedule (others (base_bounds plan.now.source) live.now id))
+        (λ repair. IsRepair (others (base_bounds plan.now.source) live.now id) id bound repair)) }
 {
-    if !has_link_of(base.bounds().len(), live, cycle, id) {
+    if !has_link_of(plan.base().bounds().len(), live, cycle, id) {
         return Ok(None);
     }
-    let rest = without(alloc, live, id)?;
-    let others = bounds_of(alloc, &rest)?;
-    repair_over(alloc, base, &others, id, bound)
+    let rest = without(plan.alloc(), live, id)?;
+    let others = bounds_of(plan.alloc(), &rest)?;
+    repair_over(plan, &others, id, bound)
 }
 
 // The same, by the bounds of the other records.
 fn repair_over<A: Allocator + Copy>(
-    alloc: A,
-    base: &Base<A>,
+    plan: &SitePlan<A>,
     others: &[Bound],
     id: Id,
     bound: Bound,
 ) -> Result<Option<Repair>, Memory>
-    requires named { All (NamesEvents (events_of base.now)) others.now }
-    requires bound_named { NamesEvents (events_of base.now) bound }
-    ensures { IfOk result (λ found. MatchOption found (¬ HasSchedule (base_bounds base.now ++ others.now))
-        (λ repair. IsRepair (base_bounds base.now ++ others.now) id bound repair)) }
+    requires named { All (NamesEvents (events_of plan.now.source)) others.now }
+    requires bound_named { NamesEvents (events_of plan.now.source) bound }
+    ensures { IfOk result (λ found. MatchOption found (¬ HasSchedule (base_bounds plan.now.source ++ others.now))
+        (λ repair. IsRepair (base_bounds plan.now.source ++ others.now) id bound repair)) }
 {
     let from = bound.from();
     let to = bound.to();
-    match distances(alloc, base.events(), base.bounds(), others, from)? {
+    let base = plan.base();
+    match distances(plan.alloc(), base.events(), base.bounds(), others, from)? {
         Some(found) => {
             let place = usize::from(to.number());
             Ok(Some(Repair {

@@ -172,12 +172,6 @@ abbrev pub mending_text : ℕ → Side → List Repair → BoundName → List �
 mending_text row side repairs (Plan number) = []
 mending_text row side repairs (Record id) = flat_map (mends_text row side id) repairs
 
--- the event at which a link begins, on the side that the link leaves
-abbrev pub label_opening : ℕ → ℕ → ℕ → List ℕ
-label_opening left right base =
-    if nat_lt right left then codes "<text x='" ++ decimal (left + 8) ++ codes "' y='" ++ decimal base ++ codes "'>"
-    else codes "<text class='e' x='" ++ decimal (left - 8) ++ codes "' y='" ++ decimal base ++ codes "'>"
-
 -- an arrow, or a dot if it is shorter than its tip
 abbrev pub walk_arrow : ℕ → ℕ → ℕ → List ℕ
 walk_arrow left right middle =
@@ -188,11 +182,17 @@ walk_arrow left right middle =
 abbrev pub left_of : Walk → ℕ → ℕ
 left_of walk row = walk_place walk (sum_at walk row)
 
+-- the event at which a link begins, on the side that the link leaves
+abbrev pub label_opening : Walk → ℕ → List ℕ
+label_opening walk row =
+    if nat_lt (left_of walk (row + 1)) (left_of walk row) then codes "<text x='" ++ decimal (left_of walk row + 8) ++ codes "' y='" ++ decimal (walk_top row + 21) ++ codes "'>"
+    else codes "<text class='e' x='" ++ decimal (left_of walk row - 8) ++ codes "' y='" ++ decimal (walk_top row + 21) ++ codes "'>"
+
 abbrev pub row_mending : Walk → ℕ → List ℕ
 row_mending walk row = mending_text row (row_link walk row).side walk.repairs (linked_name walk row)
 
 abbrev pub row_label : Walk → ℕ → List ℕ
-row_label walk row = label_opening (left_of walk row) (left_of walk (row + 1)) (walk_top row + 21) ++ event_text (arc_of (bounds_in walk) (row_link walk row)).from ++ codes "</text>"
+row_label walk row = label_opening walk row ++ event_text (arc_of (bounds_in walk) (row_link walk row)).from ++ codes "</text>"
 
 abbrev pub row_arrow : Walk → ℕ → List ℕ
 row_arrow walk row = walk_arrow (left_of walk row) (left_of walk (row + 1)) (walk_top row + 17)
@@ -229,30 +229,36 @@ first_event walk = (arc_of (bounds_in walk) (row_link walk 0)).from
 abbrev pub last_sum : Walk → ℤ
 last_sum walk = sum_at walk (length walk.links)
 
+-- where the last row stands: its top, and the place of that sum
+abbrev pub last_top : Walk → ℕ
+last_top walk = walk_top (length walk.links)
+
+abbrev pub last_place : Walk → ℕ
+last_place walk = left_of walk (length walk.links)
+
 abbrev pub walk_summary : Walk → List ℕ
 walk_summary walk = codes "<text class='s e' x='992' y='20'>" ++ decimal (length walk.links) ++ codes " bounds contradict each other by " ++ printed (neg_ℤ (last_sum walk)) ++ codes " s</text>\n"
 
 -- the first event, and that it would come before itself
-abbrev pub before_itself : List ℕ → ℤ → ℕ → List ℕ
-before_itself event sum base = codes "<text class='h w' x='8' y='" ++ decimal base ++ codes "'>" ++ event ++ codes " would be " ++ printed (neg_ℤ sum) ++ codes " before itself</text>"
+abbrev pub before_itself : Walk → List ℕ
+before_itself walk = codes "<text class='h w' x='8' y='" ++ decimal (last_top walk + 15) ++ codes "'>" ++ event_text (first_event walk) ++ codes " would be "
+    ++ printed (neg_ℤ (last_sum walk)) ++ codes " before itself</text>"
 
-abbrev pub span_text : ℕ → ℕ → ℕ → List ℕ
-span_text left right top = codes "<path class='c' d='M" ++ decimal left ++ codes " " ++ decimal (top + 10) ++ codes "v14M" ++ decimal right ++ codes " " ++ decimal (top + 10)
-    ++ codes "v14M" ++ decimal left ++ codes " " ++ decimal (top + 17) ++ codes "H" ++ decimal right ++ codes "'/>"
+-- the span from the sum of all links to 0
+abbrev pub span_text : Walk → List ℕ
+span_text walk = codes "<path class='c' d='M" ++ decimal (last_place walk) ++ codes " " ++ decimal (last_top walk + 10) ++ codes "v14M" ++ decimal (walk_place walk (pos 0)) ++ codes " "
+    ++ decimal (last_top walk + 10) ++ codes "v14M" ++ decimal (last_place walk) ++ codes " " ++ decimal (last_top walk + 17) ++ codes "H" ++ decimal (walk_place walk (pos 0)) ++ codes "'/>"
 
-abbrev pub again_text : List ℕ → ℕ → ℕ → List ℕ
-again_text event left base = codes "<text class='e' x='" ++ decimal left ++ codes "' y='" ++ decimal base ++ codes "'>" ++ event ++ codes "</text>\n"
+abbrev pub again_text : Walk → List ℕ
+again_text walk = codes "<text class='e' x='" ++ decimal (last_place walk - 8) ++ codes "' y='" ++ decimal (last_top walk + 21) ++ codes "'>" ++ event_text (first_event walk) ++ codes "</text>\n"
 
 abbrev pub walk_head : Walk → List ℕ
 walk_head walk = open_text walk.title (walk_height (length walk.links)) ++ walk_style
     ++ paper_text (walk_height (length walk.links)) (walk_top 1) (walk_top (length walk.links + 1)) ++ heading_text walk.title ++ walk_summary walk
 
 -- the last row: the first event again, before itself
-abbrev pub back_text : List ℕ → ℤ → ℕ → ℕ → ℕ → List ℕ
-back_text event sum left right top = before_itself event sum (top + 15) ++ span_text left right top ++ again_text event (left - 8) (top + 21)
-
 abbrev pub last_row : Walk → List ℕ
-last_row walk = back_text (event_text (first_event walk)) (last_sum walk) (walk_place walk (last_sum walk)) (walk_place walk (pos 0)) (walk_top (length walk.links))
+last_row walk = before_itself walk ++ span_text walk ++ again_text walk
 
 -- what the rows show
 abbrev pub walk_foot : Walk → List ℕ

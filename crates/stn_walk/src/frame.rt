@@ -1,10 +1,9 @@
 //! What stands around the rows of a conflict.
 ghost use Rattle.std.specs.{Prelude.{◌≡◌, ◌+◌, ◌++◌, ◌<◌, ◌≤◌, ◌^◌, length, unsigned_abs, OnOk, neg_ℤ}, List.{flat_map, range_with_len}};
 ghost use Rattle.stn_time.specs.Text.{printed};
-ghost use Rattle.stn_net.specs.Event.{event_text};
 ghost use Rattle.stn_walk.specs.Walk as is;
 ghost use Rattle.stn_drawing.specs.Seen.{seen_axis};
-ghost use Rattle.stn_walk.specs.{Walk.back_text, Seen.seen_walk};
+ghost use Rattle.stn_walk.specs.Seen.{seen_walk};
 
 use crate::parts::{AXIS_LEFT, AXIS_WIDTH, top_of};
 use crate::style::WALK;
@@ -52,16 +51,47 @@ impl<'a, 'b, A: Allocator> Walk<'a, 'b, A> {
         requires { 1 ≤ length self.now.links.now }
         ensures { OnOk result (out.new.items ≡ out.old.items ++ is.last_row (seen_walk self.now)) }
     {
-        let sum = self.sum_at(self.links.len());
-        let (left, right) = (self.place_of(sum), self.place_of(0));
-        append_back(
+        self.append_before_itself(out)?;
+        self.append_span(out)?;
+        self.append_again(out)
+    }
+
+    // Appends that the first event would come before itself, and by how much.
+    fn append_before_itself(&self, out: &mut Vec<u8, A>) -> Result<(), Memory>
+        requires { 1 ≤ length self.now.links.now }
+        ensures { OnOk result (out.new.items ≡ out.old.items ++ is.before_itself (seen_walk self.now)) }
+    {
+        let base = top_of(self.links.len()) + 15;
+        in_memory(write!(out, "<text class='h w' x='8' y='{base}'>"))?;
+        print_event(self.begins_at(0), out)?;
+        out.extend_from_slice(b" would be ")?;
+        append_negated(out, self.sum_at(self.links.len()))?;
+        out.extend_from_slice(b" before itself</text>")
+    }
+
+    // Appends the span from the sum of all links to 0.
+    fn append_span(&self, out: &mut Vec<u8, A>) -> Result<(), Memory>
+        ensures { OnOk result (out.new.items ≡ out.old.items ++ is.span_text (seen_walk self.now)) }
+    {
+        let (left, right) = (self.left_of(self.links.len()), self.place_of(0));
+        let top = top_of(self.links.len());
+        let (ends, middle) = (top + 10, top + 17);
+        in_memory(write!(
             out,
-            self.begins_at(0),
-            sum,
-            left,
-            right,
-            top_of(self.links.len()),
-        )
+            "<path class='c' d='M{left} {ends}v14M{right} {ends}v14M{left} {middle}H{right}'/>"
+        ))
+    }
+
+    // Appends the first event again, where it would come.
+    fn append_again(&self, out: &mut Vec<u8, A>) -> Result<(), Memory>
+        requires { 1 ≤ length self.now.links.now }
+        ensures { OnOk result (out.new.items ≡ out.old.items ++ is.again_text (seen_walk self.now)) }
+    {
+        let left = self.left_of(self.links.len()) - 8;
+        let base = top_of(self.links.len()) + 21;
+        in_memory(write!(out, "<text class='e' x='{left}' y='{base}'>"))?;
+        print_event(self.begins_at(0), out)?;
+        out.extend_from_slice(b"</text>\n")
     }
 
     // Appends what the rows show.
@@ -140,68 +170,4 @@ fn append_negated<A: Allocator>(out: &mut Vec<u8, A>, sum: i64) -> Result<(), Me
 {
     print_millis(-sum, out)?;
     Ok(())
-}
-
-fn append_back<A: Allocator>(
-    out: &mut Vec<u8, A>,
-    event: u16,
-    sum: i64,
-    left: u64,
-    right: u64,
-    top: u64,
-) -> Result<(), Memory>
-    requires sum { unsigned_abs sum < 2 ^ 45 }
-    requires left { 8 ≤ left }
-    requires top { top < 2 ^ 50 }
-    ensures { OnOk result (out.new.items ≡ out.old.items ++ back_text (event_text event) sum left right top) }
-{
-    append_before_itself(out, event, sum, top + 15)?;
-    append_span(out, left, right, top)?;
-    append_again(out, event, left - 8, top + 21)
-}
-
-fn append_before_itself<A: Allocator>(
-    out: &mut Vec<u8, A>,
-    event: u16,
-    sum: i64,
-    base: u64,
-) -> Result<(), Memory>
-    requires { unsigned_abs sum < 2 ^ 45 }
-    ensures { OnOk result (out.new.items ≡ out.old.items ++ is.before_itself (event_text event) sum base) }
-{
-    in_memory(write!(out, "<text class='h w' x='8' y='{base}'>"))?;
-    print_event(event, out)?;
-    out.extend_from_slice(b" would be ")?;
-    append_negated(out, sum)?;
-    out.extend_from_slice(b" before itself</text>")
-}
-
-fn append_span<A: Allocator>(
-    out: &mut Vec<u8, A>,
-    left: u64,
-    right: u64,
-    top: u64,
-) -> Result<(), Memory>
-    requires { top < 2 ^ 50 }
-    ensures { OnOk result (out.new.items ≡ out.old.items ++ is.span_text left right top) }
-{
-    let ends = top + 10;
-    let middle = top + 17;
-    in_memory(write!(
-        out,
-        "<path class='c' d='M{left} {ends}v14M{right} {ends}v14M{left} {middle}H{right}'/>"
-    ))
-}
-
-fn append_again<A: Allocator>(
-    out: &mut Vec<u8, A>,
-    event: u16,
-    left: u64,
-    base: u64,
-) -> Result<(), Memory>
-    ensures { OnOk result (out.new.items ≡ out.old.items ++ is.again_text (event_text event) left base) }
-{
-    in_memory(write!(out, "<text class='e' x='{left}' y='{base}'>"))?;
-    print_event(event, out)?;
-    out.extend_from_slice(b"</text>\n")
 }

@@ -1,8 +1,8 @@
 //! The rows of the links.
-ghost use Rattle.std.specs.{Prelude.{◌≡◌, ◌+◌, ◌++◌, ◌<◌, ◌≤◌, ◌^◌, length, OnOk}, List.flat_map};
+ghost use Rattle.std.specs.Prelude.{◌≡◌, ◌++◌, ◌<◌, ◌≤◌, ◌^◌, length, OnOk};
 ghost use Rattle.stn_site.specs.Lines as site_lines;
 ghost use Rattle.stn_walk.specs.Walk as is;
-ghost use Rattle.stn_walk.specs.{Walk.{mends_text, leaves_text}, Seen.seen_walk};
+ghost use Rattle.stn_walk.specs.{Walk.leaves_text, Seen.seen_walk};
 
 use crate::parts::{is_duration, top_of};
 use crate::walk::Walk;
@@ -44,8 +44,8 @@ impl<'a, 'b, A: Allocator> Walk<'a, 'b, A> {
         out.extend_from_slice(b"</g>\n")
     }
 
-    // Where a row begins.
-    fn left_of(&self, row: usize) -> u64
+    /// Where a row begins.
+    pub fn left_of(&self, row: usize) -> u64
         ensures value { result ≡ is.left_of (seen_walk self.now) row }
         ensures small { result < 2 ^ 63 }
         ensures right { 500 ≤ result }
@@ -58,16 +58,32 @@ impl<'a, 'b, A: Allocator> Walk<'a, 'b, A> {
         requires { row < length self.now.links.now }
         ensures { OnOk result (out.new.items ≡ out.old.items ++ is.row_mending (seen_walk self.now) row) }
     {
-        match self.name_of(row) {
-            BoundName::Plan(_) => Ok(()),
-            BoundName::Record(id) => append_each_mending(
-                out,
-                row,
-                self.row_link(row).side,
-                self.repairs,
-                id,
-            ),
+        if let BoundName::Record(id) = self.name_of(row) {
+            for repair in self.repairs {
+                self.append_mends(out, row, id, *repair)?;
+            }
         }
+        Ok(())
+    }
+
+    // Appends the range of a repair, where it is by the record of a row.
+    fn append_mends(
+        &self,
+        out: &mut Vec<u8, A>,
+        row: usize,
+        id: Id,
+        repair: Repair,
+    ) -> Result<(), Memory>
+        requires { row < length self.now.links.now }
+        ensures { OnOk result (out.new.items ≡ out.old.items ++ is.mends_text row (is.row_link (seen_walk self.now) row).side id repair) }
+    {
+        if repair.id != id {
+            return Ok(());
+        }
+        let base = top_of(row) + 29;
+        in_memory(write!(out, "<text class='j' x='124' y='{base}'>alone mends it: "))?;
+        append_left(out, self.row_link(row).side, repair)?;
+        out.extend_from_slice(b"</text>\n")
     }
 
     // Appends the event at which the link of a row begins, on the side that the link leaves.
@@ -75,10 +91,23 @@ impl<'a, 'b, A: Allocator> Walk<'a, 'b, A> {
         requires { row < length self.now.links.now }
         ensures { OnOk result (out.new.items ≡ out.old.items ++ is.row_label (seen_walk self.now) row) }
     {
-        let (left, right) = (self.left_of(row), self.left_of(row + 1));
-        append_label_opening(out, left, right, top_of(row) + 21)?;
+        self.append_label_opening(out, row)?;
         print_event(self.begins_at(row), out)?;
         out.extend_from_slice(b"</text>")
+    }
+
+    fn append_label_opening(&self, out: &mut Vec<u8, A>, row: usize) -> Result<(), Memory>
+        requires { row < length self.now.links.now }
+        ensures { OnOk result (out.new.items ≡ out.old.items ++ is.label_opening (seen_walk self.now) row) }
+    {
+        let (left, base) = (self.left_of(row), top_of(row) + 21);
+        if self.left_of(row + 1) < left {
+            let place = left + 8;
+            in_memory(write!(out, "<text x='{place}' y='{base}'>"))
+        } else {
+            let place = left - 8;
+            in_memory(write!(out, "<text class='e' x='{place}' y='{base}'>"))
+        }
     }
 
     // Appends an arrow, or a dot where it is shorter than its tip.
@@ -220,42 +249,6 @@ fn append_limit<A: Allocator>(out: &mut Vec<u8, A>, side: Side, bound: Bound) ->
     }
 }
 
-// Appends the range of each repair by the record.
-fn append_each_mending<A: Allocator>(
-    out: &mut Vec<u8, A>,
-    row: usize,
-    side: Side,
-    repairs: &[Repair],
-    id: Id,
-) -> Result<(), Memory>
-    requires { row < 2 ^ 40 }
-    ensures { OnOk result (out.new.items ≡ out.old.items ++ flat_map (mends_text row side id) repairs.now) }
-{
-    for repair in repairs {
-        append_mends(out, row, side, id, *repair)?;
-    }
-    Ok(())
-}
-
-fn append_mends<A: Allocator>(
-    out: &mut Vec<u8, A>,
-    row: usize,
-    side: Side,
-    id: Id,
-    repair: Repair,
-) -> Result<(), Memory>
-    requires { row < 2 ^ 40 }
-    ensures { OnOk result (out.new.items ≡ out.old.items ++ mends_text row side id repair) }
-{
-    if repair.id != id {
-        return Ok(());
-    }
-    let base = top_of(row) + 29;
-    in_memory(write!(out, "<text class='j' x='124' y='{base}'>alone mends it: "))?;
-    append_left(out, side, repair)?;
-    out.extend_from_slice(b"</text>\n")
-}
-
 // Appends what the others leave.
 fn append_left<A: Allocator>(out: &mut Vec<u8, A>, side: Side, repair: Repair) -> Result<(), Memory>
     ensures { OnOk result (out.new.items ≡ out.old.items ++ leaves_text side repair) }
@@ -269,24 +262,5 @@ fn append_left<A: Allocator>(out: &mut Vec<u8, A>, side: Side, repair: Repair) -
             repair.greatest.print(out)?;
             out.extend_from_slice(b" or less")
         }
-    }
-}
-
-fn append_label_opening<A: Allocator>(
-    out: &mut Vec<u8, A>,
-    left: u64,
-    right: u64,
-    base: u64,
-) -> Result<(), Memory>
-    requires left { left < 2 ^ 63 }
-    requires least { 8 ≤ left }
-    ensures { OnOk result (out.new.items ≡ out.old.items ++ is.label_opening left right base) }
-{
-    if right < left {
-        let place = left + 8;
-        in_memory(write!(out, "<text x='{place}' y='{base}'>"))
-    } else {
-        let place = left - 8;
-        in_memory(write!(out, "<text class='e' x='{place}' y='{base}'>"))
     }
 }

@@ -1,8 +1,7 @@
 use Rattle.std.proofs.Common.{refl}
 use Rattle.stn_effects.specs.Effects.{stopped, went}
 use Rattle.stn_store.proofs.Lacks.{passed_on}
-use Rattle.stn_logs.specs.Words.{seen_asked}
-use Rattle.stn_logs.proofs.Refused.{unread}
+use Rattle.stn_logs.{specs.Words.seen_asked, proofs.Refused.unread}
 use Rattle.stn_logs.proofs.commands.ask_log.Goals as goal
 
 pub returns-in_err-asked : goal.returns-in_err-asked

@@ -1,8 +1,7 @@
 use Rattle.std.proofs.Common.{refl}
 use Rattle.stn_effects.specs.Effects.{stopped, went}
 use Rattle.stn_store.proofs.Lacks.{passed_on}
-use Rattle.stn_logs.specs.Words.{seen_update}
-use Rattle.stn_logs.proofs.Refused.{unread}
+use Rattle.stn_logs.{specs.Words.seen_update, proofs.Refused.unread}
 use Rattle.stn_logs.proofs.commands.change_log.Goals as goal
 
 pub returns-in_err-asked : goal.returns-in_err-asked

@@ -1,5 +1,4 @@
-use Rattle.std.proofs.{Common.{◌≡◌, ℕ, ℤ, pos, List, Bor, Option, Ok, sym, arith}, lemmas.Grind.common_steps}
-use Rattle.std.specs.Prelude.{◌≤ℤ◌}
+use Rattle.std.{proofs.{Common.{◌≡◌, ℕ, ℤ, pos, List, Bor, Option, Ok, sym, arith}, lemmas.Grind.common_steps}, specs.Prelude.◌≤ℤ◌}
 use Rattle.stn_logs.specs.Words.{moment_or, not_below}
 use Rattle.stn_logs.proofs.words.read_tolerance.Goals as goal
 

@@ -8,8 +8,8 @@ use Rattle.stn_repairs.proofs.dropped.dropped_ids.Goals as goal
 
 pub refused_ids-requires : goal.refused_ids-requires
 refused_ids-requires g c =
-    subst (λ (order : List (SiteCounter × Record)). All (NamesEvents (events_of c.args.base.now)) (bounds_of order)) (sym (c.deref.ensures.value ∙ c.in_ok-order.ensures))
-    (turns_named (events_of c.args.base.now) c.args.live.now c.requires)
+    subst (λ (order : List (SiteCounter × Record)). All (NamesEvents (events_of c.args.plan.now.source)) (bounds_of order)) (sym (c.deref.ensures.value ∙ c.in_ok-order.ensures))
+    (turns_named (events_of c.args.plan.now.source) c.args.live.now c.requires)
 
 pub loop-id-preserved : goal.loop-id-preserved
 loop-id-preserved g c =

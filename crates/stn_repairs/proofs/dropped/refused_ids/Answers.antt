@@ -9,11 +9,11 @@ loop-id-init g c = search rules
 
 pub take-requires : goal.take-requires
 take-requires g c =
-    named_at (events_of c.args.base.now) c.args.order.now c.requires c.loop-id.kept.events c.loop-id.id-index c.loop-id-item.result c.loop-id.invariant.events c.loop-id-test.true c.loop-id-item.is
+    named_at (events_of c.args.plan.now.source) c.args.order.now c.requires c.loop-id.kept.events c.loop-id.id-index c.loop-id-item.result c.loop-id.invariant.events c.loop-id-test.true c.loop-id-item.is
 
 pub loop-id-preserved : goal.loop-id-preserved
 loop-id-preserved g c =
-    let base = base_bounds c.args.base.now in
+    let base = base_bounds c.args.plan.now.source in
     let order = c.args.order.now in
     let index = c.loop-id.id-index in
     let entry = c.loop-id-item.result in
@@ -38,4 +38,4 @@ loop-id-preserved g c =
     ]
 
 pub returns : goal.returns
-returns g c = all_refused (base_bounds c.args.base.now) c.args.order.now c.loop-id.id-index c.loop-id.refused.items c.loop-id.kept.bounds c.loop-id-test.false c.loop-id.invariant.so_far
+returns g c = all_refused (base_bounds c.args.plan.now.source) c.args.order.now c.loop-id.id-index c.loop-id.refused.items c.loop-id.kept.bounds c.loop-id-test.false c.loop-id.invariant.so_far

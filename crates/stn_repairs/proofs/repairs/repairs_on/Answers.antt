@@ -6,11 +6,11 @@ use Rattle.stn_repairs.proofs.repairs.repairs_on.Goals as goal
 
 pub repair_by-requires-clause-bound_named : goal.repair_by-requires-clause-bound_named
 repair_by-requires-clause-bound_named g c =
-    named_at (events_of c.args.base.now) c.args.live.now c.requires.named (events_of c.args.base.now) c.loop-id.id-index c.loop-id-item.result refl c.loop-id-test.true c.loop-id-item.is
+    named_at (events_of c.args.plan.now.source) c.args.live.now c.requires.named (events_of c.args.plan.now.source) c.loop-id.id-index c.loop-id-item.result refl c.loop-id-test.true c.loop-id-item.is
 
 pub loop-id-preserved : goal.loop-id-preserved
 loop-id-preserved g c =
-    let base = base_bounds c.args.base.now in
+    let base = base_bounds c.args.plan.now.source in
     let live = c.args.live.now in
     let entry = c.loop-id-item.result in
     elim c.match-branch-2.branch [

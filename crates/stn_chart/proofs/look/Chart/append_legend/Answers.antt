@@ -7,7 +7,7 @@ loop-part-preserved g c =
     let i = c.loop-part.part-index in
     let chart = seen_chart c.args.self.now in
     let base : c.row_top-base.result + 44 ≡ legend_base c.args.self.now.steps = ap (λ top. top + 44) (c.row_top-base.ensures.value ∙ ap row_top c.from.ensures) in (
-      legend_step chart (legend_base c.args.self.now.steps) (c.row_top-base.result + 44) c.loop-part.left c.left_after-left.result i parts _ (c.args.out.now.items ++ legend_text chart) c.loop-part.out.items
-          c.append_entry_at.new.out.items base c.loop-part-test.true (get_or_default parts i _ _ c.loop-part-test.true) c.loop-part.invariant.0 c.in_ok-append_entry_at.ensures c.left_after-left.ensures.value,
-      omega (arith, c.left_after-left.ensures.near, c.loop-part.invariant.1),
+      legend_step chart (legend_base c.args.self.now.steps) (c.row_top-base.result + 44) c.loop-part.left _ i parts _ (c.args.out.now.items ++ legend_text chart) c.loop-part.out.items
+          c.append_entry_at.new.out.items base c.loop-part-test.true (get_or_default parts i _ _ c.loop-part-test.true) c.loop-part.invariant.0 c.in_ok-left.ensures.entry c.in_ok-left.ensures.next,
+      omega (arith, c.in_ok-left.ensures.near, c.loop-part.invariant.1),
     )

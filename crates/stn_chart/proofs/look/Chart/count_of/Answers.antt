@@ -1,5 +1,4 @@
-use Rattle.std.proofs.Common.{◌+◌, refl, ap, ◌∙◌}
-use Rattle.std.specs.Int.{from_bool}
+use Rattle.std.{proofs.Common.{◌+◌, refl, ap, ◌∙◌}, specs.Int.from_bool}
 use Rattle.stn_chart.{specs.{Parts.shows, Seen.seen_chart}, proofs.Drawing.count_step}
 use Rattle.stn_chart.proofs.look.Chart.count_of.Goals as goal
 
