@@ -3,9 +3,9 @@
 
 usage: bench/shorter.py CRATE
 
-Each proof that takes more than a line gets copies beside it, whose body is one call of a tactic with the lemmas that it cites: one
-check says which of them hold. In a list of lemmas, those that are not needed go; then lemmas that nothing cites any more, and
-imports. The answers of a function that a must-fail edit touches keep their form, or get `cc` or `omega`: a search that fails
+Each proof that is long, and each of several equations, gets copies beside it, whose body is one call of a tactic with the lemmas that
+it cites: one check says which of them hold. In a list of lemmas, those that are not needed go; then lemmas that nothing cites any
+more, and imports. The answers of a function that a must-fail edit touches keep their form, or get `cc` or `omega`: a search that fails
 would make the edit slow. Commit first: while it runs, it changes the crate's proofs, and an interrupted run leaves copies.
 """
 import glob
@@ -24,6 +24,8 @@ COMMON = "append_assoc add-one one-add add-suc length-append length-drop drop-co
 OPEN, CLOSE = "([{", ")]}"
 # The longest line that a short body may make.
 WIDTH = 150
+# How long a proof of one line has to be to be tried.
+LONG = 40
 # What a tactic costs the checker, as if it were so many characters more.
 COST = {"cc": 0, "omega": 10, "search": 30, "grind": 60}
 
@@ -74,6 +76,12 @@ class Item:
         self.end = at
         self.is_answer = ": goal." in lines[start]
         self.has_helpers = any(re.match(r"\s+where\b", it) for it in lines[start:at])
+        # Helpers may have empty lines between them.
+        while self.has_helpers and at < len(lines):
+            after = next((place for place in range(at, len(lines)) if lines[place].strip()), len(lines))
+            if after == len(lines) or not lines[after].startswith(deeper):
+                break
+            self.end = at = after + 1
 
 
 def items(lines):
@@ -258,6 +266,37 @@ def shorter_lists(body):
     return [f"{match[1]} ({', '.join(names[:at] + names[at + 1:])})" for at in range(len(names)) if len(names) > 1 and names[at] not in ("rules", "arith")]
 
 
+def parameters(lines, item):
+    """Returns a name for each argument that the equations of an item give, or None if they give patterns of several lengths."""
+    signature = " ".join(it.strip() for it in lines[item.start:item.signature_end])
+    given = []
+    for begin, end in item.equations:
+        head, _ = head_and_body("\n".join(lines[begin:end]))
+        given.append([it for it in parts(" ".join((head or "").split()), " ")[1:] if it and not it.startswith("{")])
+    if len({len(it) for it in given}) != 1:
+        return None
+    bound = [it for names in re.findall(r"\(([^():]*) : ", signature) for it in names.split()]
+    found = []
+    for place, patterns in enumerate(zip(*given)):
+        plain = [it for it in patterns if re.fullmatch(r"[a-z_][\w'-]*", it) and it not in ("_", "true", "false", "zero", "tt", "refl")]
+        one = next(iter(plain), bound[place] if place < len(bound) else f"h{place}")
+        found.append(one if one not in found else f"h{place}")
+    return found
+
+
+def as_one(lines, item, lemmas):
+    """Returns the head of one equation in place of several, and bodies to try for it."""
+    names = parameters(lines, item)
+    if item.is_answer or names is None or len(item.equations) < 2 and not item.has_helpers:
+        return None, []
+    body = "\n".join(lines[item.signature_end:item.end])
+    cited = ", ".join(dict.fromkeys(it for it in re.findall(r"[^\s(){}\[\],;∷↦λ.]+", body) if it in lemmas))
+    found = ["cc", "omega arith", "search rules", "grind (arith, common_steps)"]
+    found += [f"search (rules, {cited})", f"grind (arith, common_steps, {cited})"] * bool(cited)
+    indent = re.match(r"\s*", lines[item.start])[0]
+    return f"{indent}{' '.join([item.name, *names])}", found
+
+
 def touched(crate):
     """Returns the functions that a must-fail edit changes, or whose constants it changes."""
     names, constants, source = set(), set(), f"{TOP}/crates/{crate}"
@@ -298,15 +337,15 @@ class Try:
 
 
 def copied(lines, item, number, one):
-    """Returns a copy of an item in which this equation has the body that is tried."""
+    """Returns a copy of an item in which this equation has the body that is tried, or where there is no number, all of them."""
     made = [re.sub(r"^(\s*)pub ", r"\1", lines[item.start]).replace(item.name, one.name, 1), *lines[item.start + 1:item.signature_end]]
-    for place, (begin, end) in enumerate(item.equations):
-        text = "\n".join(one.shown() if place == number else lines[begin:end])
+    texts = [one.shown() if place == number else lines[begin:end] for place, (begin, end) in enumerate(item.equations)]
+    for text in map("\n".join, texts if number is not None else [one.shown()]):
         made += re.sub(rf"(?<![^\s(\[{{,]){re.escape(item.name)}(?![^\s)\]}},])", one.name, text).split("\n")
     return made
 
 
-def tried(crate, bodies):
+def tried(crate, bodies, whole=lambda lines, item, lemmas: (None, [])):
     """Writes copies of the crate's proofs with other bodies beside them, and returns those tries that the checker accepts."""
     tries, before = [], {}
     for path in files_of(crate):
@@ -315,6 +354,12 @@ def tried(crate, bodies):
         after, uses = {}, ""
         found = items(lines)
         lemmas = lemmas_in(text, {it.name for it in found})
+        for item in found:
+            head, others = whole(lines, item, lemmas - {item.name})
+            for count, other in enumerate(others):
+                one = Try(path, (item.signature_end, item.end), head, other, f"{item.name}-try9x{count}")
+                after.setdefault(item.end, []).append((one, copied(lines, item, None, one)))
+                uses += other + " "
         for item in (it for it in found if not it.has_helpers):
             for number, (begin, end) in enumerate(item.equations):
                 head, body = head_and_body("\n".join(lines[begin:end]))
@@ -421,9 +466,10 @@ def main(crate):
 
     def bodies(path, rows, body, lemmas):
         is_touched = os.path.basename(path) == "Answers.antt" and os.path.basename(os.path.dirname(path)) in names
-        return shorter_bodies(body, lemmas, is_touched) if rows > 1 else []
+        return shorter_bodies(body, lemmas, is_touched) if rows > 1 or len(body) > LONG else []
 
-    for what, count in (("bodies", settled(crate, best(tried(crate, bodies)))),
+    for what, count in (("proofs by cases", settled(crate, best(tried(crate, lambda *_: [], as_one)))),
+                        ("bodies", settled(crate, best(tried(crate, bodies)))),
                         ("lists", settled(crate, best(tried(crate, lambda _path, _rows, body, _lemmas: shorter_lists(body)))))):
         print(f"{crate}: {count} shorter {what}", flush=True)
     drop_unused(crate)
