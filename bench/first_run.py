@@ -98,7 +98,7 @@ class Copy:
 
 
 UNBUILT = "stn: the program is not built yet"
-WAITS = "half an hour to three quarters"
+WAITS = "about half an hour"
 NEWER = "stn: the sources are newer than the program"
 NO_RT = "rt, the tool of the Rattle toolchain, is not on the path"
 UNPROVED = ", so this run is unproved"

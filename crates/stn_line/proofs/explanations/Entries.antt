@@ -4,8 +4,7 @@ use Rattle.stn_text.specs.{Bytes.line_feed, Lines.{is_word, lines_of}}
 use Rattle.stn_refusal.specs.Codes.{number_of}
 use Rattle.stn_refusal.specs.declared.code.Code.TheVariants as code
 use Rattle.stn_refusal.specs.declared.failure.Fault.TheVariants as fault
-use Rattle.stn_line.proofs.Values.{find_each}
-use Rattle.stn_line.specs.{Explanations.{Explained.{IsMeaning, AreMeanings, IsExplained, NamesNothing}, Subjects.{subjects, subject_word, word_of_fault}, Table.{IsInLines, IsTable, is_only_line, is_ended, says}}, declared.explanations.{subject.Subject.Subject, table.Entry.Entry}}
+use Rattle.stn_line.{proofs.Values.find_each, specs.{Explanations.{Explained.{IsMeaning, AreMeanings, IsExplained, NamesNothing}, Subjects.{subjects, subject_word, word_of_fault}, Table.{IsInLines, IsTable, is_only_line, is_ended, says}}, declared.explanations.{subject.Subject.Subject, table.Entry.Entry}}}
 use Rattle.stn_line.specs.declared.explanations.subject.Subject.TheVariants as subject
 
 -- two subjects are one

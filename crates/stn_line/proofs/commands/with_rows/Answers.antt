@@ -1,7 +1,6 @@
 use Rattle.std.proofs.Common.{◌≡◌, Ok, IfOk, fold, map, subst, arith}
 use Rattle.clap.specs.Words.{app_of, with_subcommand}
-use Rattle.stn_line.specs.Table.{read_shape}
-use Rattle.stn_line.proofs.Shapes.{joins, joined_all}
+use Rattle.stn_line.{specs.Table.read_shape, proofs.Shapes.{joins, joined_all}}
 use Rattle.stn_line.proofs.commands.with_rows.Goals as goal
 
 pub rows-preserved : goal.rows-preserved

@@ -1,5 +1,4 @@
-use Rattle.std.proofs.Common.{inl, inr, ⊎_elim}
-use Rattle.std.proofs.lemmas.Result.{IfOk-weaker}
+use Rattle.std.proofs.{Common.{inl, inr, ⊎_elim}, lemmas.Result.IfOk-weaker}
 use Rattle.stn_reasons.proofs.Opened.{refuses}
 use Rattle.stn_reasons.proofs.reason.about_other.Goals as goal
 

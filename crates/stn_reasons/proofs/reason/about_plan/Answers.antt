@@ -1,5 +1,4 @@
-use Rattle.std.proofs.Common.{◌≡◌, ◌∙◌, Some, sym, ap, inl, inr, ⊎_elim, option_map}
-use Rattle.std.proofs.lemmas.Result.{IfOk-weaker}
+use Rattle.std.proofs.{Common.{◌≡◌, ◌∙◌, Some, sym, ap, inl, inr, ⊎_elim, option_map}, lemmas.Result.IfOk-weaker}
 use Rattle.stn_reasons.specs.Reasons.{of_event, of_other, of_times, other_of, times_given}
 use Rattle.stn_reasons.proofs.reason.about_plan.Goals as goal
 
