@@ -19,7 +19,7 @@ one_error : {X E : Type 0} (f g : E) → (let none : Result X E = Err f in none)
 one_error f g e = cc
 
 one_base : (source : PlanSource) (Goes : Option Failure → Type 0) → IsOne Goes → IsOne (WithBase source Goes)
-one_base source Goes one cause other p q = search (rules, not_err)
+one_base source Goes one cause other p q = search (rules)
 
 -- what a site holds, whatever its work
 abbrev idle : Held → Held
@@ -31,10 +31,10 @@ module _ (entries : List Entry) (name : List ℕ) where
   none_there bytes p q = false≢true (ap is_some (sym p ∙ q))
 
   there_once : IsOne (IsThere (Some entries) name)
-  there_once one other p q = sym p.2 ∙ (ap is_some (sym p.1 ∙ q.1) ∙ q.2)
+  there_once one other p q = cc
 
   one_spelled : IsOne (Spells (Some entries) name)
-  one_spelled text other p q = p.2 ∙ (ap (take (65536 + 1)) (same_Some p.0 q.0 (sym p.1 ∙ q.1)) ∙ sym q.2)
+  one_spelled text other p q = cc
 
   module _ (logs : (bytes : List ℕ) → IsOne (IsLog bytes)) where
     one_meaning : IsOne (Means (Some entries) name)
@@ -69,8 +69,7 @@ one_explained : (word : Option (List ℕ)) → IsOne (IsExplainRefusal word)
 one_explained word cause other p q = search rules
 
 change_at_rest : (held : Held) (asked : ChangeAsked) → change_refusal held asked ≡ change_refusal (idle held) asked
-change_at_rest held (Add bound) = refl
-change_at_rest held asked = refl
+change_at_rest held asked = cc
 
 refused_at_rest : (plan : Option (List ℕ)) (asked : Query) (held : Held) (cause : Option Failure) → IsRefusedBy plan asked held cause → IsRefusedBy plan asked (idle held) cause
 refused_at_rest plan asked held cause p = search (rules)
@@ -92,11 +91,10 @@ module _ (guards : OneGuard)
   one_guarding refusal other (guarded there _ _ _ _) (no_step absent q) = absurd (false≢true (sym absent ∙ there))
   one_guarding refusal other (guarded _ possible _ _ _) (conflict _ none q) = absurd (none possible)
   one_guarding refusal other (guarded _ possible one is_one p) (guarded _ _ last is_last q) =
-      p ∙ (ap (λ (guard : List Difference). records_refusal held (length guard))
-      (guards (owner_by held.site owned) (events_of held.source) (all_bounds held.source held.state) one last possible is_one is_last) ∙ sym q)
+      cc (guards (owner_by held.site owned) (events_of held.source) (all_bounds held.source held.state) one last possible is_one is_last)
 
   one_unguarded : IsOne (IsUnguarded owned held)
-  one_unguarded cause other p q = p.2 ∙ (ap (option_map replica_failure) (one_guarding p.0 q.0 p.1 q.1) ∙ sym q.2)
+  one_unguarded cause other p q = cc (one_guarding p.0 q.0 p.1 q.1)
 
 guard_at_rest : (owned : List OwnedSteps) (held : Held) (cause : Option Failure) → IsUnguarded owned held cause → IsUnguarded owned (idle held) cause
 guard_at_rest owned held cause p = (p.0, at_rest p.0 p.1, p.2)
@@ -126,7 +124,7 @@ module _ (logs : (bytes : List ℕ) → IsOne (IsLog bytes))
       (few.0.are_loosened, omega (arith, few.1, ap length few.0.whole, length-append few.0.loosened few.0.moved))
 
   not_few : (source : PlanSource) (slack : Slack) → AreTooManyRobust source slack → (records : List Difference) → ¬ AreFewRobust source slack records
-  not_few source slack more records few = omega (arith, few.1, more.many, ap length (robusts source slack records more.records few.0 more.are_robust))
+  not_few source slack more records few = omega (arith, few.1, ap length (robusts source slack records more.records few.0 more.are_robust))
 
   one_robust : (source : PlanSource) (slack : Slack) → IsOne (IsRobustRefusal source slack)
   one_robust source slack cause other (inl p) q = search (rules, many source slack p.0, few_loosened source slack p.0)
@@ -140,8 +138,8 @@ module _ (logs : (bytes : List ℕ) → IsOne (IsLog bytes))
       search (rules, few, few_robust)
 
   one_loosening : (robust : Bool) (source : PlanSource) (slack : Slack) → IsOne (IsLooseningRefusal robust source slack)
-  one_loosening false source slack = one_base source (IsLoosenedRefusal source slack) (one_loosened source slack)
-  one_loosening true source slack = one_base source (IsRobustRefusal source slack) (one_robust source slack)
+  one_loosening false source slack = search (rules, one_base, one_loosened)
+  one_loosening true source slack = search (rules, one_base, one_robust)
 
   -- ---- steps over entries that are known
   module _ (Fails : Fault → Type 0) (entries : List Entry) where

@@ -11,7 +11,7 @@ one_fault : (f g : WireFault) → faulty f ≡ faulty g → f ≡ g
 one_fault f g e = cc
 
 nothing : (bytes : List ℕ) → bytes ≡ [] → IsFront bytes unfinished
-nothing bytes e = subst (λ (l : List ℕ). IsFront l unfinished) (sym e) (inl (omega arith))
+nothing bytes e = search rules
 
 -- an ending is after all whole frames
 no_frame : (more : Bool) (log : Option LogSoFar) (frame : FrameContent) (tail : List ℕ) (meaning : Result Log LoadFault) → IsFrame frame → IsEnding more (spelling frame ++ tail) log meaning → ⊥
@@ -29,43 +29,21 @@ no_frame more log frame tail meaning h e = by meaning e
 
 -- a whole log is no other answer
 whole_alone : (more : Bool) (log : Option LogSoFar) (behind : List ℕ) (one : Log) (meaning : Result Log LoadFault) → IsEnding more behind log (Ok one) → IsEnding more behind log meaning → Ok one ≡ meaning
-whole_alone more log behind one (Ok other) p q = ap Ok (same_Some one other (sym p.2 ∙ q.2))
-whole_alone more log behind one (Err (Frame fault)) p q = absurd (apart fault (one_front_lem behind (faulty fault) unfinished q (nothing behind p.1)))
-whole_alone more log behind one (Err LogForm) p q = absurd (⊎_elim (λ none. none-some one (sym (sym p.2 ∙ ap (option_map (λ (begun : LogSoFar). begun.log)) none))) (λ some. omega (arith, some, ap length p.1)) q.2)
-whole_alone more log behind one (Err Bound) p q = absurd (false≢true (sym p.0 ∙ q.0))
-whole_alone more log behind one (Err other) p q = absurd q
+whole_alone more log behind one meaning p q = search rules
 
 one_ending : (more : Bool) (log : Option LogSoFar) (behind : List ℕ) (a b : Result Log LoadFault) → IsEnding more behind log a → IsEnding more behind log b → a ≡ b
-one_ending more log behind (Ok one) b p q = whole_alone more log behind one b p q
-one_ending more log behind a (Ok one) p q = sym (whole_alone more log behind one a q p)
-one_ending more log behind (Err (Frame f)) (Err (Frame g)) p q = ap (λ (fault : WireFault). Err (Frame fault)) (one_fault f g (one_front_lem behind (faulty f) (faulty g) p q))
-one_ending more log behind (Err (Frame f)) (Err LogForm) p q = absurd (apart f (one_front_lem behind (faulty f) unfinished p q.1))
-one_ending more log behind (Err (Frame f)) (Err Bound) p q = absurd (apart f (one_front_lem behind (faulty f) unfinished p q.1))
-one_ending more log behind (Err LogForm) (Err (Frame g)) p q = absurd (apart g (one_front_lem behind (faulty g) unfinished q p.1))
-one_ending more log behind (Err Bound) (Err (Frame g)) p q = absurd (apart g (one_front_lem behind (faulty g) unfinished q p.1))
-one_ending more log behind (Err LogForm) (Err LogForm) p q = refl
-one_ending more log behind (Err Bound) (Err Bound) p q = refl
-one_ending more log behind (Err LogForm) (Err Bound) p q = absurd (false≢true (sym p.0 ∙ q.0))
-one_ending more log behind (Err Bound) (Err LogForm) p q = absurd (false≢true (sym q.0 ∙ p.0))
-one_ending more log behind (Err Read) b p q = absurd p
-one_ending more log behind (Err (Base fault)) b p q = absurd p
-one_ending more log behind (Err (Take fault)) b p q = absurd p
-one_ending more log behind (Err Memory) b p q = absurd p
-one_ending more log behind a (Err other) p q = absurd q
+one_ending more log behind a b p q = search rules
 
 by_first : (more : Bool) (fs gs : List FrameContent) (behind left : List ℕ) (a b : Result Log LoadFault) (first : Result LogSoFar LoadFault)
     → ((next : LogSoFar) → IsLogAnswer more behind (all_taken (Some next) fs) a → IsLogAnswer more left (all_taken (Some next) gs) b → a ≡ b)
     → IsLogAnswer more behind (all_taken_by (λ log. all_taken log fs) first) a → IsLogAnswer more left (all_taken_by (λ log. all_taken log gs) first) b → a ≡ b
-by_first more fs gs behind left a b (Ok next) later x y = later next x y
-by_first more fs gs behind left a b (Err fault) later x y = x ∙ sym y
+by_first more fs gs behind left a b first later x y = search rules
 
 one_rest : (more : Bool) (fs gs : List FrameContent) (log : Option LogSoFar) (behind left : List ℕ) (a b : Result Log LoadFault) → AllByRecursion IsFrame fs → AllByRecursion IsFrame gs
     → flat_map spelling fs ++ behind ≡ flat_map spelling gs ++ left → IsLogAnswer more behind (all_taken log fs) a → IsLogAnswer more left (all_taken log gs) b → a ≡ b
-one_rest more [] [] log behind left a b p q e x y = one_ending more log behind a b x (subst (λ (l : List ℕ). IsEnding more l log b) (sym e) y)
-one_rest more [] (g ∷ gs) log behind left a b p q e x y =
-    absurd (no_frame more log g (flat_map spelling gs ++ left) a q.0 (subst (λ (l : List ℕ). IsEnding more l log a) (e ∙ append_assoc (spelling g) (flat_map spelling gs) left) x))
-one_rest more (f ∷ fs) [] log behind left a b p q e x y =
-    absurd (no_frame more log f (flat_map spelling fs ++ behind) b p.0 (subst (λ (l : List ℕ). IsEnding more l log b) (sym e ∙ append_assoc (spelling f) (flat_map spelling fs) behind) y))
+one_rest more [] [] log behind left a b p q e x y = search rules
+one_rest more [] (g ∷ gs) log behind left a b p q e x y = search (rules, no_frame, append_assoc)
+one_rest more (f ∷ fs) [] log behind left a b p q e x y = search (rules, no_frame, append_assoc)
 one_rest more (f ∷ fs) (g ∷ gs) log behind left a b p q e x y =
     let cut : spelling f ++ (flat_map spelling fs ++ behind) ≡ spelling g ++ (flat_map spelling gs ++ left) = search (rules, append_assoc) in
     let parts = one_spelling_lem f g (flat_map spelling fs ++ behind) (flat_map spelling gs ++ left) p.0 q.0 cut in
@@ -73,4 +51,4 @@ one_rest more (f ∷ fs) (g ∷ gs) log behind left a b p q e x y =
     (subst (λ (h : FrameContent). IsLogAnswer more left (all_taken_by (λ log. all_taken log gs) (taken log h)) b) (sym parts.0) y)
 
 pub one_meaning : (more : Bool) (log : Option LogSoFar) (bytes : List ℕ) (a b : Result Log LoadFault) → IsRest more log bytes a → IsRest more log bytes b → a ≡ b
-one_meaning more log bytes a b x y = one_rest more x.frames y.frames log x.behind y.behind a b x.each y.each (sym x.cut ∙ y.cut) x.answer y.answer
+one_meaning more log bytes a b x y = search (rules, one_rest)

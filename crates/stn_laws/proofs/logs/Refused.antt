@@ -14,7 +14,7 @@ module _ (Fails : Fault → Type 0) (refused : RefusedWord) where
   -- what a word refuses ends so
   ends_so : (X : Type 0) (said : Result X RefusedWord) (Next : X → Effect Entries (List ℕ)) (old new : Entries) (ended : Result (List ℕ) Failure)
       → refused_by said ≡ Some refused → Then (Reads Fails said) Next old new ended → (new ≡ old) × IsRefused ended
-  ends_so X said Next old new ended is does = search (rules, not_err, same_Some)
+  ends_so X said Next old new ended is does = search (rules, not_err)
 
   pub told : (line : Line) (old new : Entries) (ended : Result (List ℕ) Failure) → word_refused line ≡ Some refused → DoesLine Fails line old new ended
       → (new ≡ old) × IsRefused ended

@@ -12,20 +12,16 @@ module _ {X : Type 0} (key : X → ℤ) where
   tie_same x y same = search rules
 
   tie_less : (x y : X) → key x <ℤ key y → ties lt x y ≡ false
-  tie_less x y less = let before : lt x y ≡ true = grind arith in ap (λ t. not t && not (lt y x)) before
+  tie_less x y less = search rules
 
   filter_with : (test : X → Bool) (x : X) (xs : List X) → test x ≡ true → filter test (x ∷ xs) ≡ x ∷ filter test xs
-  filter_with test x xs passes = ap (λ t. cond t (x ∷ filter test xs) (filter test xs)) passes
+  filter_with test x xs passes = cc
 
   filter_without : (test : X → Bool) (x : X) (xs : List X) → test x ≡ false → filter test (x ∷ xs) ≡ filter test xs
-  filter_without test x xs fails = ap (λ t. cond t (x ∷ filter test xs) (filter test xs)) fails
+  filter_without test x xs fails = cc
 
   filter_cancel : (test : X → Bool) (x : X) (xs ys : List X) → filter test (x ∷ xs) ≡ filter test (x ∷ ys) → filter test xs ≡ filter test ys
-  filter_cancel test x xs ys same = by (test x) same
-    where
-      by : (passes : Bool) → cond passes (x ∷ filter test xs) (filter test xs) ≡ cond passes (x ∷ filter test ys) (filter test ys) → filter test xs ≡ filter test ys
-      by true h = cc
-      by false h = h
+  filter_cancel test x xs ys same = search rules
 
   tail_sorted : (x : X) (xs : List X) → IsSortedBy lt (x ∷ xs) → IsSortedBy lt xs
   tail_sorted x xs sorted k d low below =

@@ -1,5 +1,5 @@
 -- Runs of bounds each of whose schedules is a promise.
-use Rattle.std.{proofs.{Common.{◌≡◌, ◌≢◌, ℕ, ℤ, ◌-ℤ◌, ◌≤ℤ◌, cond, eqb, find, List, [], ◌∷◌, ◌++◌, get_or, Option, Some, None, refl, sym, ap, subst, ◌∙◌, arith, All}, lemmas.{Bool.{cond_both, eqb-true, eq-eqb, ne_eqb}, Int.ints, List.{get_or-map, length-map, Elements.{All-nil, All-cons, All-map, All-contains}}}}, specs.Prelude.{◌↔◌, unwrap_or, Contains}}
+use Rattle.std.{proofs.{Common.{rules, ◌≡◌, ◌≢◌, ℕ, ℤ, ◌-ℤ◌, ◌≤ℤ◌, cond, eqb, find, List, [], ◌∷◌, ◌++◌, get_or, Option, Some, None, refl, sym, ap, subst, ◌∙◌, arith, All}, lemmas.{Bool.{cond_both, eqb-true, eq-eqb, ne_eqb}, Int.ints, List.{get_or-map, length-map, Elements.{All-nil, All-cons, All-map, All-contains}}}}, specs.Prelude.{◌↔◌, unwrap_or, Contains}}
 use Rattle.stn_net.{proofs.{Closure.schedule_before, Schedules.{schedule_with, met_behind}}, specs.{Difference.Difference, Schedule.{Meets, IsSchedule, HasSchedule}, Windows.{Window.IsInWindow, Rehearsal.fixed_at}}}
 use Rattle.stn_loosen.{specs.Promise.{still, setting_of, Follows, Promises}, proofs.{Robustness.IsRobust, Settings.keeps_itself}}
 use Rattle.stn_laws.specs.Executions.{Execution, executed_bounds, MayCome, IsExecution}
@@ -27,10 +27,10 @@ abbrev moved_to : (ℕ → ℤ) → ℕ → ℤ → ℕ → ℤ
 moved_to time event other one = cond (eqb one event) other (time one)
 
 moved_here : (time : ℕ → ℤ) (event : ℕ) (other : ℤ) → moved_to time event other event ≡ other
-moved_here time event other = ap (λ t. cond t other (time event)) (eq-eqb event event refl)
+moved_here time event other = cc (eq-eqb event event refl)
 
 moved_beside : (time : ℕ → ℤ) (event : ℕ) (other : ℤ) (one : ℕ) → one ≢ event → moved_to time event other one ≡ time one
-moved_beside time event other one differs = ap (λ t. cond t other (time one)) (ne_eqb one event differs)
+moved_beside time event other one differs = cc (ne_eqb one event differs)
 
 module _ (durations bounds : List Difference) (robust : IsRobust durations bounds) where
   -- the end of a duration may come at each time that the duration lets it
@@ -48,7 +48,7 @@ module _ (durations bounds : List Difference) (robust : IsRobust durations bound
   started_at run time schedule event start has = All-contains (Came time) run (record { event = event; time = start }) (all_came bounds run time schedule) has
 
   came_more : (run : List Execution) (last : Execution) (time : ℕ → ℤ) → IsSchedule (bounds ++ executed_bounds run) time → time last.event ≡ last.time → IsSchedule (bounds ++ executed_bounds (last ∷ run)) time
-  came_more run last time schedule came = came_schedule bounds (last ∷ run) time (schedule_before bounds (executed_bounds run) time schedule) (All-cons (Came time) last run came (all_came bounds run time schedule))
+  came_more run last time schedule came = search (rules, came_schedule, schedule_before, All-cons, all_came)
 
   -- with an execution more there is a schedule
   one_more : (run : List Execution) (last : Execution) → All (λ execution. execution.event ≢ last.event) run → HasSchedule (bounds ++ executed_bounds run)
@@ -64,7 +64,7 @@ module _ (durations bounds : List Difference) (robust : IsRobust durations bound
 
   -- a run always has a schedule
   pub run_possible : HasSchedule bounds → (run : List Execution) → IsExecution durations bounds run → HasSchedule (bounds ++ executed_bounds run)
-  run_possible possible [] none = (possible.0, came_schedule bounds [] possible.0 possible.1 (All-nil (Came possible.0)))
+  run_possible possible [] none = search rules
   run_possible possible (last ∷ run) is = one_more run last is.1 (run_possible possible run is.0) (find (λ (d : Difference). eqb d.to last.event) durations) refl is.2
 
   -- the window of the end of a duration that has begun

@@ -31,9 +31,9 @@ pub one_text : OneReport → ((source : PlanSource) → (state : Content) → (q
 one_text reports answers mends pictures report held text other p q = reports held.source held.state text other p q
 one_text reports answers mends pictures (check times) held text other p q = p ∙ sym q
 one_text reports answers mends pictures (foresee outlook now choice) held text other p q = search (rules, one_foreseen)
-one_text reports answers mends pictures (ask question) held text other p q = answers held.source held.state question text other p q
-one_text reports answers mends pictures repairs held text other p q = mends held.source held.state text other p q
-one_text reports answers mends pictures (draw look) held text other p q = pictures look (source_names held.source) held.source held.state text other p q
+one_text reports answers mends pictures (ask question) held text other p q = search rules
+one_text reports answers mends pictures repairs held text other p q = search rules
+one_text reports answers mends pictures (draw look) held text other p q = search rules
 
 -- the same by the names of steps
 module _ (one : (query : Query) (held : Held) → IsOne (IsSaid query held)) where

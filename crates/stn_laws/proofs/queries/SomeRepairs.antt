@@ -26,10 +26,10 @@ found_or_none {events} {bounds} begun = grind (arith, common_steps, found_or_ref
 
 -- more bounds
 pub more_begun : {events : ℕ} {bounds : List Difference} (more : List Difference) → IsBegun events bounds → All (IsInOrder events) more → IsBegun events (bounds ++ more)
-more_begun {events} {bounds} more begun each = grind (arith, common_steps, known_first, IsInOrder)
+more_begun {events} {bounds} more begun each = grind (arith, common_steps, known_first)
 
 one_begun : {events : ℕ} {bounds : List Difference} {bound : Difference} → IsBegun events bounds → IsInOrder events bound → IsBegun events (bounds ++ bound ∷ [])
-one_begun {events} {bounds} {bound} begun one = grind (arith, common_steps, known_first, All-push)
+one_begun {events} {bounds} {bound} begun one = grind (arith, common_steps, known_first)
 
 module _ (base : List Difference) (events : ℕ) (begun : IsBegun events base) (live : Entries) (each : InOrder events live) where
   -- a record mends the conflict, or not

@@ -41,7 +41,7 @@ same_event_or_not (WhyApart from to) = cases_eq from to
 
 module _ {held : Held} (sound : IsSoundSite held) where
   state_sound : IsSoundState held.source held.state
-  state_sound = record { based = sound.based; live = sound.live }
+  state_sound = search rules
 
   foreseen : (outlook : Outlook) (done : List Bool) → length done ≡ events_of held.source + 1 → (now : ℤ) → IsForeseenOrRefused outlook held done now
   foreseen outlook.Next done long now =

@@ -42,7 +42,7 @@ window_found {bounds} {events} {far} found event within =
 
 -- ---- chains
 chain-append : (bounds : List Difference) (links others : List Link) (x y z : ℕ) → IsChain bounds links x y → IsChain bounds others y z → IsChain bounds (links ++ others) x z
-chain-append bounds [] others x y z one other = subst (λ e. IsChain bounds others e z) (sym one) other
+chain-append bounds [] others x y z one other = search rules
 chain-append bounds (link ∷ links) others x y z (placed, from, rest) other = (placed, from, chain-append bounds links others _ y z rest other)
 
 weight-append : (bounds : List Difference) (links others : List Link) → weight_of bounds (links ++ others) ≡ weight_of bounds links +ℤ weight_of bounds others

@@ -1,4 +1,5 @@
 -- Where there are tightest differences along which chains lead, each event has its level and its way.
+use Rattle.std.proofs.lemmas.Grind.{common_steps}
 use Rattle.std.{proofs.{Common.{rules, ◌≡◌, inl, inr, ℕ, zero, suc, ◌+◌, ◌<◌, ◌≤◌, List, [], ◌∷◌, ◌++◌, length, refl, sym, subst, ap, ◌∙◌, arith}, lemmas.{Bool.{cases_lt, cases_eq}, Int.ints, List.length_push}}, specs.{Prelude.{ℤ, ◌+ℤ◌, ◌≤ℤ◌}, List.AllByRecursion}}
 use Rattle.stn_time.proofs.Each.{each_parted, each_pushed}
 use Rattle.stn_net.{specs.Difference.{Difference, NamesEvents}, proofs.Told.{Told, both_told, told_as, same_told, least_below}}
@@ -20,7 +21,7 @@ module _ {bounds : List Difference} {events : ℕ} {far : ℕ → ℕ → ℤ} (
       link_reaches bounds start link _ _ there (tightest_found found start _ start_within from) (tightest_found found start _ start_within to)
 
   chain_reaches : (links : List Link) (x y : ℕ) → IsChain bounds links x y → far start y ≤ℤ (far start x +ℤ weight_of bounds links)
-  chain_reaches [] x y chain = omega (arith, ints, ap (far start) chain)
+  chain_reaches [] x y chain = search rules
   chain_reaches (link ∷ links) x y (there, from, rest) = omega (arith, ints, reaches link there, chain_reaches links _ y rest, ap (far start) from)
 
   tight_along : (links : List Link) (x y : ℕ) → IsChain bounds links x y → far start y ≡ far start x +ℤ weight_of bounds links → AllByRecursion (IsTight bounds start) links
@@ -44,8 +45,7 @@ module _ {bounds : List Difference} {events : ℕ} {far : ℕ → ℕ → ℤ} (
 
   -- a chain of no links is at its start
   none_long : (links : List Link) (x : ℕ) → IsChain bounds links start x → length links ≡ 0 → start ≡ x
-  none_long [] x chain long = chain
-  none_long (link ∷ links) x chain long = absurd (omega arith)
+  none_long links x chain long = grind (arith, common_steps)
 
   -- ---- whether a link is tight can be told, and so can levels
   tight_told : (link : Link) → Told (IsTight bounds start link)
@@ -63,7 +63,7 @@ module _ {bounds : List Difference} {events : ℕ} {far : ℕ → ℕ → ℤ} (
       ]
 
   number_told : (a b : ℕ) → Told (a ≡ b)
-  number_told a b = let either = cases_eq a b in search rules
+  number_told a b = search rules
 
   abbrev HasChain : ℕ → ℕ → Type 0
   HasChain n x = (links : List Link) × IsTightChain bounds start x links × (length links ≡ n)

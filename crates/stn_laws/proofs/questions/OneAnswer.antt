@@ -45,9 +45,9 @@ one_part unique source state from to AreEnds heading low high pair text other p 
 one_or_conflict : OneReport → Refutes → (source : PlanSource) (state : Content) (reasons : List ℕ → Type 0)
     → ((said : List ℕ) → reasons said → HasSchedule (all_bounds source state)) → IsOne reasons → IsOne (λ text. reasons text ⊎ IsConflictPart source state text)
 one_or_conflict reports refutes source state reasons possible one text other (inl p) (inl q) = one text other p q
-one_or_conflict reports refutes source state reasons possible one text other (inl p) (inr q) = absurd (refutes (all_bounds source state) q.links q.negative (possible text p))
-one_or_conflict reports refutes source state reasons possible one text other (inr p) (inl q) = absurd (refutes (all_bounds source state) p.links p.negative (possible other q))
-one_or_conflict reports refutes source state reasons possible one text other (inr p) (inr q) = one_conflict reports source state text other p q
+one_or_conflict reports refutes source state reasons possible one text other (inl p) (inr q) = search rules
+one_or_conflict reports refutes source state reasons possible one text other (inr p) (inl q) = search rules
+one_or_conflict reports refutes source state reasons possible one text other (inr p) (inr q) = search (rules, one_conflict)
 
 one_text : (state : Content) → IsOne (IsRecordsText state)
 one_text state text other p q = cc (one_known state p.ids q.ids p.known q.known)

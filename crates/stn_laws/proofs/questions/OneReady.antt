@@ -9,7 +9,7 @@ one_or_none same = cond same 1 0
 
 -- an event in the list counts
 head_counts : (one : ReadyEvent) (ready : List ReadyEvent) (event : ℕ) → counted (one ∷ ready) event ≡ cond (eqb one.event event) 1 0 + counted ready event
-head_counts one ready event = sum_by-cons (λ (x : ReadyEvent). cond (eqb x.event event) 1 0) one ready
+head_counts one ready event = search (rules, sum_by-cons)
 
 -- an event that counts stands somewhere in the list
 pub stands : (ready : List ReadyEvent) (event : ℕ) → 0 < counted ready event → (place : ℕ) × (place < length ready) × ((d : ReadyEvent) → (get_or ready place d).event ≡ event)
@@ -26,7 +26,7 @@ stands (one ∷ ready) event some = by (eqb one.event event) refl (λ later. sta
 
 -- the first comes before each
 pub first_before : (one : ReadyEvent) (ready : List ReadyEvent) (place : ℕ) (d : ReadyEvent) → AllPairs IsBefore (one ∷ ready) → place < length (one ∷ ready) → IsBefore one (get_or (one ∷ ready) place d)
-first_before one ready zero d order within = (omega (arith, ints), λ same. omega arith)
+first_before one ready zero d order within = omega (arith, ints)
 first_before one ready (suc place) d order within = order 0 (suc place) d (omega arith) within
 
 module _ (bounds : List Difference) (done : List Bool) (now : ℤ) where

@@ -1,5 +1,5 @@
 -- The first of the events that are ready is the one that comes next, and all may run until the same time.
-use Rattle.std.{proofs.{Common.{◌≡◌, ℕ, ℤ, ◌+ℤ◌, ◌-ℤ◌, ◌≤ℤ◌, ◌<ℤ◌, suc, Bool, List, [], ◌∷◌, get_or, All, sym, ap, subst, ◌∙◌, arith, ⊎_elim}, lemmas.Int.{ints, clamps, by_lt_z}}, specs.{Int.int_min, List.flat_map}}
+use Rattle.std.{proofs.{Common.{rules, ◌≡◌, ℕ, ℤ, ◌+ℤ◌, ◌-ℤ◌, ◌≤ℤ◌, ◌<ℤ◌, suc, Bool, List, [], ◌∷◌, get_or, All, sym, ap, subst, ◌∙◌, arith, ⊎_elim}, lemmas.Int.{ints, clamps, by_lt_z}}, specs.{Int.int_min, List.flat_map}}
 use Rattle.stn_net.{specs.{Difference.Difference, Schedule.IsSchedule, declared.windows.answers.Next.TheVariants.Run, Windows.Dispatch.{LeavesNoneBefore, IsReady, IsFirstReady}}, proofs.{OneAnswer.one_next, WindowEnds.lesser_schedule}}
 use Rattle.stn_lift.specs.PlanSource.{PlanSource}
 use Rattle.stn_records.specs.Content.{Content}
@@ -38,7 +38,7 @@ module _ (bounds : List Difference) (done : List Bool) (now : ℤ) where
   -- the list of the events that are ready, where this one comes next
   next_first : (time : ℤ) (event : ℕ) (ready : List ReadyEvent) → IsFirstReady bounds done now time event → AreReadyEvents bounds done now ready
       → (last : ℤ) × (others : List ReadyEvent) × (ready ≡ record { first = time; event = event; last = last } ∷ others) × All (λ one. one.last ≡ last) others
-  next_first time event [] next are = let once = are.once event time next.later next.ready in absurd (omega (arith, once))
+  next_first time event [] next are = search rules
   next_first time event (one ∷ others) next are =
       let p : HasTimes bounds done now one = are.times 0 one (omega arith) in
       let begins = (p.1 one.first).1 (omega (arith, ints), p.0) in

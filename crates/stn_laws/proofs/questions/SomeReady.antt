@@ -74,7 +74,7 @@ module _ (bounds : List Difference) (table : Table) (done : List Bool) (now : �
       )
 
   by_number : (limit : ℕ) → (ready : List ReadyEvent) × AreReadyBelow bounds done now limit ready
-  by_number zero = search (rules, All-nil)
+  by_number zero = search (rules)
   by_number (suc number) =
       let (ready, so_far) = by_number number in
       let (times, is) = some_ready_times bounds table done now number are in

@@ -11,7 +11,7 @@ module _ {X : Type 0} where
 
   -- what holds of each element
   all_of : (P : X → Type 0) (xs : List X) → ((x : X) → Contains xs x → P x) → All P xs
-  all_of P xs f = All-weaker _ P f xs (All-contains_itself xs)
+  all_of P xs f = search rules
 
 module _ {X Y : Type 0} (f : X → Y) where
   abbrev IsImage : List X → Y → Type 0

@@ -70,7 +70,7 @@ module _ (base : List Difference) (live : Records) (ids : List SiteCounter) (pos
   turns = are_kept base _ _ possible dropped.in_turn
 
   in_turn : (entry : SiteCounter × Record) → Contains live entry → Contains (facts_first live) entry
-  in_turn entry there = Contains-permutation live _ entry (turned live) there
+  in_turn entry there = search (rules, Contains-permutation, turned)
 
   of_live : (entry : SiteCounter × Record) → Contains (facts_first live) entry → Contains live entry
   of_live entry there = search (rules, Contains-permutation, IsPermutation-sym, turned)

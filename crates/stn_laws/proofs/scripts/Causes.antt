@@ -19,22 +19,19 @@ abbrev OfReplica : ReplicaFault → Type 0
 OfReplica fault = HasRefusal (replica_failure fault)
 
 change_fits : (held : Held) (asked : Change) → IfSome (change_refusal held asked) OfReplica
-change_fits held asked = grind (arith, common_steps)
+change_fits held asked = grind (arith)
 
 take_fits : (held : Held) (other : Content) → IfSome (take_refusal held other) OfReplica
 take_fits held other = grind (arith)
 
 replica_fits : (found : Option ReplicaFault) → IfSome found OfReplica → IfSome (option_map replica_failure found) HasRefusal
-replica_fits found one = grind (arith, common_steps)
+replica_fits found one = grind (arith)
 
 pub step_fits : (world : World) (step : Step) → IfSome (step_refusal world step) HasRefusal
-step_fits world (changed site asked) = grind (arith, common_steps, replica_fits, change_fits)
-step_fits world (merged site other) = grind (arith, common_steps, replica_fits, take_fits)
-step_fits world (sent site part) = grind (arith, common_steps)
-step_fits world (delivered site number) = grind (arith, common_steps, replica_fits, take_fits)
+step_fits world step = search rules
 
 pub send_fits : (world : World) (site : ℕ) (held : Bool) → IfSome (send_refusal world site held) HasRefusal
-send_fits world site held = grind (arith, common_steps)
+send_fits world site held = grind (arith)
 
 -- ---- the words of times
 time_fits : (word : List ℕ) → IfErr (time_read word) HasRefusal
@@ -42,16 +39,16 @@ time_fits word = grind (arith)
 
 times_fits : (words : List (List ℕ)) → IfErr (times_read words) HasRefusal
 times_fits [] = tt
-times_fits (word ∷ words) = grind (arith, time_fits, times_fits words)
+times_fits (word ∷ words) = grind (arith, times_fits words)
 
 side_fits : (open_side : ℤ) (word : Option (List ℕ)) → IfErr (side_read open_side word) HasRefusal
-side_fits open_side word = grind (arith, time_fits)
+side_fits open_side word = grind (arith)
 
 between_fits : (from to : ℕ) (lo hi : Option (List ℕ)) → IfErr (bound_between from to lo hi) HasRefusal
-between_fits from to lo hi = grind (arith, side_fits)
+between_fits from to lo hi = grind (arith)
 
 bound_fits : (words : List (List ℕ)) → IfSome (bound_asked words) (λ bound. IfErr bound HasRefusal)
-bound_fits words = grind (arith, between_fits)
+bound_fits words = grind (arith)
 
 -- ---- the forms of commands
 -- what the action asks for could be read, or is refused
@@ -61,16 +58,16 @@ IsReadOrRefused (query asked) = IfErr asked HasRefusal
 IsReadOrRefused other = Unit {0}
 
 add_fits : (words : List (List ℕ)) → IfSome (add_of words) IsReadOrRefused
-add_fits words = grind (arith, bound_fits)
+add_fits words = grind (arith)
 
 amend_fits : (words : List (List ℕ)) → IfSome (amend_of words) IsReadOrRefused
-amend_fits words = grind (arith, bound_fits)
+amend_fits words = grind (arith)
 
 done_fits : (words : List (List ℕ)) → IfSome (done_of words) IsReadOrRefused
-done_fits words = grind (arith, time_fits)
+done_fits words = grind (arith)
 
 number_fits : (make : ℕ → Action) (found : Option ℕ) → ((number : ℕ) → IsReadOrRefused (make number)) → IfSome (option_map make found) IsReadOrRefused
-number_fits make found each = grind (arith, each)
+number_fits make found each = grind (arith)
 
 items_fits : (words : List (List ℕ)) → IfSome (send_of words) IsReadOrRefused
 items_fits words = grind (arith)
@@ -86,15 +83,13 @@ why_fits : (words : List (List ℕ)) → IfSome (why_of words) IsReadOrRefused
 why_fits words = grind (arith)
 
 outlook_fits : (outlook : Option Outlook) (name : List ℕ) (words : List (List ℕ)) → IfSome (outlook_or_alone outlook name words) IsReadOrRefused
-outlook_fits outlook name words = grind (arith, time_fits)
+outlook_fits outlook name words = grind (arith)
 
 choice_fits : (test : Bool) (first second : Option Action) → IfSome first IsReadOrRefused → IfSome second IsReadOrRefused → IfSome (cond test first second) IsReadOrRefused
-choice_fits true first second one other = one
-choice_fits false first second one other = other
+choice_fits test first second one other = search rules
 
 action_fits : (events : ℕ) (name : List ℕ) (words : List (List ℕ)) → IfSome (action_of events name words) IsReadOrRefused
-action_fits events name words =
-    search (rules, choice_fits, add_fits, amend_fits, done_fits, number_fits, items_fits, check_fits, why_fits, outlook_fits)
+action_fits events name words = search (rules, choice_fits, add_fits, amend_fits, done_fits, items_fits, check_fits, why_fits, outlook_fits)
 
 pub command_fits : (events : ℕ) (words : List (List ℕ)) → IfSome (command_of events words) (λ command. IsReadOrRefused command.action)
 command_fits events [] = tt

@@ -27,4 +27,4 @@ one_output one (reply ∷ replies) text other p q = search (rules, one_text, (on
 
 pub one_count : (replies : List CommandReply) → IsOne (CountsRefusals replies)
 one_count [] count other p q = p ∙ sym q
-one_count (reply ∷ replies) count other p q = search (rules, counted, (one_count replies p.1 q.1 p.3 q.3))
+one_count (reply ∷ replies) count other p q = search (rules, (one_count replies p.1 q.1 p.3 q.3))

@@ -26,21 +26,21 @@ is_apart [] = true
 is_apart (byte ∷ bytes) = byte == 32
 
 gap_free : (word : List ℕ) → no_gap word ≡ true → All (λ byte. is_gap byte ≡ false) word
-gap_free word e = search (rules, not-true, AllPass-from_list_all)
+gap_free word e = search (rules, AllPass-from_list_all)
 
 -- a word, a space, and what stands behind it
 words_behind : (word rest : List ℕ) → IsOneWord word → words_of (word ++ 32 ∷ rest) ≡ word ∷ words_of rest
 unfolding words_of
-words_behind word rest is = rw (slice_split_at is_gap word 32 rest (gap_free word is.whole) refl, is.some) refl
+words_behind word rest is = search (rules, slice_split_at, gap_free)
 
 -- a word alone
 word_alone : (word : List ℕ) → IsOneWord word → words_of word ≡ word ∷ []
 unfolding words_of
-word_alone word is = rw (slice_split_none is_gap word (gap_free word is.whole), is.some) refl
+word_alone word is = search (rules, slice_split_none, gap_free)
 
 -- a word and what stands apart behind it
 words_apart : (word tail : List ℕ) → IsOneWord word → is_apart tail ≡ true → (rest : List (List ℕ)) × (words_of (word ++ tail) ≡ word ∷ rest)
-words_apart word [] is e = ([], ap words_of (append-nil word) ∙ word_alone word is)
+words_apart word [] is e = search (rules, word_alone)
 words_apart word (byte ∷ bytes) is e =
     (words_of bytes, ap (λ (b : ℕ). words_of (word ++ b ∷ bytes)) (eqb-true byte 32 e) ∙ words_behind word bytes is)
 
@@ -55,13 +55,13 @@ above_gaps byte le = search (rules)
 
 digits_no_gap : (xs : List ℕ) → all_ascii_digits xs ≡ true → no_gap xs ≡ true
 digits_no_gap [] e = refl
-digits_no_gap (x ∷ xs) e = search (rules, and_parts, and_from, (digits_no_gap xs))
+digits_no_gap (x ∷ xs) e = search (rules, and_from, (digits_no_gap xs))
 
 decimal_no_gap : (n : ℕ) → n < 2 ^ 64 → no_gap (decimal n) ≡ true
 decimal_no_gap n small = digits_no_gap (decimal n) (digits_decimal own n small)
 
 no_gap-append : (xs ys : List ℕ) → no_gap xs ≡ true → no_gap ys ≡ true → no_gap (xs ++ ys) ≡ true
-no_gap-append xs ys e f = list_all-append (λ byte. not (is_gap byte)) xs ys ∙ and_from _ _ e f
+no_gap-append xs ys e f = search (rules, list_all-append)
 
 is_word-append : (xs ys : List ℕ) → is_word ys ≡ true → is_word (xs ++ ys) ≡ true
 is_word-append [] ys e = e
@@ -91,7 +91,7 @@ event_back (first ∷ digits) = event_behind (first == 122) (first == 115) digit
 event_back-by : (event : ℕ) (zero odd : Bool) → event ≤ 512 → (event == 0) ≡ zero → (event % 2 == 1) ≡ odd
     → event_back (cond zero (codes "z") (cond odd (codes "s" ++ decimal (event / 2 + 1)) (codes "e" ++ decimal (event / 2)))) ≡ event
 unfolding event_back event_behind
-event_back-by event zero odd le e f = search (rules, eqb-true, digits_value-decimal, own)
+event_back-by event zero odd le e f = search (rules, digits_value-decimal, own)
 
 event_back-text : (event : ℕ) → event ≤ 512 → event_back (event_text event) ≡ event
 event_back-text event le = event_back-by event _ _ le refl refl
@@ -109,8 +109,7 @@ three_no_gap : (n : ℕ) → no_gap (three_digits n) ≡ true
 three_no_gap n = simp (and_from, digit_byte)
 
 sign_no_gap : (negative : Bool) → no_gap (sign_text negative) ≡ true
-sign_no_gap true = refl
-sign_no_gap false = refl
+sign_no_gap negative = search rules
 
 printed_word : (millis : ℤ) → unsigned_abs millis ≤ 31536000000 → IsOneWord (printed millis)
 unfolding printed
@@ -145,7 +144,7 @@ lower_back : (lo : ℤ) → IsWithinHorizon lo → side_read (neg_ℤ horizon) (
 lower_back lo within = search (rules, side_back-by)
 
 upper_back : (hi : ℤ) → IsWithinHorizon hi → side_read horizon (side_word (upper_text hi)) ≡ Ok hi
-upper_back hi within = side_back-by _ hi _ within (Decides-int_eq hi horizon).0
+upper_back hi within = search (rules, side_back-by)
 
 -- the words of a printed bound
 words_back : (bound : Difference) → IsReadable bound
@@ -177,7 +176,7 @@ reads_back text first tail bound is one apart whole =
     }
 
 id_word : (id : SiteCounter) → IsId id → IsOneWord (id_text id)
-id_word id is = search (rules, is_word-append, some_word, no_gap-append, decimal_no_gap)
+id_word id is = search (rules, is_word-append, no_gap-append, decimal_no_gap)
 
 name_word : (name : BoundName) → IsName name → IsOneWord (name_text name)
 name_word name is = grind (arith, common_steps, decimal_no_gap, id_word)
@@ -192,16 +191,13 @@ named_back name bound is readable = (
 )
 
 done_apart : (done : Bool) → is_apart (done_text done) ≡ true
-done_apart true = refl
-done_apart false = refl
+done_apart done = search rules
 
 amends_apart : (old : Option SiteCounter) → is_apart (amends_text old) ≡ true
-amends_apart None = refl
-amends_apart (Some old) = refl
+amends_apart old = search rules
 
 where_apart : (so : Bool) (word : List ℕ) → is_apart word ≡ true → is_apart (word_where so word) ≡ true
-where_apart true word e = e
-where_apart false word e = refl
+where_apart so word e = search rules
 
 -- what stands behind the bound of a record
 abbrev behind : Content → SiteCounter → Record → List ℕ
@@ -210,7 +206,7 @@ behind state id one =
     ++ (word_where (map.contains_key state.tombstones id) (codes " withdrawn") ++ word_where (is_amended state id) (codes " replaced")))
 
 behind_apart : (state : Content) (id : SiteCounter) (one : Record) → is_apart (behind state id one) ≡ true
-behind_apart state id one = search (rules, done_apart, amends_apart, where_apart)
+behind_apart state id one = search rules
 
 record_shape : (state : Content) (id : SiteCounter) (one : Record) (held : Option Record) → held ≡ Some one
     → id_text id ++ held_text held ++ amends_text (map.get state.replacements id)

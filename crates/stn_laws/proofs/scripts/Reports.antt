@@ -15,28 +15,27 @@ use Rattle.stn_exec.{specs.{Command.{Action, query, Command, sites_command, comm
 -- ---- what a command leaves is what its step leaves
 changing_run : (world : World) (site : ℕ) (read : Result Change Failure)
     → (changing world site read).world ≡ run world (option_to_list (option_map (changed site) (result_ok read)))
-changing_run world site (Ok asked) = refl
-changing_run world site (Err cause) = refl
+changing_run world site read = search rules
 
 sending_run : (world : World) (site : ℕ) (part : Content) (held : Bool) → IsAccepted world (sent site part)
     → (sending world site part held).world ≡ run world (option_to_list (sent_step world site part held))
 sending_run world site part held free = search rules
 
 there_run : (world : World) (site : ℕ) (action : Action) → HasSite world site → IsCoherent world → (action_effect world site action).world ≡ run world (option_to_list (action_step world site action))
-there_run world site action there coherent = search (rules, changing_run, sending_run, all_free, part_free)
+there_run world site action there coherent = search (rules, sending_run, all_free, part_free)
 
 -- at a site that is not there, each step is refused
 refused_run : (world : World) (step : Step) → step_refusal world step ≡ Some (refused code.NoSite) → run world (step ∷ []) ≡ world
-refused_run world step refused = ap (λ o. cond (is_some o) world (after world step)) refused
+refused_run world step refused = cc
 
 unsent_run : (world : World) (site : ℕ) (part : Content) (held : Bool) → ¬ HasSite world site → run world (option_to_list (sent_step world site part held)) ≡ world
 unsent_run world site part held missing = simp no_site
 
 missing_run : (world : World) (site : ℕ) (action : Action) → ¬ HasSite world site → run world (option_to_list (action_step world site action)) ≡ world
-missing_run world site action missing = search (rules, refused_run, no_site, unsent_run)
+missing_run world site action missing = search rules
 
 effect_run : (world : World) (site : ℕ) (action : Action) → IsCoherent world → (command_effect world (sites_command site action)).world ≡ run world (option_to_list (action_step world site action))
-effect_run world site action coherent = search (rules, there_run, missing_run, false≢true)
+effect_run world site action coherent = search (rules, there_run, false≢true)
 
 form_run : (number : ℕ) (world : World) (command : Option Command) → IsCoherent world → (form_effect number world command).world ≡ run world (option_to_list (option_and_then (command_step world) command))
 form_run number world command coherent = search (rules, effect_run)
@@ -68,7 +67,7 @@ lines_split : (number : ℕ) (world : World) (before rest : List (List ℕ))
     → (lines_outcome number world (before ++ rest)).replies
     ≡ (lines_outcome number world before).replies ++ (lines_outcome (number + length before) (lines_outcome number world before).world rest).replies
 unfolding lines_outcome
-lines_split number world [] rest = ap (λ (n : ℕ). (lines_outcome n world rest).replies) (omega arith)
+lines_split number world [] rest = search rules
 lines_split number world (line ∷ before) rest =
     let first = line_outcome number world (words_of line) in
     search (rules, append_assoc, (lines_split (number + 1) first.world before rest))

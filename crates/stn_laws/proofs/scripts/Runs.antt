@@ -10,8 +10,7 @@ part-nil : (a : Option (List ℕ)) (replies : List CommandReply) → WritesOutpu
 part-nil a replies = search (rules)
 
 IfSome-all : {X : Type 0} (o : Option X) (P : X → Type 0) → ((x : X) → P x) → IfSome o P
-IfSome-all None P each = tt
-IfSome-all (Some x) P each = each x
+IfSome-all o P each = search rules
 
 -- the script is the whole input
 whole : (input rest : Option (List ℕ)) (script : List ℕ) → Consumes input rest script → IsAtEnd rest → IfSome input (λ bytes. bytes ≡ script)
@@ -23,19 +22,19 @@ same_err failure other is = cc
 -- a script was read, and then run
 module _ (old between new : Streams) (script : List ℕ) (read : OnInput ReadsScript old between (Ok script)) where
   all_read : new.unread ≡ between.unread → ReadsScript old.unread new.unread (Ok script)
-  all_read same = subst (λ (input : Device). ReadsScript old.unread input (Ok script)) (sym same) read.0
+  all_read same = search rules
 
   all_run : (ended : Result Ran Failure) → OnOutput (PrintsReplies (script_outcome script)) between new ended → PrintsReplies (script_outcome script) old.out new.out ended
   all_run ended run = search rules
 
 pub done : (old new : Streams) (ran : Ran) → RunsScript old new (Ok ran)
     → (script : List ℕ) × ReadsScript old.unread new.unread (Ok script) × PrintsReplies (script_outcome script) old.out new.out (Ok ran)
-done old new ran p = search (rules, not_err, all_run)
+done old new ran p = search (rules, all_run)
 
 pub ends : (old new : Streams) (failure : Failure) → RunsScript old new (Err failure)
     → (ReadsScript old.unread new.unread (Err failure) × (new.out ≡ old.out))
     ⊎ ((script : List ℕ) × ReadsScript old.unread new.unread (Ok script) × PrintsReplies (script_outcome script) old.out new.out (Err failure))
-ends old new failure p = search (rules, all_read, all_run)
+ends old new failure p = search (rules, all_run)
 
 -- a front part of the output is written
 abbrev pub LeavesPart : Streams → Streams → Type 0
@@ -43,20 +42,7 @@ LeavesPart old new = IfSome old.unread.bytes (λ script. WritesOutputPart old.ou
     × ((script : List ℕ) × WritesOutputPart old.out.bytes new.out.bytes (script_outcome script).replies)
 
 pub part : (old new : Streams) (failure : Failure) → RunsScript old new (Err failure) → LeavesPart old new
-part old new failure run = by (ends old new _ run)
-  where
-    none : new.out ≡ old.out → (script : List ℕ) → WritesOutputPart old.out.bytes new.out.bytes (script_outcome script).replies
-    none same script = subst (λ (out : Device). WritesOutputPart old.out.bytes out.bytes (script_outcome script).replies) (sym same) (part-nil _ _)
-
-    known : (input : Option (List ℕ)) (script : List ℕ) → IfSome input (λ text. text ≡ script) → WritesOutputPart old.out.bytes new.out.bytes (script_outcome script).replies
-        → IfSome input (λ text. WritesOutputPart old.out.bytes new.out.bytes (script_outcome text).replies)
-    known None script same is = tt
-    known (Some text) script same is = subst (λ t. WritesOutputPart old.out.bytes new.out.bytes (script_outcome t).replies) (sym same) is
-
-    by : (ReadsScript old.unread new.unread (Err failure) × (new.out ≡ old.out))
-        ⊎ ((script : List ℕ) × ReadsScript old.unread new.unread (Ok script) × PrintsReplies (script_outcome script) old.out new.out (Err failure)) → LeavesPart old new
-    by (inl read) = (IfSome-all _ _ (none read.1), ([], none read.1 []))
-    by (inr run) = (known old.unread.bytes run.0 (whole _ _ run.0 run.1.0 run.1.1) run.2.0, (run.0, run.2.0))
+part old new failure run = search rules
 
 pub used : (old new : Streams) (ended : Result Ran Failure) → RunsScript old new ended → ConsumesAtMost old.unread.bytes new.unread.bytes (most_bytes + 1)
 used old new ended p = search (rules)

@@ -30,7 +30,7 @@ pub record HasOutput (replies : List CommandReply) : Type 0 where
   pub refusals : CountsRefusals replies count
 
 no_replies : HasOutput []
-no_replies = record { text = []; output = refl; count = 0; refusals = refl }
+no_replies = search rules
 
 one_reply : (reply : CommandReply) → IsAnsweredOrRefused reply → HasOutput (reply ∷ [])
 one_reply reply (inl (text, is)) = record {
@@ -78,12 +78,12 @@ module _ (known : HasAnswers) (world : World) (coherent : IsCoherent world) (sou
   sending_answered site part held = search (rules, answered_or_refused, send_fits)
 
   action_answered : (site : ℕ) (action : Action) → IsReadOrRefused action → IsAnsweredOrRefused (action_effect world site action).reply
-  action_answered site (change (Ok made)) one = step_answered (changed site made) (answer.Changed (made_by made (next_id_at world site)))
+  action_answered site (change (Ok made)) one = search (rules, step_answered)
   action_answered site (change (Err cause)) one = declined_refused cause one
-  action_answered site (merge other) one = step_answered (merged site other) answer.Merged
-  action_answered site send_all one = sending_answered site (content_at world site) true
+  action_answered site (merge other) one = search (rules, step_answered)
+  action_answered site send_all one = search (rules, sending_answered)
   action_answered site (send records tombstones) one = search (rules, sending_answered)
-  action_answered site (deliver packet) one = step_answered (delivered site packet) answer.Delivered
+  action_answered site (deliver packet) one = search (rules, step_answered)
   action_answered site (query (Ok asked)) one = told_or_refused site asked
   action_answered site (query (Err cause)) one = declined_refused cause one
 

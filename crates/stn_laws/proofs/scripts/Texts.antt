@@ -7,20 +7,18 @@ use Rattle.stn_laws.proofs.scripts.Causes.{HasRefusal}
 
 bind_fits : {X Y F : Type 0} (Fits : F → Type 0) (first : Result X F) (rest : X → Result Y F) → IfErr first Fits → ((value : X) → IfErr (rest value) Fits)
     → IfErr (first >>= rest) Fits
-bind_fits Fits (Ok value) rest one others = others value
-bind_fits Fits (Err fault) rest one others = one
+bind_fits Fits first rest one others = search rules
 
 -- ---- a domain
 abbrev OfDomain : DomainFault → Type 0
 OfDomain fault = HasRefusal (domain_failure fault)
 
 forms_fit : (read : Result (List ActionSchema) DomainFault) → OfForms (AllByRecursion IsSound) read → IfErr read OfDomain
-forms_fit (Ok actions) is = tt
-forms_fit (Err fault) is = grind (arith)
+forms_fit read is = search rules
 
 root_fits : (line : ℕ) (children : Trees) → IfErr (root line children) OfDomain
 unfolding root
-root_fits line children = grind (arith, forms_fit, all_parts_given)
+root_fits line children = grind (arith, all_parts_given)
 
 bytes_fit : (read : Result Trees TreeFault) → IfErr (domain_of_bytes read) OfDomain
 unfolding domain_of_tree

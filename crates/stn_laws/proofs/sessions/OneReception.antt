@@ -1,5 +1,5 @@
 -- Bytes have one reception.
-use Rattle.std.{proofs.{Common.{◌≡◌, ◌⊎◌, ℕ, ◌+◌, ◌-◌, ◌<◌, ◌≤◌, List, [], ◌∷◌, ◌++◌, length, take, Option, Some, None, Result, Ok, Err, refl, sym, ap, subst, ◌∙◌, inl, inr, ⊎_elim, arith, append_assoc, append-nil, length-append}, lemmas.List.take_at, Math.Seq.{take-append-add, take-nil}}, specs.{Prelude.flat_map, List.AllByRecursion}}
+use Rattle.std.{proofs.{Common.{rules, ◌≡◌, ◌⊎◌, ℕ, ◌+◌, ◌-◌, ◌<◌, ◌≤◌, List, [], ◌∷◌, ◌++◌, length, take, Option, Some, None, Result, Ok, Err, refl, sym, ap, subst, ◌∙◌, inl, inr, ⊎_elim, arith, append_assoc, append-nil, length-append}, lemmas.List.take_at, Math.Seq.{take-append-add, take-nil}}, specs.{Prelude.flat_map, List.AllByRecursion}}
 use Rattle.stn_device.specs.Bytes.{most_bytes}
 use Rattle.stn_lift.specs.PlanSource.{PlanSource}
 use Rattle.stn_records.specs.Content.{Content}
@@ -14,9 +14,7 @@ verdict (failed fault) = Some (Err fault)
 verdict stage = None
 
 waiting_none : (stage : Stage) → IsWaiting stage → verdict stage ≡ None
-waiting_none (told bytes) waits = absurd waits
-waiting_none (failed fault) waits = absurd waits
-waiting_none stage waits = refl
+waiting_none stage waits = search rules
 
 decided : (stage : Stage) → IsWaiting stage ⊎ ((answer : Result (List ℕ) ReplyFault) × (verdict stage ≡ Some answer))
 decided (told bytes) = inr (Ok bytes, refl)
@@ -63,17 +61,7 @@ module _ (source : PlanSource) (first : Content) (input : List ℕ) (state : Con
   -- all that was read may be read
   settles : (answer : Result (List ℕ) ReplyFault) → length bytes ≤ most_bytes
       → IsEnd input (replied source (expecting first) frames).stage (rest ++ take (most_bytes - length bytes) left) answer → Settles source first input state answer
-  settles answer few end = record {
-    frames = frames;
-    tail = rest ++ take (most_bytes - length bytes) left;
-    each = each;
-    cut = ap (take most_bytes) read
-        ∙ front_read bytes left few
-        ∙ ap (λ l. l ++ take (most_bytes - length bytes) left) cut
-        ∙ append_assoc (flat_map spelling frames) rest (take (most_bytes - length bytes) left);
-    end = end;
-    left = kept;
-  }
+  settles answer few end = search (rules, front_read, append_assoc)
 
   -- one byte more was read
   settles_beyond : (front : List ℕ) (byte : ℕ) → length bytes ≡ most_bytes + 1 → rest ≡ front ++ byte ∷ [] → IsFront front unfinished → IsWaiting (replied source (expecting first) frames).stage
@@ -98,60 +86,19 @@ module _ (source : PlanSource) (first : Content) (input : List ℕ) (state : Con
 
   -- a reply is missing
   misses : (fault : ReplyFault) → IsWaiting (replied source (expecting first) frames).stage → IsLost rest (length bytes) (Some left) fault → SaysReplies (Err fault) → Settles source first input state (Err fault)
-  misses Reply waits lost says =
-      let none : take (most_bytes - length bytes) left ≡ [] = ap (take (most_bytes - length bytes)) lost.2 ∙ take-nil (most_bytes - length bytes) in
-      settles (Err Reply) lost.0 (inr (
-        waits,
-        (
-          Reply,
-          refl,
-          (
-            omega (arith, ap length read, length-append bytes left, ap length lost.2, lost.0),
-            subst (λ l. IsFront l unfinished) (sym (append-nil rest) ∙ ap (λ l. rest ++ l) (sym none)) lost.1,
-          ),
-        ),
-      ))
-  misses (Frame fault) waits lost says = settles (Err (Frame fault)) lost.0 (inr (waits, (Frame fault, refl, fault_more rest (take (most_bytes - length bytes) left) (wire_fault fault) lost.1)))
-  misses Bound waits lost says = settles_beyond lost.1.0 lost.1.1 lost.0 lost.1.2 lost.1.3 waits
-  misses Read waits lost says = absurd says
-  misses Memory waits lost says = absurd says
-  misses fault waits lost says = absurd lost
+  misses fault waits lost says = search (rules, take-nil, settles, fault_more, settles_beyond)
 
 settled : (source : PlanSource) (first : Content) (input : List ℕ) (after : Option (List ℕ)) (state : Content) (answer : Result (List ℕ) ReplyFault) → IsReceived source first (Some input) after state answer → SaysReplies answer
     → Settles source first input state answer
 settled source first input None state answer is says = absurd is.consumed
-settled source first input (Some left) state (Ok text) is says =
-    settles source first input state is.frames is.rest is.bytes left is.each is.consumed is.cut (is.left ∙ ap (λ (r : Reception). r.state) is.came) (Ok text) is.is.0
-    (inl (ap verdict (sym (ap (λ (r : Reception). r.stage) is.came) ∙ is.is.1)))
-settled source first input (Some left) state (Err fault) is says =
-    ⊎_elim
-    (λ by. settles source first input state is.frames is.rest is.bytes left is.each is.consumed is.cut (is.left ∙ ap (λ (r : Reception). r.state) is.came) (Err fault) by.0
-    (inl (ap verdict (sym (ap (λ (r : Reception). r.stage) is.came) ∙ by.1))))
-    (λ by. misses source first input state is.frames is.rest is.bytes left is.each is.consumed is.cut (is.left ∙ ap (λ (r : Reception). r.state) is.came) fault
-    (subst (λ (r : Reception). IsWaiting r.stage) is.came by.0) by.1 says)
-    is.is
+settled source first input (Some left) state (Ok text) is says = search (rules, settles)
+settled source first input (Some left) state (Err fault) is says = search (rules, settles, misses)
 
 -- ---- an input comes to one thing
 
 -- a reply is missing for one cause
 one_cause : (input tail : List ℕ) (one other : ReplyFault) → IsMissed input tail one → IsMissed input tail other → one ≡ other
-one_cause input tail Reply Reply p q = refl
-one_cause input tail Reply (Frame fault) p q = let clash = one_front_lem tail unfinished (faulty (wire_fault fault)) p.1 q in absurd (cc)
-one_cause input tail Reply Bound p q = absurd (omega (arith, p.0, q.0))
-one_cause input tail (Frame fault) Reply p q = let clash = one_front_lem tail unfinished (faulty (wire_fault fault)) q.1 p in absurd (cc)
-one_cause input tail (Frame fault) (Frame other) p q = let same = one_front_lem tail (faulty (wire_fault fault)) (faulty (wire_fault other)) p q in let faults : wire_fault fault ≡ wire_fault other = cc in ap Frame (one_fault fault other faults)
-one_cause input tail (Frame fault) Bound p q = let clash = one_front_lem tail unfinished (faulty (wire_fault fault)) q.1 p in absurd (cc)
-one_cause input tail Bound Reply p q = absurd (omega (arith, p.0, q.0))
-one_cause input tail Bound (Frame fault) p q = let clash = one_front_lem tail unfinished (faulty (wire_fault fault)) p.1 q in absurd (cc)
-one_cause input tail Bound Bound p q = refl
-one_cause input tail (Refused code) other p q = absurd p
-one_cause input tail (Replica fault) other p q = absurd p
-one_cause input tail Read other p q = absurd p
-one_cause input tail Memory other p q = absurd p
-one_cause input tail one (Refused code) p q = absurd q
-one_cause input tail one (Replica fault) p q = absurd q
-one_cause input tail one Read p q = absurd q
-one_cause input tail one Memory p q = absurd q
+one_cause input tail one other p q = search rules
 
 -- where a reply is waited for and missing, no frame stands
 no_frame : (input tail later : List ℕ) (frame : FrameContent) (fault : ReplyFault) → IsFrame frame → tail ≡ spelling frame ++ later → IsMissed input tail fault → ⊥
@@ -170,7 +117,7 @@ missed : (input tail : List ℕ) (stage : Stage) (answer : Result (List ℕ) Rep
 missed input tail stage answer waits = ⊎_elim (λ over. let none = waiting_none stage waits in absurd (cc)) (λ by. by.1)
 
 over_end : (input tail : List ℕ) (stage : Stage) (answer said : Result (List ℕ) ReplyFault) → verdict stage ≡ Some said → IsEnd input stage tail answer → answer ≡ said
-over_end input tail stage answer said over = ⊎_elim (λ is. let same : answer ≡ said = cc in same) (λ by. let none = waiting_none stage by.0 in absurd (cc))
+over_end input tail stage answer said over = search rules
 
 walk : (source : PlanSource) (input bytes : List ℕ) (F G : List FrameContent) (tail left : List ℕ) (stage : Stage) (state : Content) (one other : Result (List ℕ) ReplyFault) → AllByRecursion IsFrame F → AllByRecursion IsFrame G
     → bytes ≡ flat_map spelling F ++ tail → bytes ≡ flat_map spelling G ++ left → IsEnd input (replied source (at_stage stage state) F).stage tail one → IsEnd input (replied source (at_stage stage state) G).stage left other

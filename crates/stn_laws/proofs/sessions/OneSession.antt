@@ -1,5 +1,5 @@
 -- Bytes have one session.
-use Rattle.std.{proofs.Common.{◌≡◌, ℕ, cond, List, [], ◌∷◌, ◌++◌, length, Option, Some, None, refl, sym, ap, subst, ◌∙◌, inl, ⊎_elim, arith, append_assoc, length-append}, specs.{Prelude.{flat_map, is_some}, List.AllByRecursion}}
+use Rattle.std.{proofs.Common.{rules, ◌≡◌, ℕ, cond, List, [], ◌∷◌, ◌++◌, length, Option, Some, None, refl, sym, ap, subst, ◌∙◌, inl, ⊎_elim, arith, append_assoc, length-append}, specs.{Prelude.{flat_map, is_some}, List.AllByRecursion}}
 use Rattle.stn_wire.{specs.{Frame.{FrameContent, spelling, IsFrame}, Front.{whole, faulty, unfinished, IsFront}, Stream.{wire_fault, frame_code}}, proofs.Streams.{one_fault, spelling_some}}
 use Rattle.stn_laws.proofs.frames.Fronts.{one_front_lem, one_spelling_lem, whole_in_front}
 use Rattle.stn_session.specs.{Session.{Session, answer, followed, advanced, talked, broken_off}, Serving.{EndsSession, IsSession}, declared.session.End.{End, TheVariants.{Closed, Cut, Refused}}}
@@ -11,16 +11,12 @@ stays first code e (frame ∷ frames) =
     ap (λ s. talked s frames) (ap (λ o. cond (is_some o) first (followed first (answer first.source first.state first.greeted frame))) e) ∙ stays first code e frames
 
 ends_ended : (s : Session) (rest : List ℕ) (end : End) (last : Session) (code : ℕ) → s.ended ≡ Some code → EndsSession s rest end last → (end ≡ Refused code) × (last ≡ s)
-ends_ended s rest Closed last code e h = let none = h.0 in absurd (cc)
-ends_ended s rest Cut last code e h = let none = h.0 in absurd (cc)
-ends_ended s rest (Refused other) last code e h =
-    ⊎_elim (λ by. let some = by.0 in let same : other ≡ code = cc in (ap Refused same, by.1)) (λ by. let none = by.1 in absurd (cc)) h
+ends_ended s rest end last code e h = search rules
 
 -- no frame stands where a session ends without a reply
 no_frame : (s : Session) (rest later : List ℕ) (frame : FrameContent) (end : End) (last : Session) → s.ended ≡ None → IsFrame frame → rest ≡ spelling frame ++ later → EndsSession s rest end last → ⊥
-no_frame s rest later frame Closed last on is front h = omega (arith, ap length front, ap length h.1, length-append (spelling frame) later, spelling_some frame)
-no_frame s rest later frame Cut last on is front h =
-    let clash = one_front_lem rest unfinished (whole frame (length (spelling frame))) h.2 (whole_in_front frame rest later is front) in absurd (cc)
+no_frame s rest later frame Closed last on is front h = search (rules, spelling_some)
+no_frame s rest later frame Cut last on is front h = search (rules, whole_in_front)
 no_frame s rest later frame (Refused code) last on is front h =
     ⊎_elim (λ by. let some = by.0 in absurd (cc))
     (λ by. let clash = one_front_lem rest (faulty (wire_fault by.0)) (whole frame (length (spelling frame))) by.2 (whole_in_front frame rest later is front) in absurd (cc)) h
@@ -29,26 +25,7 @@ nothing_unfinished : (rest : List ℕ) → rest ≡ [] → IsFront rest unfinish
 nothing_unfinished rest none = inl (omega (arith, ap length none))
 
 same_end : (s : Session) (rest : List ℕ) (one other : End) (last final : Session) → s.ended ≡ None → EndsSession s rest one last → EndsSession s rest other final → (one ≡ other) × (last ≡ final)
-same_end s rest Closed Closed last final on p q = (refl, p.2 ∙ sym q.2)
-same_end s rest Closed Cut last final on p q = absurd (omega (arith, ap length p.1, q.1))
-same_end s rest Closed (Refused code) last final on p q =
-    ⊎_elim (λ by. let some = by.0 in absurd (cc)) (λ by. let clash = one_front_lem rest unfinished (faulty (wire_fault by.0)) (nothing_unfinished rest p.1) by.2 in absurd (cc)) q
-same_end s rest Cut Closed last final on p q = absurd (omega (arith, ap length q.1, p.1))
-same_end s rest Cut Cut last final on p q = (refl, p.3 ∙ sym q.3)
-same_end s rest Cut (Refused code) last final on p q =
-    ⊎_elim (λ by. let some = by.0 in absurd (cc)) (λ by. let clash = one_front_lem rest unfinished (faulty (wire_fault by.0)) p.2 by.2 in absurd (cc)) q
-same_end s rest (Refused code) Closed last final on p q =
-    ⊎_elim (λ by. let some = by.0 in absurd (cc)) (λ by. let clash = one_front_lem rest unfinished (faulty (wire_fault by.0)) (nothing_unfinished rest q.1) by.2 in absurd (cc)) p
-same_end s rest (Refused code) Cut last final on p q =
-    ⊎_elim (λ by. let some = by.0 in absurd (cc)) (λ by. let clash = one_front_lem rest unfinished (faulty (wire_fault by.0)) q.2 by.2 in absurd (cc)) p
-same_end s rest (Refused code) (Refused other) last final on p q =
-    ⊎_elim (λ by. let some = by.0 in absurd (cc))
-    (λ a. ⊎_elim (λ by. let some = by.0 in absurd (cc))
-    (λ b.
-    let fronts = one_front_lem rest (faulty (wire_fault a.0)) (faulty (wire_fault b.0)) a.2 b.2 in
-    let faults : wire_fault a.0 ≡ wire_fault b.0 = cc in
-    let codes : code ≡ other = a.3 ∙ (ap frame_code (one_fault a.0 b.0 faults) ∙ sym b.3) in
-    (ap Refused codes, a.4 ∙ (ap (broken_off s) codes ∙ sym b.4))) q) p
+same_end s rest one other last final on p q = search rules
 
 walk : (F G : List FrameContent) (first : Session) (bytes rest left : List ℕ) → AllByRecursion IsFrame F → AllByRecursion IsFrame G → bytes ≡ flat_map spelling F ++ rest → bytes ≡ flat_map spelling G ++ left
     → (one other : End) (last final : Session) → EndsSession (talked first F) rest one last → EndsSession (talked first G) left other final → (o : Option ℕ) → first.ended ≡ o → (one ≡ other) × (last ≡ final)

@@ -1,5 +1,5 @@
 -- Bytes that are cut into frames and a rest have a reception.
-use Rattle.std.{proofs.Common.{◌≡◌, ℕ, ◌+◌, ◌≤◌, List, [], ◌∷◌, ◌++◌, length, take, drop, Option, Some, None, Result, Ok, Err, inl, inr, refl, sym, ap, subst, ◌∙◌, arith, append_assoc, length-append, length-drop, length-take, take-append-drop}, specs.Prelude.{⊤, flat_map}}
+use Rattle.std.{proofs.Common.{rules, ◌≡◌, ℕ, ◌+◌, ◌≤◌, List, [], ◌∷◌, ◌++◌, length, take, drop, Option, Some, None, Result, Ok, Err, inl, inr, refl, sym, ap, subst, ◌∙◌, arith, append_assoc, length-append, length-drop, length-take, take-append-drop}, specs.Prelude.{⊤, flat_map}}
 use Rattle.stn_device.specs.Bytes.{most_bytes}
 use Rattle.stn_lift.specs.PlanSource.{PlanSource}
 use Rattle.stn_records.specs.Content.{Content}
@@ -17,24 +17,20 @@ IsOfReplies (told bytes) = ⊤
 IsOfReplies (failed fault) = SaysReplies (Err fault)
 
 of_unexpected : (frame : FrameContent) → SaysReplies (Err (unexpected frame))
-of_unexpected (refused code) = tt
-of_unexpected frame = tt
+of_unexpected frame = search rules
 
 of_greeting : (state : Content) (frame : FrameContent) → IsOfReplies (greeted_by state frame).stage
 of_greeting state same = tt
 of_greeting state frame = of_unexpected frame
 
 of_received : (state theirs : Content) (found : Option ReplicaFault) → IsOfReplies (received state theirs found).stage
-of_received state theirs None = tt
-of_received state theirs (Some fault) = tt
+of_received state theirs found = search rules
 
 of_handing : (source : PlanSource) (state : Content) (frame : FrameContent) → IsOfReplies (handed source state frame).stage
-of_handing source state (records theirs) = of_received state theirs (take_refusal (holding_state source state) theirs)
-of_handing source state frame = of_unexpected frame
+of_handing source state frame = search rules
 
 of_telling : (state : Content) (frame : FrameContent) → IsOfReplies (reception_of state frame).stage
-of_telling state (text bytes) = tt
-of_telling state frame = of_unexpected frame
+of_telling state frame = search rules
 
 of_stage : (source : PlanSource) (stage : Stage) (state : Content) (frame : FrameContent) → IsOfReplies stage → IsOfReplies (staged source stage state frame).stage
 of_stage source greeting state frame is = of_greeting state frame

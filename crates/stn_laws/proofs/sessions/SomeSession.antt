@@ -1,5 +1,5 @@
 -- Bytes that are cut into frames and a rest have a session.
-use Rattle.std.proofs.Common.{◌≡◌, ℕ, List, [], ◌∷◌, Option, Some, None, inl, inr, refl, arith}
+use Rattle.std.proofs.Common.{rules, ◌≡◌, ℕ, List, [], ◌∷◌, Option, Some, None, inl, inr, refl, arith}
 use Rattle.stn_wire.specs.{Frame.FrameContent, Front.{faulty, IsFront}, declared.{fault.WireFault.WireFault, stream.fault.FrameFault.FrameFault}, Stream.{wire_fault, frame_code}}
 use Rattle.stn_laws.proofs.frames.{Fronts.ShowsNone, Cuts.IsCut}
 use Rattle.stn_wire.specs.declared.fault.WireFault.TheVariants as wire
@@ -8,11 +8,7 @@ use Rattle.stn_session.specs.{Session.{Session, talked, broken_off}, Serving.{En
 
 -- a fault that bytes show is one of a frame
 pub of_frame : (rest : List ℕ) (fault : WireFault) → IsFront rest (faulty fault) → (one : FrameFault) × IsFront rest (faulty (wire_fault one))
-of_frame rest wire.Length is = (frame.Length, is)
-of_frame rest wire.Kind is = (frame.Kind, is)
-of_frame rest wire.Body is = (frame.Body, is)
-of_frame rest wire.OldFrame is = absurd is
-of_frame rest wire.Memory is = absurd is
+of_frame rest fault is = search rules
 
 ending : (session : Session) (ended : Option ℕ) → session.ended ≡ ended → (rest : List ℕ) → ShowsNone rest → (end : End) × (last : Session) × EndsSession session rest end last
 ending session (Some code) is rest shows = (Refused code, session, inl (is, refl))

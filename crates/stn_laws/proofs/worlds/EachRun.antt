@@ -22,8 +22,7 @@ module _ (world : World) (items : List Making) (now : IsLawful world items) wher
       ∙ ap (λ b. then_some b Full) (not_full most_known (known_in_either (content_at world site) other) (omega (arith, known, few)))
 
   pub delivery_accepted : records_made items ≤ most_known → (site number : ℕ) → HasSite world site → HasPacket world number → IsAccepted world (delivered site number)
-  delivery_accepted few site number there packet_there =
-      delivery_refusal world site number there packet_there ∙ ap (option_map replica_failure) (has_room site (packet_at world number) few (now.whole.packets number))
+  delivery_accepted few site number there packet_there = search (rules, has_room)
 
   pub merge_accepted : records_made items ≤ most_known → (site other : ℕ) → HasSite world site → HasSite world other → IsAccepted world (merged site other)
   merge_accepted few site other there other_there = search (rules, has_room)
@@ -42,11 +41,10 @@ module _ (world : World) (items : List Making) (now : IsLawful world items) wher
 
   -- ---- withdrawals
   and_false : (a : Bool) → (a && false) ≡ false
-  and_false true = refl
-  and_false false = refl
+  and_false a = search rules
 
   never_live : (content : Content) (id : SiteCounter) → is_replaced content id ≡ true → is_live content id ≡ false
-  never_live content id gone = ap (λ b. fin.contains_key content.additions id && not b) gone ∙ and_false (fin.contains_key content.additions id)
+  never_live content id gone = search rules
 
   pub withdrawn_stays : (step : Step) (site : ℕ) (id : SiteCounter) → IsAccepted world step → Replaces (Brings world step site) id → (rest : List Step)
       → is_live (content_at (run (stepped world step) rest) site) id ≡ false

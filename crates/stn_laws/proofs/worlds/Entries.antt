@@ -1,5 +1,5 @@
 -- Amendments are whole: whoever has a record has the entry by which it replaces another.
-use Rattle.std.{proofs.{Common.{◌≡◌, ◌↔◌, ◌⊎◌, inl, inr, ⊎_elim, ℕ, suc, ◌-◌, cond, is_some, Option, Some, None, List, [], ◌∷◌, get_or, refl, ap, sym, subst, ◌∙◌, arith}, lemmas.{Bool.false≢true, List.{get_or_default, Elements.Contains-append_cases}}}, specs.List.Contains}
+use Rattle.std.{proofs.{Common.{rules, ◌≡◌, ◌↔◌, ◌⊎◌, inl, inr, ⊎_elim, ℕ, suc, ◌-◌, cond, is_some, Option, Some, None, List, [], ◌∷◌, get_or, refl, ap, sym, subst, ◌∙◌, arith}, lemmas.{Bool.false≢true, List.{get_or_default, Elements.Contains-append_cases}}}, specs.List.Contains}
 use Rattle.stn_lift.specs.PlanSource.{PlanSource}
 use Rattle.stn_records.{specs.{Id.SiteCounter, declared.record.Record.Record, Content.{Content, Item, addition, replacement, HasItem, no_content, plain, joined_contents, IsPart}}}
 use Rattle.stn_site.{specs.{Calls.Brought, Change.change_call, declared.change.Change.Change}, proofs.Items.nothing_there}
@@ -21,10 +21,10 @@ pub record IsEntire (world : World) : Type 0 where
 module _ (world : World) (all : Content) (whole : IsWhole world all) (now : IsEntire world) where
   -- a site's next id has no record and no entry
   no_record : (site : ℕ) (one : Record) → ¬ HasItem all (addition (next_id_at world site) one)
-  no_record site one there = false≢true (sym (next_unknown world all site whole) ∙ items_known all (next_id_at world site) one there)
+  no_record site one there = search (rules, next_unknown, items_known)
 
   no_entry : (site : ℕ) (old : SiteCounter) → ¬ HasItem all (replacement (next_id_at world site) old)
-  no_entry site old there = let is = whole.amends (next_id_at world site) old there in no_record site (plain is.added.0) is.added.1
+  no_entry site old there = search (rules, no_record)
 
   -- a site holds new items: each entry among them its own site has, or it is of the site's next id; and each record comes with its entry
   grown_entire : (site : ℕ) (content : Content) (New : Item → Type 0) → HasSite world site
@@ -102,7 +102,7 @@ module _ (world : World) (all : Content) (whole : IsWhole world all) (now : IsEn
   }
 
   entire_after : (step : Step) → IsAccepted world step → IsEntire (after world step)
-  entire_after (changed site asked) accepted = changed_entire site asked (accepted_change world site asked accepted).0
+  entire_after (changed site asked) accepted = search (rules, changed_entire, accepted_change)
   entire_after (merged site other) accepted = joined_entire site (content_at world other) (accepted_merge world site other accepted).0 (whole.sites other) (now.sites_own other) (now.sites other)
   entire_after (sent site part) accepted = sent_entire site part (accepted_sending world site part accepted).1
   entire_after (delivered site number) accepted = joined_entire site (packet_at world number) (accepted_delivery world site number accepted).0 (whole.packets number) (now.packets_own number) (now.packets number)

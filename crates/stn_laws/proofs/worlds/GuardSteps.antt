@@ -13,7 +13,7 @@ each_added : (records : List (SiteCounter × Difference)) (world : World) (site 
     → AllLeave old (map (λ (one : SiteCounter × Difference). added_call one.0 (plain one.1)) records) new
     → AllAccepted world (map (adds_bound site) (map (λ (one : SiteCounter × Difference). one.1) records))
     → content_at (run world (map (adds_bound site) (map (λ (one : SiteCounter × Difference). one.1) records))) site ≡ new.state
-each_added [] world site old new there own same leave accepted = sym same ∙ ap (λ (held : Held). held.state) (sym leave)
+each_added [] world site old new there own same leave accepted = cc
 each_added (one ∷ records) world site old new there own same (next, leaves, later) accepted =
     let made : World = with_call world site (added_call (next_id_at world site) (plain one.1)) in
     let step : Step = adds_bound site one.1 in
@@ -31,8 +31,7 @@ guard_steps world site there owned ids new adds accepted = search (rules, each_a
 
 -- all bounds of a site begin with the horizon bounds
 begins : (source : PlanSource) (live : List Difference) → IsSoundSource source → take (events_of source) (base_bounds source ++ live) ≡ horizon_bounds (events_of source)
-begins source live sound =
-    take-append-le (events_of source) (base_bounds source) live (horizon_within source sound) ∙ sound.horizon
+begins source live sound = search (rules, take-append-le, horizon_within)
 
 pub guarded_world : (now : World) → IsCoherent now → IsSoundSource now.source → (site : ℕ) (owned : List OwnedSteps) (ids : List SiteCounter) (new : Held)
     → AddsGuard owned (held_at now site) ids new → (world : World) → world.source ≡ now.source → HoldsAlone new.state world → HoldsGuarded (owner_by site owned) new.state world

@@ -12,13 +12,11 @@ use Rattle.stn_laws.{specs.Guarded.{IsOwnItem, IsBesideOwn, HoldsGuarded, KeepsT
 -- ---- what each step keeps
 module _ (owner : ℕ → ℕ) (state : Content) where
   still_own : (world next : World) → ((site : ℕ) → HasSite world site → HasSite next site) → (item : Item) → IsOwnItem owner world item → IsOwnItem owner next item
-  still_own world next stays (addition id one) own = (stays id.site own.0, own.1)
-  still_own world next stays (withdrawal id) own = own
-  still_own world next stays (replacement id old) own = own
+  still_own world next stays item own = search rules
 
   beside_after : (world next : World) → ((site : ℕ) → HasSite world site → HasSite next site) → (content : Content)
       → IsBesideOwn owner world state content → IsBesideOwn owner next state content
-  beside_after world next stays content beside item there = ⊎_elim inl (λ own. inr (still_own world next stays item own)) (beside item there)
+  beside_after world next stays content beside item there = search rules
 
   module _ (world : World) (holds : HoldsGuarded owner state world) where
     set_guarded : (at : ℕ) (content : Content) → IsPart (content_at world at) content → IsBesideOwn owner world state content
@@ -82,7 +80,7 @@ module _ (owner : ℕ → ℕ) (state : Content) where
 
 -- ---- a record that is there is live where its id is not replaced
 unreplaced : (content : Content) (id : SiteCounter) → is_live content id ≡ true → is_replaced content id ≡ false
-unreplaced content id live = not-true (is_replaced content id) (and_parts (is_some _) (not (is_replaced content id)) live).1
+unreplaced content id live = search rules
 
 -- ---- all that the sites hold together
 module _ (owner : ℕ → ℕ) (state : Content) (world : World) (coherent : IsCoherent world) (holds : HoldsGuarded owner state world) where

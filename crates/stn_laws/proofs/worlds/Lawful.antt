@@ -1,4 +1,5 @@
 -- What is true of a world in its run: its sites and packets are parts of the whole of what was made.
+use Rattle.std.proofs.lemmas.Grind.{common_steps}
 use Rattle.std.{proofs.{Common.{rules, ◌≡◌, ◌↔◌, ◌⊎◌, inl, inr, ⊎_elim, ℕ, zero, suc, ◌≤◌, ◌||◌, true, cond, is_some, Option, Some, None, List, [], ◌∷◌, ◌++◌, length, map, filter, is_eq, refl, ap, sym, subst, ◌∙◌, arith}, lemmas.{List.{append-nil, append_assoc, Folds.list_any-append, Elements.{Contains-append_left, Contains-append_right, Contains-append_cases, Contains-push_cases}}, Map.Made.distinct_count-le, Bool.{or_right, or_cases}}}, specs.{List.Contains, Set.is_member, Cmp.tied_itself}}
 use Rattle.stn_lift.specs.PlanSource.{PlanSource}
 use Rattle.stn_records.{specs.{Id.{SiteCounter, same_ids}, declared.record.Record.Record, ContentLaws.ids_total, Content.{Content, Item, addition, withdrawal, replacement, HasItem, known_ids, known_in_either, no_content, plain, IsPart}}, proofs.KnownIds.{fewer, known_member}}
@@ -19,30 +20,25 @@ abbrev made_at : ℕ → List Item → List Making
 made_at site items = map (λ item. record { site = site; item = item }) items
 
 made_there : (site : ℕ) (new : List Item) (item : Item) → Contains new item → Contains (made_at site new) (record { site = site; item = item })
-made_there site [] item (k, lt, e) = absurd (omega (arith, lt))
-made_there site (x ∷ rest) item (zero, lt, e) = (zero, omega arith, ap (λ (i : Item). record { site = site; item = i }) e)
-made_there site (x ∷ rest) item (suc k, lt, e) = let later = made_there site rest item (k, omega arith, e) in (suc later.0, let at = later.1 in omega arith, later.2)
+made_there site new item h3 = grind (arith, common_steps)
 
 made_of : (site : ℕ) (new : List Item) (one : Making) → Contains (made_at site new) one → (one.site ≡ site) × Contains new one.item
 made_of site [] one (k, lt, e) = absurd (omega (arith, lt))
-made_of site (x ∷ rest) one (zero, lt, e) = (sym (ap (λ (m : Making). m.site) e), (zero, omega arith, ap (λ (m : Making). m.item) e))
+made_of site (x ∷ rest) one (zero, lt, e) = search rules
 made_of site (x ∷ rest) one (suc k, lt, e) = let later = made_of site rest one (k, omega arith, e) in (later.0, (suc later.1.0, let at = later.1.1 in omega arith, later.1.2))
 
 nothing : {X : Type 0} (x : X) → ¬ Contains [] x
 nothing x h = let lt = h.1 in omega (arith, lt)
 
 one_item : (x item : Item) → Contains (x ∷ []) item ↔ (item ≡ x)
-one_item x item = (λ h. ⊎_elim (λ none. absurd (nothing item none)) (λ e. sym e) (Contains-push_cases [] x item h), λ e. (zero, omega arith, sym e))
+one_item x item = search rules
 
 both_items : (x y item : Item) → Contains (x ∷ (y ∷ [])) item ↔ ((item ≡ x) ⊎ (item ≡ y))
 both_items x y item = search rules
 
 -- the items that a call makes are those that it brings, where it takes in nothing
 items_brought : (call : Accepted) → IsOwn call → (item : Item) → Contains (items_made call) item ↔ Brought call item
-items_brought (added id one) own = one_item (addition id one)
-items_brought (amended id old bound) own = both_items (addition id (plain bound)) (replacement id old)
-items_brought (withdrew id) own = one_item (withdrawal id)
-items_brought (took other) own = absurd own
+items_brought call own = search rules
 
 -- ---- what each step keeps
 module _ (world : World) (items : List Making) (now : IsLawful world items) where
@@ -57,14 +53,10 @@ module _ (world : World) (items : List Making) (now : IsLawful world items) wher
 
   -- and the step brings what was made to the site that made it
   makings_brought : (step : Step) (one : Making) → Contains (makings world step) one → Brings world step one.site one.item
-  makings_brought (changed site asked) one h = let id = next_id_at world site in
-      let is = made_of site (items_made (change_call asked id)) one h in (sym is.0, (items_brought (change_call asked id) (own_call asked id) one.item).0 is.1)
-  makings_brought (merged site other) one h = absurd (nothing one h)
-  makings_brought (sent site part) one h = absurd (nothing one h)
-  makings_brought (delivered site number) one h = absurd (nothing one h)
+  makings_brought step one h = search rules
 
   nothing_made : (next : World) → IsLawful next items → IsLawful next (items ++ [])
-  nothing_made next lawful = subst (IsLawful next) (sym (append-nil items)) lawful
+  nothing_made next lawful = search rules
 
   lawful_after : (step : Step) → IsAccepted world step → IsLawful (after world step) (items ++ makings world step)
   lawful_after step accepted = let coherent : IsCoherent world = (now.all, now.whole) in record {

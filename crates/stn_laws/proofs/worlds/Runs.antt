@@ -8,7 +8,7 @@ use Rattle.stn_world.{specs.{Whole.IsCoherent, World.{World, HasSite, opening_wo
 use Rattle.stn_net.specs.Difference.{IsBoundWithin}
 
 there_after : (world : World) (at : ℕ) (content : Content) (site : ℕ) → HasSite world site → HasSite (with_content world at content) site
-there_after world at content site there = record { least = there.least; most = subst (λ (n : ℕ). site ≤ n) (sym (length-set world.sites (at - 1) content)) there.most }
+there_after world at content site there = search rules
 
 -- what a change of one site brings to each
 changed_at : (world : World) (at : ℕ) (content : Content) (New : Item → Type 0) (item : Item) → HasSite world at
@@ -22,38 +22,29 @@ one_step world (changed at asked) accepted coherent site other item = search (ru
 one_step world (merged at from) accepted coherent site other item =
     changed_at world at (joined_contents (content_at world at) (content_at world from)) (HasItem (content_at world from)) item (accepted_merge world at from accepted).0
     (taken_items world coherent.0 coherent.1 at (content_at world from) (coherent.1.sites from) item) site other
-one_step world (sent at part) accepted coherent site other item = (inl, λ h. ⊎_elim (λ x. x) (λ none. absurd none) h)
+one_step world (sent at part) accepted coherent site other item = search rules
 one_step world (delivered at number) accepted coherent site other item =
     changed_at world at (joined_contents (content_at world at) (packet_at world number)) (HasItem (packet_at world number)) item (accepted_delivery world at number accepted).0
     (taken_items world coherent.0 coherent.1 at (packet_at world number) (coherent.1.packets number) item) site other
 
 -- a step brings items to sites that are there
 pub brings_there : (world : World) (step : Step) (site : ℕ) (item : Item) → IsAccepted world step → Brings world step site item → HasSite world site
-brings_there world (changed at asked) site item accepted brings = subst (HasSite world) brings.0 (accepted_change world at asked accepted).0
-brings_there world (merged at other) site item accepted brings = subst (HasSite world) brings.0 (accepted_merge world at other accepted).0
-brings_there world (sent at part) site item accepted brings = absurd brings
-brings_there world (delivered at number) site item accepted brings = subst (HasSite world) brings.0 (accepted_delivery world at number accepted).0
+brings_there world step site item accepted brings = search rules
 
 site_stays : (world : World) (step : Step) (site : ℕ) → HasSite world site → HasSite (after world step) site
-site_stays world (changed at asked) site there = there_after world at _ site there
-site_stays world (merged at other) site there = there_after world at _ site there
-site_stays world (sent at part) site there = record { least = there.least; most = there.most }
-site_stays world (delivered at number) site there = there_after world at _ site there
+site_stays world step site there = search rules
 
 after_keeps : (world : World) (step : Step) → (after world step).source ≡ world.source
-after_keeps world (changed at asked) = refl
-after_keeps world (merged at other) = refl
-after_keeps world (sent at part) = refl
-after_keeps world (delivered at number) = refl
+after_keeps world step = search rules
 
 -- a step that is accepted is taken, and one that is refused changes nothing
 module _ (P : World → Type 0) (world : World) (step : Step) where
   by_refusal : (o : Option Failure) → step_refusal world step ≡ o → (IsAccepted world step → P (after world step)) → (¬ IsAccepted world step → P world) → P (cond (is_some o) world (after world step))
   by_refusal None e taken kept = taken e
-  by_refusal (Some cause) e taken kept = kept (λ none. absurd (false≢true (ap is_some (sym none ∙ e))))
+  by_refusal (Some cause) e taken kept = search rules
 
   pub for_step : (IsAccepted world step → P (after world step)) → (¬ IsAccepted world step → P world) → P (stepped world step)
-  for_step = by_refusal (step_refusal world step) refl
+  for_step = search rules
 
 -- a run keeps the sites and the plan
 pub run_stays : (world : World) (steps : List Step) (site : ℕ) → HasSite world site → HasSite (run world steps) site
@@ -75,8 +66,7 @@ coherent_run world (step ∷ steps) coherent = coherent_run (stepped world step)
 
 -- a site keeps what it held
 pub grows_after : (world : World) (step : Step) → IsCoherent world → (site : ℕ) → IsPart (content_at world site) (content_at (after world step) site)
-grows_after world (changed at asked) coherent site item there =
-    kept world at (content_after (content_at world at) (change_call asked (next_id_at world at))) site item (λ i h. (changed_items world coherent at asked i).1 (inl h)) there
+grows_after world (changed at asked) coherent site item there = search (rules, kept, changed_items)
 grows_after world (merged at other) coherent site item there =
     kept world at (joined_contents (content_at world at) (content_at world other)) site item (λ i h. (taken_items world coherent.0 coherent.1 at (content_at world other) (coherent.1.sites other) i).1 (inl h)) there
 grows_after world (sent at part) coherent site item there = there
@@ -96,7 +86,7 @@ this_step world step coherent site there item = search (rules, one_step)
 
 all_steps : (world : World) (steps : List Step) → IsCoherent world → (site : ℕ) → HasSite world site → (item : Item)
     → HasItem (content_at (run world steps) site) item ↔ (HasItem (content_at world site) item ⊎ TookAt world steps site item)
-all_steps world [] coherent site there item = (inl, λ h. ⊎_elim (λ x. x) (λ none. absurd none) h)
+all_steps world [] coherent site there item = search rules
 all_steps world (step ∷ steps) coherent site there item =
     regroup (all_steps (stepped world step) steps (coherent_stepped world step coherent) site
     (for_step (λ (next : World). HasSite next site) world step (λ _. site_stays world step site there) (λ _. there)) item) (this_step world step coherent site there item)

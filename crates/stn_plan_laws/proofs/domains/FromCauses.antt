@@ -18,7 +18,7 @@ refused_then (Group line children next) later before given fault none is = searc
 
 root-parts : (line : ℕ) (children rest : Trees) → BeginsDomain children rest → root line children ≡ parts rest []
 unfolding root
-root-parts line children rest has = rw (has.whole, has.is_define, has.titled) refl
+root-parts line children rest has = cc
 
 root-other : (line : ℕ) (children : Trees) → ((rest : Trees) → BeginsDomain children rest → ⊥) → root line children ≡ Err (Syntax line)
 unfolding root
@@ -65,5 +65,4 @@ module _ (text : List ℕ) where
   fault_of fault some is = by_part _ is
 
   pub cause_for : (fault : DomainFault) → is_memory fault ≡ false → domain_of text ≡ Err fault → IsDomainCause text fault
-  cause_for Memory some is = cc
-  cause_for fault some is = cause_of text fault is
+  cause_for fault some is = search (rules, cause_of)

@@ -55,9 +55,7 @@ module _ (label : Label) (a : ActionSchema) where
 
   small_first : (line : ℕ) (trees : Trees) → negated_first label line (in_small trees) (action_in_small a) ≡ mapped action_in_small (negated_first label line trees a)
   unfolding in_small
-  small_first line End = refl
-  small_first line (Word at word next) = refl
-  small_first line (Group at children next) = small_negated at children
+  small_first line trees = search (rules, small_negated)
 
   small_negation : (line : ℕ) (rest : Trees) → negation label line (in_small rest) (action_in_small a) ≡ mapped action_in_small (negation label line rest a)
   unfolding negation

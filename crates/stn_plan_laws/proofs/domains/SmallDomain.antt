@@ -47,8 +47,7 @@ small_values values = record {
 }
 
 same_some : (found : Option Listing) → is_some (option_map small_listing found) ≡ is_some found
-same_some None = refl
-same_some (Some listing) = refl
+same_some found = search rules
 
 same_value : (name : Field) (values : Values) → is_some (value_of name (small_values values)) ≡ is_some (value_of name values)
 unfolding small_values
@@ -56,8 +55,7 @@ same_value name values = search (rules)
 
 small_with : (name : Field) (listing : Listing) (values : Values) → with_value name (small_listing listing) (small_values values) ≡ small_values (with_value name listing values)
 unfolding small_values
-small_with field.Parameters listing values = refl
-small_with name listing values = refl
+small_with name listing values = search rules
 
 small_key : (line : ℕ) (word : List ℕ) (next : Trees) (before : Values)
     → ((name : Field) → field_value line name (in_small next) (small_values before) ≡ mapped small_values (field_value line name next before))
@@ -96,8 +94,7 @@ small_sides values a = search (rules, small_value)
 
 -- a number has no letters
 same_result : (found : Result ℤ DomainFault) → found ≡ mapped (λ millis. millis) found
-same_result (Ok millis) = refl
-same_result (Err fault) = refl
+same_result found = search rules
 
 small_lists : (name : List ℕ) (listed timed : Listing) (values : Values)
     → action_of_lists (folded name) (small_listing listed) (small_listing timed) (small_values values) ≡ mapped action_in_small (action_of_lists name listed timed values)
@@ -118,9 +115,7 @@ small_lists name listed timed values =
 small_action_of : (line : ℕ) (name : List ℕ) (values : Values) (listed timed : Option Listing)
     → action_of_values line (folded name) (small_values values) (option_map small_listing listed) (option_map small_listing timed)
     ≡ mapped action_in_small (action_of_values line name values listed timed)
-small_action_of line name values None timed = refl
-small_action_of line name values (Some listed) None = refl
-small_action_of line name values (Some listed) (Some timed) = small_lists name listed timed values
+small_action_of line name values listed timed = search (rules, small_lists)
 
 small_named : (line : ℕ) (name : List ℕ) (rest : Trees) → named_action line (folded name) (in_small rest) ≡ mapped action_in_small (named_action line name rest)
 unfolding named_action small_values
@@ -133,9 +128,7 @@ same_taken name (a ∷ actions) = rw (same_both name a.name, same_taken name act
 
 small_action : (line : ℕ) (rest : Trees) (earlier : List ActionSchema) → action line (in_small rest) (map action_in_small earlier) ≡ mapped action_in_small (action line rest earlier)
 unfolding action in_small
-small_action line End earlier = refl
-small_action line (Group at children next) earlier = refl
-small_action line (Word at name rest) earlier = search (rules, same_name, same_taken, small_named)
+small_action line rest earlier = search (rules, same_name, same_taken, small_named)
 
 -- the parts of a domain
 small_part : (line : ℕ) (children : Trees) (before : List ActionSchema) → part line (in_small children) (map action_in_small before) ≡ mapped (map action_in_small) (part line children before)
@@ -161,14 +154,11 @@ small_root line children = refl
 
 small_tree : (row : Trees) → domain_of_tree (in_small row) ≡ mapped (map action_in_small) (domain_of_tree row)
 unfolding domain_of_tree in_small
-small_tree End = refl
-small_tree (Word line word next) = refl
-small_tree (Group line children next) = small_root line children
+small_tree row = search (rules, small_root)
 
 small_bytes : (read : Result Trees TreeFault) → domain_of_bytes (tree_in_small read) ≡ mapped (map action_in_small) (domain_of_bytes read)
-small_bytes (Ok row) = small_tree row
-small_bytes (Err fault) = refl
+small_bytes read = search (rules, small_tree)
 
 pub small_domain : (text : List ℕ) → domain_of (folded text) ≡ domain_in_small (domain_of text)
 unfolding domain_of
-small_domain text = ap domain_of_bytes (small_row_of text) ∙ small_bytes (tree_of text)
+small_domain text = cc (small_row_of text, small_bytes (tree_of text))

@@ -10,15 +10,14 @@ folded-folded (b ∷ word) = cc (lowercase-lowercase b, folded-folded word)
 
 pub same_first : (a b : List ℕ) → is_same_word (folded a) b ≡ is_same_word a b
 unfolding is_same_word
-same_first a b = ap (λ w. bytes_eq w (folded b)) (folded-folded a)
+same_first a b = cc (folded-folded a)
 
 pub same_both : (a b : List ℕ) → is_same_word (folded a) (folded b) ≡ is_same_word a b
 unfolding is_same_word
 same_both a b = simp folded-folded
 
 same_any : (word : List ℕ) (words : List (List ℕ)) → list_any (is_same_word (folded word)) words ≡ list_any (is_same_word word) words
-same_any word [] = refl
-same_any word (other ∷ words) = rw (same_first word other, same_any word words) refl
+same_any word words = search (rules, same_first)
 
 pub same_listed : (word : List ℕ) (words : List (List ℕ)) → list_any (is_same_word (folded word)) (map folded words) ≡ list_any (is_same_word word) words
 same_listed word [] = refl
@@ -33,8 +32,7 @@ pub same_position : (word : List ℕ) (words : List (List ℕ)) → position (is
 same_position word words = grind (arith, same_prefix, length-map)
 
 same_begins : (b : ℕ) (word : List ℕ) → b < 65 → begins_with_byte b (folded word) ≡ begins_with_byte b word
-same_begins b [] small = refl
-same_begins b (first ∷ word) small = same_test first b small
+same_begins b word small = search (rules, same_test)
 
 pub same_variable : (word : List ℕ) → is_variable (folded word) ≡ is_variable word
 unfolding is_variable
@@ -50,7 +48,7 @@ same_name word = rw (same_variable word, same_key word) refl
 
 same_logic : (word : List ℕ) → is_other_logic (folded word) ≡ is_other_logic word
 unfolding is_other_logic
-same_logic word = rw (same_any word connectives, same_any word comparisons, same_any word assignments) refl
+same_logic word = search (rules, same_any)
 
 pub same_head : (word : List ℕ) → head_of (folded word) ≡ head_of word
 unfolding head_of
@@ -106,12 +104,10 @@ folded-drop (suc n) [] = refl
 folded-drop (suc n) (b ∷ bytes) = folded-drop n bytes
 
 same_numeral : (bytes : List ℕ) → is_numeral (folded bytes) ≡ is_numeral bytes
-same_numeral [] = refl
-same_numeral (b ∷ bytes) = same_digits (b ∷ bytes)
+same_numeral bytes = search (rules, same_digits)
 
 numeral-digits : (bytes : List ℕ) → is_numeral bytes ≡ true → folded bytes ≡ bytes
-numeral-digits [] is = refl
-numeral-digits (b ∷ bytes) is = small_digits (b ∷ bytes) is
+numeral-digits bytes is = search (rules, small_digits)
 
 same_fraction : (bytes : List ℕ) → fraction_of (folded bytes) ≡ fraction_of bytes
 same_fraction bytes = search (rules, same_numeral, numeral-digits)
@@ -120,8 +116,7 @@ same_parts : (negative : Bool) (bytes : List ℕ) → parts_with negative (folde
 same_parts negative bytes = grind (arith, same_len, same_front, folded-drop, same_fraction)
 
 same_rest : (minus : Bool) (word : List ℕ) → cond minus (drop 1 (folded word)) (folded word) ≡ folded (cond minus (drop 1 word) word)
-same_rest true word = folded-drop 1 word
-same_rest false word = refl
+same_rest minus word = search rules
 
 -- a time has no letters
 pub same_time : (word : List ℕ) → time_of (folded word) ≡ time_of word

@@ -18,7 +18,7 @@ lines_then (line ∷ earlier) later fault none is =
 
 first_line : (line : ℕ × List ℕ) (lines : List (ℕ × List ℕ)) (fault : PlanFault) → line_step line ≡ Err fault → steps_of (line ∷ lines) ≡ Err fault
 unfolding steps_of
-first_line line lines fault is = ap (λ r. r >>= λ step. steps_of lines >>= λ steps. Ok (option_to_list step ++ steps)) is
+first_line line lines fault is = cc
 
 module _ (text : List ℕ) where
   short_text : (fault : PlanFault) → length text ≤ most_text → steps_of (lines_of text) ≡ Err fault → plan_of text ≡ Err fault
@@ -31,11 +31,11 @@ module _ (text : List ℕ) where
 
   by_length : most_text < length text → plan_of text ≡ Err plan.TooLong
   unfolding plan_of
-  by_length long = let many : nat_lt most_text (length text) ≡ true = lt-ltb _ _ long in rw many refl
+  by_length long = search rules
 
   pub plan_fault_of : (fault : PlanFault) → read.is_plan_memory fault ≡ false → IsPlanCause text fault → plan_of text ≡ Err fault
   plan_fault_of plan.TooLong some is = by_length is
-  plan_fault_of plan.TooManySteps some (short, is) = plan_of-many text is.steps short is.many is.found
+  plan_fault_of plan.TooManySteps some (short, is) = search (rules, plan_of-many)
   plan_fault_of plan.Memory some is = cc
   plan_fault_of fault some is = by_line _ is
 
@@ -43,7 +43,7 @@ module _ (text : List ℕ) where
 steps_then : (actions : List ActionSchema) (before : ℕ) (earlier later : List PlannedStep) (fault : LiftFault) → IsOk (activities actions before earlier)
     → activities actions (before + length earlier) later ≡ Err fault → activities actions before (earlier ++ later) ≡ Err fault
 unfolding activities
-steps_then actions before [] later fault none is = subst (λ n. activities actions n later ≡ Err fault) (omega arith) is
+steps_then actions before [] later fault none is = search rules
 steps_then actions before (step ∷ earlier) later fault none is = search (rules, (steps_then actions (before + 1) earlier later fault))
 
 first_step : (actions : List ActionSchema) (before : ℕ) (step : PlannedStep) (steps : List PlannedStep) (fault : LiftFault) → activity_of actions (before + 1) step ≡ Err fault
@@ -57,8 +57,7 @@ module _ (actions : List ActionSchema) (steps : List PlannedStep) where
       cc (steps_then actions 0 is.earlier (is.step ∷ is.later) fault is.none_before (subst (λ n. activities actions n (is.step ∷ is.later) ≡ Err fault) (omega arith) (first_step actions (length is.earlier) is.step is.later fault is.refused)))
 
   pub lift_fault_of : (fault : LiftFault) → lifted.is_lift_memory fault ≡ false → IsLiftCause actions steps fault → activities actions 0 steps ≡ Err fault
-  lift_fault_of lifting.Memory some is = cc
-  lift_fault_of fault some is = by_step _ is
+  lift_fault_of fault some is = search (rules, by_step)
 
   pub lift_cause_for : (fault : LiftFault) → lifted.is_lift_memory fault ≡ false → activities actions 0 steps ≡ Err fault → IsLiftCause actions steps fault
   lift_cause_for fault some is = search (rules, cause_of)

@@ -9,10 +9,7 @@ use Rattle.stn_plan_laws.specs.PlannedTimes.{IsStepOf, IsPlannedAt}
 module _ (number : ℕ) (made one : Activity) where
   accepted : (arity differs late : Bool)
       → cond arity (Err (Arity number)) (cond differs (Err (DurationDiffers number)) (cond late (Err (PastHorizon number)) (Ok made))) ≡ Ok one → made ≡ one
-  accepted true differs late e = cc
-  accepted false true late e = cc
-  accepted false false true e = cc
-  accepted false false false e = cc
+  accepted arity differs late e = search rules
 
 activity_of-Ok : (actions : List ActionSchema) (number : ℕ) (step : PlannedStep) (action : ActionSchema) (one : Activity)
     → activity_of actions number step ≡ Ok one → action_named step.action actions ≡ Some action → activity step action ≡ one
@@ -36,8 +33,7 @@ times_at actions before (other ∷ earlier) step later action found e named = se
 -- the steps of a base are found
 found_of : (domain plan : List ℕ) (found : Result (List Activity) LiftFault) → source_with (files domain plan) (of_lift found) ≡ Ok (files domain plan)
     → (steps : List Activity) × (found ≡ Ok steps)
-found_of domain plan (Ok steps) e = (steps, refl)
-found_of domain plan (Err fault) e = cc
+found_of domain plan found e = search rules
 
 pub planned_at : (domain plan : List ℕ) → base_of (files domain plan) ≡ Ok (files domain plan)
     → (number : ℕ) (step : PlannedStep) (action : ActionSchema) → IsStepOf domain plan number step action

@@ -19,12 +19,11 @@ pub same_test : (b n : ℕ) → n < 65 → eqb (to_ascii_lowercase b) n ≡ eqb 
 same_test b n small = search rules
 
 same_kind_in : (comment : Bool) (b : ℕ) → kind_in comment (to_ascii_lowercase b) ≡ kind_in comment b
-same_kind_in true b = refl
-same_kind_in false b = same_kind b
+same_kind_in comment b = search (rules, same_kind)
 
 same_comment : (comment : Bool) (b : ℕ) → comment_after comment (to_ascii_lowercase b) ≡ comment_after comment b
 unfolding comment_after
-same_comment comment b = rw (same_test b 10 (omega arith), same_test b 59 (omega arith)) refl
+same_comment comment b = search rules
 
 same_line : (line b : ℕ) → line_after line (to_ascii_lowercase b) ≡ line_after line b
 unfolding line_after
@@ -32,13 +31,11 @@ same_line line b = rw (same_test b 10 (omega arith)) refl
 
 same_begins : (bytes : List ℕ) → begins_word (folded bytes) ≡ begins_word bytes
 unfolding begins_word
-same_begins [] = refl
-same_begins (b ∷ bytes) = ap is_letter (same_kind b)
+same_begins bytes = search (rules, same_kind)
 
 -- the scan of both
 same_steps : (step : Result Place TreeFault) (one other : Place → Result Place TreeFault) → ((next : Place) → one next ≡ other next) → (step >>= one) ≡ (step >>= other)
-same_steps (Ok next) one other same = same next
-same_steps (Err fault) one other same = refl
+same_steps step one other same = search rules
 
 scanned-folded : (text : List ℕ) (comment : Bool) (line : ℕ) (place : Place) → scanned comment line place (folded text) ≡ scanned comment line place text
 unfolding scanned

@@ -25,8 +25,8 @@ earlier : (depth at before : ℕ) (rows : List Trees) → before ≤ at → AreW
 unfolding AreWritable IsWritable end_line
 earlier depth at before [] le are = tt
 earlier depth at before (End ∷ rows) le are = (tt, earlier (depth - 1) at before rows le are.1)
-earlier depth at before (Word line word next ∷ rows) le are = (earlier_row (32 - depth) at before (Word line word next) le are.0, are.1)
-earlier depth at before (Group line children next ∷ rows) le are = (earlier_row (32 - depth) at before (Group line children next) le are.0, are.1)
+earlier depth at before (Word line word next ∷ rows) le are = search rules
+earlier depth at before (Group line children next ∷ rows) le are = search rules
 
 line_after-least : (line b : ℕ) → line ≤ line_after line b
 unfolding line_after
@@ -45,7 +45,7 @@ one_letter b is = rw is (refl, refl)
 
 letter-more : (b : ℕ) (word : List ℕ) → kind_of b ≡ Letter → IsWord word → IsWord (b ∷ word)
 unfolding begins_word
-letter-more b word is word_is = (letter-begins b word is, word_len-letter b word is ∙ ap suc word_is.1)
+letter-more b word is word_is = search (rules, word_len-letter)
 
 letter-rows : (depth line b : ℕ) (more : Bool) (row : Trees) (around : List Trees) → kind_of b ≡ Letter → AreWritable depth line (row ∷ around)
     → AreWritable depth line ((before_byte Letter line b more (record { row = row; around = around })).row ∷ (before_byte Letter line b more (record { row = row; around = around })).around)
@@ -75,7 +75,7 @@ module _ (f : Place → Result Place TreeFault) (end : Place) (line b : ℕ) (mo
 
   closed-place : (place : Place) → Behind → (place_after Close line place >>= f) ≡ Ok end → Here (depth_of place) Close
   unfolding place_after depth_of AreWritable IsWritable end_line
-  closed-place place behind is = search (rules, refused)
+  closed-place place behind is = search (rules)
 
   byte-place : (kind : Kind) (place : Place) → (kind ≡ Letter → kind_of b ≡ Letter) → Behind → (place_after kind line place >>= f) ≡ Ok end → Here (depth_of place) kind
   unfolding place_after depth_of

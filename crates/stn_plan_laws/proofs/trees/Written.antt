@@ -17,8 +17,8 @@ next_line at count = omega arith
 
 rows-feeds : (count at : ℕ) (bytes : List ℕ) → rows_from false at (feeds count ++ bytes) ≡ rows_from false (at + count) bytes
 unfolding feeds comment_after line_after kind_of
-rows-feeds zero at bytes = ap (λ line. rows_from false line bytes) (let same : at ≡ at + 0 = omega arith in same)
-rows-feeds (suc count) at bytes = search (rules, rows-blank, feeds, (rows-feeds count (at + 1) bytes))
+rows-feeds zero at bytes = search rules
+rows-feeds (suc count) at bytes = search (rules, rows-blank, (rows-feeds count (at + 1) bytes))
 
 scanned-feeds : (count at : ℕ) (place : Place) (bytes : List ℕ) → scanned false at place (feeds count ++ bytes) ≡ scanned false (at + count) place bytes
 unfolding feeds comment_after line_after kind_of place_after
@@ -47,8 +47,7 @@ word_len-space (b ∷ word) bytes is = search (rules, (word_len-space word bytes
 
 begins-space : (word bytes : List ℕ) → begins_word word ≡ true → begins_word (word ++ bytes) ≡ true
 unfolding begins_word
-begins-space [] bytes is = cc
-begins-space (b ∷ word) bytes is = is
+begins-space word bytes is = search rules
 
 letter-inside : (line b depth : ℕ) → kind_of b ≡ Letter → place_after (kind_of b) line (Inside depth) ≡ Ok (Inside depth)
 unfolding place_after
@@ -111,7 +110,7 @@ scanned-written : (room depth at : ℕ) (row : Trees) (tail : List ℕ) → IsWr
 unfolding written end_line IsWritable feeds
 scanned-written room depth at End tail is some few = refl
 scanned-written room depth at (Word line word next) tail is some few =
-    search (rules, word-then, feeds, scanned-feeds, scanned-letters, scanned-space, (scanned-written room depth line next tail is.2 some few))
+    search (rules, word-then, scanned-feeds, scanned-letters, scanned-space, (scanned-written room depth line next tail is.2 some few))
 scanned-written room depth at (Group line children next) tail is some few =
     let last = end_line line children in
     let behind : List ℕ = written last next ++ tail in

@@ -6,4 +6,4 @@ pub returns-clause-output : goal.returns-clause-output
 returns-clause-output c = search (rules, one_output)
 
 pub returns-clause-count : goal.returns-clause-count
-returns-clause-count c = λ script count other. one_count _ count other
+returns-clause-count c = search (rules, one_count)

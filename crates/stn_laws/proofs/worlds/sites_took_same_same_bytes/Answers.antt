@@ -1,3 +1,4 @@
+use Rattle.std.proofs.Common.{rules}
 use Rattle.stn_world.specs.{World.{opening_world, content_at}, Steps.run}
 use Rattle.stn_laws.proofs.worlds.Runs.{sites_are_unions, same_unions}
 use Rattle.stn_laws.proofs.worlds.sites_took_same_same_bytes.Goals as goal
@@ -12,5 +13,4 @@ returns-clause-bytes c = λ source sites others ours theirs site other there oth
     (alike, c.same_counts_same_bytes.ensures.bytes source one two alike)
 
 pub returns-clause-states : goal.returns-clause-states
-returns-clause-states c = λ source sites others ours theirs site other there other_there same.
-    same_unions _ _ _ _ (sites_are_unions source sites ours site there) (sites_are_unions source others theirs other other_there) same
+returns-clause-states c = search (rules, same_unions, sites_are_unions)
