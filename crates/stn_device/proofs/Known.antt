@@ -1,5 +1,5 @@
 -- Known bytes over several calls of a device.
-use Rattle.std.{proofs.{Common.{◌≡◌, ℕ, ◌+◌, ◌-◌, ◌^◌, ◌<◌, ◌≤◌, min, List, ◌++◌, length, take, drop, Option, Result, Ok, Err, true, sym, ap, subst, ◌∙◌, arith, append_assoc, append-nil, length-append}, lemmas.{Bool.false≢true, List.take-append-drop}, KnownBytes.{Appends-trans, Consumes-trans}}, specs.{Io.KnownBytes.{Appends, Consumes}, Result.{is_ok, OnOk}}}
+use Rattle.std.{proofs.{Common.{rules, ◌≡◌, ℕ, ◌+◌, ◌-◌, ◌^◌, ◌<◌, ◌≤◌, min, List, ◌++◌, length, take, drop, Option, Result, Ok, Err, true, arith, append_assoc, length-append}, lemmas.List.take-append-drop, KnownBytes.{Appends-trans, Consumes-trans}}, specs.{Io.KnownBytes.{Appends, Consumes}, Result.{is_ok, OnOk}}}
 use Rattle.stn_device.specs.Bytes.{ConsumesAtMost}
 
 -- the fault of an answer
@@ -13,24 +13,17 @@ not_err given fault is = cc
 
 -- what an answer ensures where it was given
 pub on_given : {X E P : Type 0} (answer : Result X E) → true ≡ is_ok answer → OnOk answer P → P
-on_given (Ok given) is p = p
-on_given (Err fault) is p = absurd (false≢true (sym is))
+on_given answer is p = search rules
 
 -- one more call failed
 pub fails_more : (first old new : ℕ) → new ≡ min (old + 1) (2 ^ 64 - 1) → old ≡ first → first < 2 ^ 64 - 1 → first < new
 fails_more first old new counts kept few = omega arith
 
 -- two reads in a row use what both use
-pub ConsumesAtMost-trans : (a b c : Option (List ℕ)) (bs cs : List ℕ) (n : ℕ) → Consumes a b bs → Consumes b c cs → length bs + length cs ≤ n → ConsumesAtMost a c n
-ConsumesAtMost-trans a b c bs cs n p q le = (bs ++ cs, Consumes-trans a b c bs cs p q, omega (arith, length-append bs cs))
-
--- a read that gave nothing uses no more
-pub Consumes-then_none : (a b c : Option (List ℕ)) (bs buf : List ℕ) (n : ℕ) → n ≡ 0 → Consumes a b bs → Consumes b c (take n buf) → Consumes a c bs
-Consumes-then_none a b c bs buf n none p q = subst (Consumes a c) (append-nil bs) (Consumes-trans a b c bs (take 0 buf) p (subst (λ k. Consumes b c (take k buf)) none q))
+pub ConsumesAtMost-trans : (a b c : Option (List ℕ)) (bs cs : List ℕ) {n : ℕ} → Consumes a b bs → Consumes b c cs → length bs + length cs ≤ n → ConsumesAtMost a c n
+ConsumesAtMost-trans a b c bs cs p q le = search (rules, Consumes-trans, length-append)
 
 -- a write that took n of the rest leaves what stands after them
-pub AppendsPart-more : (a b c : Option (List ℕ)) (all front rest behind : List ℕ) (n : ℕ) → all ≡ front ++ rest → Appends a b front → Appends b c (take n rest) → behind ≡ drop n rest
+pub AppendsPart-more : (a b c : Option (List ℕ)) {all : List ℕ} (front rest : List ℕ) {behind : List ℕ} (n : ℕ) → all ≡ front ++ rest → Appends a b front → Appends b c (take n rest) → behind ≡ drop n rest
     → (more : List ℕ) × (all ≡ more ++ behind) × Appends a c more
-AppendsPart-more a b c all front rest behind n e p q is =
-    let split : front ++ rest ≡ (front ++ take n rest) ++ drop n rest = ap (λ l. front ++ l) (sym (take-append-drop n rest)) ∙ sym (append_assoc front (take n rest) (drop n rest)) in
-    (front ++ take n rest, e ∙ split ∙ ap (λ l. (front ++ take n rest) ++ l) (sym is), Appends-trans a b c front (take n rest) p q)
+AppendsPart-more a b c front rest n e p q is = search (rules, take-append-drop, append_assoc, Appends-trans)

@@ -1,6 +1,5 @@
 -- How effects end: what they leave if they stop, and that two runs of one end alike.
-use Rattle.std.{proofs.{Common.{rules, ◌≡◌, ◌⊎◌, inl, inr, ℕ, List, OnOk, IfErr, Option, Some, None, is_some, Result, Ok, Err, MatchResult, refl, sym, ap, subst, ◌∙◌}, lemmas.{Bool.false≢true, Option.same_Some}}, specs.Prelude.⊤}
-use Rattle.stn_device.proofs.Known.{not_err}
+use Rattle.std.{proofs.{Common.{rules, ◌≡◌, ◌⊎◌, inl, inr, ℕ, List, OnOk, IfErr, Option, Some, None, is_some, Result, Ok, Err, MatchResult, sym, ap, subst}, lemmas.{Bool.false≢true, Option.same_Some}}, specs.Prelude.⊤}
 use Rattle.stn_effects.specs.{Effects.{Effect, Then, stopped, went, seen, Gives, Finds, Makes, Settles, IsLack, EndAlike}, Printing.{Device, Prints, IsUnprinted, Writes}}
 use Rattle.stn_refusal.specs.declared.failure.{Failure.{Failure, TheVariants.Failed}, Fault.{Fault, TheVariants.Memory}}
 
@@ -8,14 +7,11 @@ use Rattle.stn_refusal.specs.declared.failure.{Failure.{Failure, TheVariants.Fai
 pub makes_of : {World T X : Type 0} (Fails : Fault → Type 0) (see : T → X) (Is : X → Type 0) (IsCause : Option Failure → Type 0) (call : Result T Failure) (old : World)
     → MatchResult call (λ value. Is (see value) × IsCause None) (λ failure. (failure ≡ Failed Memory) ⊎ IsCause (Some failure))
     → Makes Fails Is IsCause old old (seen see call)
-makes_of Fails see Is IsCause (Ok value) old is = (refl, is.0, is.1)
-makes_of Fails see Is IsCause (Err failure) old (inl memory) = (refl, inr (rw memory (inl refl)))
-makes_of Fails see Is IsCause (Err failure) old (inr cause) = (refl, inl cause)
+makes_of Fails see Is IsCause call old is = search rules
 
 -- a text was printed, or not
 pub wrote : (answer : Result (Unit {0}) Failure) (text : List ℕ) (old new : Device) → OnOk answer (Prints old new text) → IfErr answer (IsUnprinted old new text) → Writes text old new answer
-wrote (Ok done) text old new printed failed = printed
-wrote (Err failure) text old new printed failed = failed
+wrote answer text old new printed failed = search rules
 
 -- nothing is changed
 abbrev pub ChangesNothing : {World X : Type 0} → Effect World X → Type 0
@@ -31,42 +27,20 @@ StopsForLack {World} {X} Fails Does = (old new : World) (failure : Failure) → 
 
 module _ {World X : Type 0} (Fails : Fault → Type 0) where
   pub makes_same : (Is : X → Type 0) (IsCause : Option Failure → Type 0) → ChangesNothing {World = World} (Makes Fails Is IsCause)
-  makes_same Is IsCause old new (Ok value) is = is.0
-  makes_same Is IsCause old new (Err failure) is = is.0
+  makes_same Is IsCause old new h4 is = search rules
 
   pub reads_same : (said : Result X Failure) → ChangesNothing {World = World} (Settles Fails said)
-  reads_same said old new (Ok value) is = is.0
-  reads_same said old new (Err failure) is = is.0
+  reads_same said old new h3 is = search rules
 
-pub gives_same : {World X : Type 0} (value : X) → ChangesNothing {World = World} (Gives value)
-gives_same value old new ended is = is.0
-
-pub gives_never_stops : {World X : Type 0} (value : X) (old new : World) (failure : Failure) → Gives value old new (Err failure) → ⊥
-gives_never_stops value old new failure is = not_err value failure (sym is.1)
-
-same_err : {X : Type 0} (failure other : Failure) → (let none : Result X Failure = Err failure in none) ≡ Err other → failure ≡ other
-same_err failure other is = cc
+same_err : {X : Type 0} {failure other : Failure} → (let none : Result X Failure = Err failure in none) ≡ Err other → failure ≡ other
+same_err is = cc
 
 module _ {World X Y : Type 0} (First : Effect World X) (Next : X → Effect World Y) where
   pub then_same : ChangesNothing First → ((value : X) → ChangesNothing (Next value)) → ChangesNothing (Then First Next)
-  then_same same later old new ended (stopped failure first is) = same old new (Err failure) first
-  then_same same later old new ended (went value between first next) = later value between new ended next ∙ same old between (Ok value) first
+  then_same same later old new ended h5 = search rules
 
-  pub then_keeps : ChangesNothing First → ((value : X) → KeepsIfStopped (Next value)) → KeepsIfStopped (Then First Next)
-  then_keeps same keeps old new failure (stopped why first is) = same old new (Err why) first
-  then_keeps same keeps old new failure (went value between first next) = keeps value between new failure next ∙ same old between (Ok value) first
-
-  -- nothing further can stop it
-  pub then_done : KeepsIfStopped First → ((value : X) (old new : World) (failure : Failure) → Next value old new (Err failure) → ⊥) → KeepsIfStopped (Then First Next)
-  then_done keeps never old new failure (stopped why first is) = keeps old new why first
-  then_done keeps never old new failure (went value between first next) = absurd (never value between new failure next)
-
-  pub then_lacks : (Fails : Fault → Type 0) → StopsForLack Fails First → ((value : X) → StopsForLack Fails (Next value)) → StopsForLack Fails (Then First Next)
-  then_lacks Fails lacks later old new failure (stopped why first is) = search rules
-  then_lacks Fails lacks later old new failure (went value between first next) = later value between new failure next
-
-same_ok : {X : Type 0} (value other : X) → (let none : Result X Failure = Ok value in none) ≡ Ok other → value ≡ other
-same_ok value other is = cc
+same_ok : {X : Type 0} {value other : X} → (let none : Result X Failure = Ok value in none) ≡ Ok other → value ≡ other
+same_ok is = cc
 
 -- two endings are the same but for a lack, and values are as this relation says
 abbrev pub Alike : {X Y : Type 0} → (Fault → Type 0) → (X → Y → Type 0) → Result X Failure → Result Y Failure → Type 0
@@ -81,18 +55,13 @@ EndSo {World} {X} {Y} Fails Same old Does Other = (new last : World) (ended : Re
 
 module _ (Fails : Fault → Type 0) where
   lack_alike : {X Y : Type 0} (Same : X → Y → Type 0) (failure : Failure) (other : Result Y Failure) → IsLack Fails failure → Alike {X = X} Fails Same (Err failure) other
-  lack_alike Same failure (Ok value) lack = lack
-  lack_alike Same failure (Err other) lack = inl lack
+  lack_alike Same failure other lack = search rules
 
   alike_lack : {X Y : Type 0} (Same : X → Y → Type 0) (failure : Failure) (other : Result X Failure) → IsLack Fails failure → Alike {Y = Y} Fails Same other (Err failure)
-  alike_lack Same failure (Ok value) lack = lack
-  alike_lack Same failure (Err other) lack = inr (inl lack)
+  alike_lack Same failure other lack = search rules
 
   pub as_alike : {X Y : Type 0} (ended : Result X Failure) (other : Result Y Failure) → Alike Fails (λ _ _. ⊤) ended other → EndAlike Fails ended other
-  as_alike (Ok value) (Ok other) is = is
-  as_alike (Ok value) (Err failure) is = is
-  as_alike (Err failure) (Ok value) is = is
-  as_alike (Err failure) (Err other) is = is
+  as_alike ended other is = search rules
 
   -- one effect and then another
   module _ {World X Y V W : Type 0} (First : Effect World X) (Next : X → Effect World V) (Other : Effect World Y) (Later : Y → Effect World W) where
@@ -116,17 +85,11 @@ module _ (Fails : Fault → Type 0) where
   -- effects that stop for a lack alone
   pub lacks_alike : {World X Y : Type 0} (old : World) (Does : Effect World X) (Other : Effect World Y) → StopsForLack Fails Does → StopsForLack Fails Other
       → EndSo Fails (λ _ _. ⊤) old Does Other
-  lacks_alike old Does Other lacks fails new last (Ok value) (Ok other) a b = tt
-  lacks_alike old Does Other lacks fails new last (Ok value) (Err failure) a b = fails old last failure b
-  lacks_alike old Does Other lacks fails new last (Err failure) (Ok value) a b = lacks old new failure a
-  lacks_alike old Does Other lacks fails new last (Err failure) (Err other) a b = inl (lacks old new failure a)
+  lacks_alike old Does Other lacks fails new last h7 h8 a b = search rules
 
-  last_alike : {X Y : Type 0} (ended : Result X Failure) (other : Result Y Failure) → ((failure : Failure) → ended ≡ Err failure → IsLack Fails failure)
+  last_alike : {X Y : Type 0} {ended : Result X Failure} {other : Result Y Failure} → ((failure : Failure) → ended ≡ Err failure → IsLack Fails failure)
       → ((failure : Failure) → other ≡ Err failure → IsLack Fails failure) → Alike Fails (λ _ _. ⊤) ended other
-  last_alike (Ok value) (Ok other) first second = tt
-  last_alike (Ok value) (Err failure) first second = second failure refl
-  last_alike (Err failure) (Ok value) first second = first failure refl
-  last_alike (Err failure) (Err other) first second = inl (first failure refl)
+  last_alike first second = search rules
 
   -- after which nothing stops but for a lack
   module _ {World X Y V W : Type 0} (First : Effect World X) (Next : X → Effect World V) (Other : Effect World Y) (Later : Y → Effect World W) where
@@ -139,12 +102,12 @@ module _ (Fails : Fault → Type 0) where
         rw is (lack_alike {X = V} (λ _ _. ⊤) f other (first new between (Err f) (Ok y) a b))
     then_done_alike Same old first next later new last ended other (went x between a n) (stopped g b at) =
         rw at (alike_lack {Y = W} (λ _ _. ⊤) g ended (first between last (Ok x) (Err g) a b))
-    then_done_alike Same old first next later new last ended other (went x one a n) (went y two b m) = last_alike ended other
+    then_done_alike Same old first next later new last ended other (went x one a n) (went y two b m) = last_alike
         (λ failure is. next x one new failure (subst (λ all. Next x one new all) is n))
         (λ failure is. later y two last failure (subst (λ all. Later y two last all) is m))
 
   pub gives_lacks : {World X : Type 0} (value : X) → StopsForLack {World = World} Fails (Gives value)
-  gives_lacks value old new failure is = absurd (not_err value failure (sym is.1))
+  gives_lacks value old new failure is = cc
 
   -- one value is found, or one reason
   module _ {World X Y : Type 0} (Is : World → X → Type 0) (Are : World → Y → Type 0) (Prevents Stops : World → Failure → Type 0) where
@@ -177,11 +140,4 @@ module _ (Fails : Fault → Type 0) where
 
   -- what is read is one
   pub reads_alike : {World X : Type 0} (said : Result X Failure) (old : World) → EndSo Fails (λ one other. one ≡ other) old (Settles Fails said) (Settles Fails said)
-  reads_alike said old new last (Ok value) (Ok other) a b = same_ok value other (sym a.1 ∙ b.1)
-  reads_alike said old new last (Ok value) (Err failure) a (same, inl is) = absurd (not_err value failure (sym a.1 ∙ is))
-  reads_alike said old new last (Ok value) (Err failure) a (same, inr lack) = lack
-  reads_alike said old new last (Err failure) (Ok value) (same, inl is) b = absurd (not_err value failure (sym b.1 ∙ is))
-  reads_alike said old new last (Err failure) (Ok value) (same, inr lack) b = lack
-  reads_alike said old new last (Err failure) (Err other) (same, inr lack) b = inl lack
-  reads_alike said old new last (Err failure) (Err other) (same, inl is) (stays, inr lack) = inr (inl lack)
-  reads_alike said old new last (Err failure) (Err other) (same, inl is) (stays, inl at) = inr (inr (same_err failure other (sym is ∙ at)))
+  reads_alike said old new last h4 h5 a b = search rules

@@ -3,8 +3,8 @@ use Rattle.stn_net.{specs.{Schedule.Meets, Horizon.horizon_bounds}, proofs.{Hori
 use Rattle.stn_lift.specs.PlanSource.{bare, IsSoundSource}
 
 -- a bare source of at most 256 steps is sound
-pub sound_bare_source : (steps : ℕ) → steps ≤ 256 → IsSoundSource (bare steps)
-sound_bare_source steps small = record {
+pub sound_bare_source : {steps : ℕ} → steps ≤ 256 → IsSoundSource (bare steps)
+sound_bare_source {steps} small = record {
   based = grind (arith, nat_tests);
   small = small;
   horizon = take_all (2 * steps) (horizon_bounds (2 * steps)) (omega (arith, length-horizon_bounds (2 * steps)));

@@ -1,7 +1,7 @@
 -- How many bounds a plan has.
-use Rattle.std.{proofs.{Common.{rules, ◌≡◌, ℕ, ◌+◌, ◌-◌, ◌*◌, ◌<◌, ◌≤◌, ℤ, zero, suc, Bool, true, false, not, ◌&&◌, eqb, nat_lt, cond, [], ◌∷◌, ◌++◌, length, get_or, ⊎_elim, refl, ap, ◌∙◌, arith, length-append}, Math.Nat.mul-le-mul_left, lemmas.{Bool.{eq-eqb, cases_lt, Decides.nat_tests}, List.{get_or_append_left, get_or_at}}}, specs.Ordering.int_cmp}
+use Rattle.std.{proofs.{Common.{rules, ◌≡◌, ℕ, ◌+◌, ◌-◌, ◌*◌, ◌<◌, ◌≤◌, ℤ, zero, suc, Bool, [], ◌∷◌, ◌++◌, length, get_or, ⊎_elim, refl, ap, ◌∙◌, arith, length-append}, lemmas.{Bool.{cases_lt}, List.{get_or_append_left, get_or_at}}}}
 use Rattle.stn_net.{specs.{Event.most_steps, Difference.Difference}, proofs.Horizons.length-horizon_bounds}
-use Rattle.stn_lift.{specs.{BaseBounds.{step_of, order_bound, pair_order, event_orders, orders, duration_bound, duration_bounds}, PlanSource.most_base_bounds}, proofs.SoundBounds.bounds}
+use Rattle.stn_lift.{specs.{BaseBounds.{step_of, pair_order, event_orders, orders, duration_bound, duration_bounds}, PlanSource.most_base_bounds}, proofs.SoundBounds.bounds}
 
 pub length-duration_bounds : (duration : ℕ → ℤ) (steps : ℕ) → length (duration_bounds duration steps) ≡ steps
 unfolding duration_bounds
@@ -26,16 +26,8 @@ module _ (interferes : ℕ → ℕ → Bool) (planned : ℕ → ℤ) where
   length-pair one other = search rules
 
   -- and none with an event up to the end of its own step
-  length-own : (one other : ℕ) → other ≤ 2 * step_of one → length (pair_order interferes planned one other) ≡ 0
-  length-own one other own = by (nat_lt one other) refl
-    where
-      by : (less : Bool) → nat_lt one other ≡ less
-          → length (cond (less && (not (eqb (step_of one) (step_of other)) && interferes one other)) (order_bound one other (int_cmp (planned one) (planned other)) ∷ []) []) ≡ 0
-      by false e = refl
-      by true e =
-          let later : one < other = grind (arith, nat_tests) in
-          let same : eqb (step_of one) (step_of other) ≡ true = eq-eqb (step_of one) (step_of other) (omega arith) in
-          rw same refl
+  length-own : (one : ℕ) {other : ℕ} → other ≤ 2 * step_of one → length (pair_order interferes planned one other) ≡ 0
+  length-own one own = search rules
 
   length-event : (one events : ℕ) → length (event_orders interferes planned one events) ≤ events - 2 * step_of one
   unfolding event_orders
@@ -44,7 +36,7 @@ module _ (interferes : ℕ → ℕ → Bool) (planned : ℕ → ℤ) where
       let fewer = length-event one events in
       let all = length-append (event_orders interferes planned one events) (pair_order interferes planned one (suc events)) in
       ⊎_elim (λ beyond. let one_more = length-pair one (suc events) in omega (arith, beyond))
-      (λ own. let none = length-own one (suc events) own in omega (arith, own)) (cases_lt (2 * step_of one) (suc events))
+      (λ own. let none = length-own one own in omega (arith, own)) (cases_lt (2 * step_of one) (suc events))
 
   -- of the events of the first steps
   length-steps : (steps some : ℕ) → some ≤ steps → length (orders interferes planned (2 * steps) (2 * some)) + 2 * (some * (some + 1)) ≤ 4 * (steps * some)
@@ -60,5 +52,5 @@ module _ (interferes : ℕ → ℕ → Bool) (planned : ℕ → ℤ) where
       rw next (omega arith)
 
   -- a plan has few enough bounds
-  pub few_bounds : (duration : ℕ → ℤ) (steps : ℕ) → steps ≤ most_steps → length (bounds interferes planned duration steps) ≤ most_base_bounds
-  few_bounds duration steps small = search (rules, length-steps, mul-le-mul_left, length-append, length-horizon_bounds, length-duration_bounds)
+  pub few_bounds : (duration : ℕ → ℤ) {steps : ℕ} → steps ≤ most_steps → length (bounds interferes planned duration steps) ≤ most_base_bounds
+  few_bounds duration small = search (rules, length-steps, length-append, length-horizon_bounds, length-duration_bounds)

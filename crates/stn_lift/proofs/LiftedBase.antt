@@ -1,17 +1,16 @@
 -- The base of a plan in a domain.
-use Rattle.std.{specs.Prelude.slice_index_or, proofs.{Common.{◌≡◌, ℕ, ◌*◌, ◌≤◌, ℤ, pos, List, ◌++◌, length, Ok, refl, sym, ap, ◌∙◌, arith}, lemmas.List.length-map}}
-use Rattle.stn_net.specs.{Event.most_steps, Horizon.horizon_bounds, Schedule.times_of}
+use Rattle.std.{proofs.{Common.{rules, ◌≡◌, ℕ, ◌≤◌, ℤ, List, length, Ok, sym, ap, ◌∙◌, arith}, lemmas.List.length-map}}
+use Rattle.stn_net.specs.{Event.most_steps, Schedule.times_of}
 use Rattle.stn_pddl.specs.{Schemas.ActionSchema, Domains.domain_of}
-use Rattle.stn_lift.{specs.{Plan.Steps.{PlannedStep, plan_of}, Footprints.Footprint, Activities.{Activity, activities}, BaseBounds.{event_times, duration_bounds, orders, lifted_bounds}, Timelines.{IsLifted, IsWholeTimeline, numbered_bounds}, PlanSource.{files, of_lift, base_of, source_with, activities_of, IsBase}}, proofs.{SoundSource.base_sound, Steps.length-activities, Texts.{lifted-Ok, texts_lifted}}}
+use Rattle.stn_lift.{specs.{Plan.Steps.{PlannedStep, plan_of}, Footprints.Footprint, Activities.{Activity, activities}, BaseBounds.{event_times, lifted_bounds}, Timelines.{IsLifted, IsWholeTimeline, numbered_bounds}, PlanSource.{files, of_lift, base_of, source_with, activities_of, IsBase}}, proofs.{SoundSource.base_sound, Steps.length-activities, Texts.{lifted-Ok, texts_lifted}}}
 
 module _ (steps : List Activity) (durations times : List ℤ) (footprints : List (Footprint ℕ)) (made : IsLifted steps durations times footprints) where
   counted : length durations ≡ length steps
-  counted = ap length made.lasting ∙ rw length-map refl
+  counted = search (rules, length-map)
 
   -- the bounds by numbers are the bounds by atoms
   same_bounds : numbered_bounds durations times footprints ≡ lifted_bounds steps
-  same_bounds = λ i. (horizon_bounds (2 * counted i) ++ duration_bounds (λ before. slice_index_or (made.lasting i) before (pos 0)) (counted i))
-      ++ orders (λ one other. made.interfering one other i) (times_of (made.timed i)) (2 * counted i) (2 * counted i)
+  same_bounds = search (rules, counted)
 
   pub is_whole : length steps ≤ most_steps → IsWholeTimeline durations times footprints
   is_whole small = omega (arith, counted)
@@ -35,5 +34,5 @@ module _ (steps : List Activity) (durations times : List ℤ) (footprints : List
     }
 
 -- a plan that fits its domain has few enough steps
-pub few_found : (actions : List ActionSchema) (planned : List PlannedStep) (steps : List Activity) → activities actions 0 planned ≡ Ok steps → length planned ≤ most_steps → length steps ≤ most_steps
-few_found actions planned steps found few = omega (arith, length-activities actions 0 planned steps found)
+pub few_found : (actions : List ActionSchema) (planned : List PlannedStep) {steps : List Activity} → activities actions 0 planned ≡ Ok steps → length planned ≤ most_steps → length steps ≤ most_steps
+few_found actions planned found few = omega (arith, length-activities)

@@ -1,8 +1,7 @@
 -- What the text of a plan gives: its steps, or the first fault with its cause.
-use Rattle.std.{proofs.{Common.{◌≡◌, ◌<◌, ℕ, ℤ, pos, negsuc, ◌≤ℤ◌, Bool, true, false, cond, nat_lt, ◌≤◌, ◌||◌, length, List, [], ◌∷◌, ◌++◌, Option, Some, None, IfSome, Result, Ok, Err, IsOk, refl, ap, rules}, lemmas.{Bool.{or_parts, ltb-true, ltb-false}, List.Elements.{All-nil, All-cons, All-append}, Result.{MatchResult-at_ok, MatchResult-at_err, MatchResult-weaker}}}, specs.{Int.is_negative, List.All, Option.{option_to_list, option_map_or}, Result.MatchResult}}
-use Rattle.stn_time.specs.{declared.reading.TimeFault.TimeFault, TimeOf.time_of}
+use Rattle.std.{proofs.{Common.{◌≡◌, ◌<◌, ℕ, ℤ, pos, ◌≤ℤ◌, Bool, true, false, cond, nat_lt, ◌≤◌, length, List, [], ◌∷◌, ◌++◌, Option, Some, None, IfSome, Result, Ok, Err, IsOk, refl, ap, rules}, lemmas.{Bool.{ltb-true, ltb-false}, List.Elements.{All-nil, All-cons, All-append}, Result.{MatchResult-weaker}}}, specs.{Int.is_negative, List.All, Option.{option_to_list, option_map_or}, Result.MatchResult}}
 use Rattle.stn_text.{specs.Faults.{◌>>=◌, Fails}, proofs.Readings.both_give}
-use Rattle.stn_lift.specs.{declared.plan.{bytes.Mark.TheVariants.{Colon, Open, Close, OpenSquare, CloseSquare}, fault.PlanFault.{PlanFault, TheVariants.{TooLong, Negative, TooManySteps, Memory}}}, Plan.{Tokens.{Lexeme, Word, Sign, tokens_of}, Lines.lines_of, Faults.{NamesLine, IsFirstLineFault, IsPlanCause}, Steps.{PlannedStep, Form, IsTimely, IsPlan, args_of, duration_form, form_of, or_number, time_at, duration_of, step_at, timed_step, step_of, line_step, most_text, most_steps, steps_of, limited, plan_of, is_plan_memory}}}
+use Rattle.stn_lift.specs.{declared.plan.{bytes.Mark.TheVariants.{Colon, Open, Close}, fault.PlanFault.{PlanFault, TheVariants.{TooLong, TooManySteps}}}, Plan.{Tokens.{Lexeme, Word, Sign, tokens_of}, Lines.lines_of, Faults.{NamesLine, IsFirstLineFault, IsPlanCause}, Steps.{PlannedStep, Form, IsTimely, IsPlan, args_of, duration_form, form_of, time_at, duration_of, step_at, timed_step, step_of, line_step, most_text, most_steps, steps_of, limited, plan_of, is_plan_memory}}}
 
 -- such a value, or a fault that names the line
 abbrev OfLine : {A : Type 0} → ℕ → (A → Type 0) → Result A PlanFault → Type 0
@@ -17,9 +16,7 @@ args_given line _ = refl
 
 duration_form_given : (line : ℕ) (tokens : List Lexeme) → OfLine line (λ _. Unit {0}) (duration_form line tokens)
 unfolding duration_form
-duration_form_given line [] = tt
-duration_form_given line (Sign OpenSquare ∷ Word word ∷ Sign CloseSquare ∷ []) = tt
-duration_form_given line _ = refl
+duration_form_given line tokens = search rules
 
 form_given : (line : ℕ) (tokens : List Lexeme) → OfLine line (λ _. Unit {0}) (form_of line tokens)
 unfolding form_of
@@ -30,35 +27,22 @@ form_given line _ = refl
 
 time_given : (line : ℕ) (word : List ℕ) → OfLine line (λ _. Unit {0}) (time_at line word)
 unfolding time_at
-time_given line word = by (time_of word)
-  where
-    by : (found : Result ℤ TimeFault) → OfLine line (λ _. Unit {0}) (or_number line found)
-    by (Ok millis) = tt
-    by (Err fault) = refl
+time_given line word = search rules
 
 duration_given : (line : ℕ) (word : Option (List ℕ)) → OfLine line (λ _. Unit {0}) (duration_of line word)
 unfolding duration_of
 duration_given line None = tt
 duration_given line (Some word) = both_give (λ _. Unit {0}) (λ _. Unit {0}) (NamesLine line) (time_at line word) _ (time_given line word) (λ millis _. tt)
 
-is_negative-false : (millis : ℤ) → is_negative millis ≡ false → pos 0 ≤ℤ millis
-is_negative-false (pos n) e = search rules
-is_negative-false (negsuc n) e = cc
+is_negative-false : {millis : ℤ} → is_negative millis ≡ false → pos 0 ≤ℤ millis
+is_negative-false e = search rules
 
 no_negative : (duration : Option ℤ) → option_map_or is_negative duration false ≡ false → IfSome duration (λ millis. pos 0 ≤ℤ millis)
-no_negative None e = tt
-no_negative (Some millis) e = is_negative-false millis e
+no_negative duration e = search rules
 
 step_given : (line : ℕ) (form : Form) (time : ℤ) (duration : Option ℤ) → OfLine line IsTimely (step_at line form time duration)
 unfolding step_at
-step_given line form time duration = by (is_negative time || option_map_or is_negative duration false) refl
-  where
-    by : (negative : Bool) → (is_negative time || option_map_or is_negative duration false) ≡ negative
-        → OfLine line IsTimely (cond negative (Err (Negative line)) (Ok (record { line = line; time = time; action = form.action; args = form.args; duration = duration })))
-    by true e = refl
-    by false e =
-        let parts = or_parts (is_negative time) (option_map_or is_negative duration false) e in
-        record { time = is_negative-false time parts.0; duration = no_negative duration parts.1 }
+step_given line form time duration = search rules
 
 timed_given : (line : ℕ) (form : Form) → OfLine line IsTimely (timed_step line form)
 unfolding timed_step
@@ -74,12 +58,11 @@ line_given line (token ∷ tokens) =
     (λ form _. both_give IsTimely (λ found. IfSome found IsTimely) (NamesLine line) (timed_step line form) _ (timed_given line form) (λ step timely. timely))
 
 All-option : (found : Option PlannedStep) → IfSome found IsTimely → All IsTimely (option_to_list found)
-All-option None timely = All-nil IsTimely
-All-option (Some step) timely = All-cons IsTimely step [] timely (All-nil IsTimely)
+All-option found timely = search rules
 
 -- the first line with a fault, after one without
-later_line : (line : ℕ × List ℕ) (lines : List (ℕ × List ℕ)) (fault : PlanFault) → IsOk (line_step line) → IsFirstLineFault lines fault → IsFirstLineFault (line ∷ lines) fault
-later_line line lines fault ok first = record {
+later_line : {line : ℕ × List ℕ} {lines : List (ℕ × List ℕ)} {fault : PlanFault} → IsOk (line_step line) → IsFirstLineFault lines fault → IsFirstLineFault (line ∷ lines) fault
+later_line {line} ok first = record {
   earlier = line ∷ first.earlier;
   line = first.line;
   later = first.later;
@@ -99,7 +82,7 @@ lines_given (line ∷ lines) = by (line_step line) refl (line_given line.0 (toke
     by (Ok step) is timely rest =
         let ok : IsOk (line_step line) = rw is refl in
         both_give (All IsTimely) (All IsTimely) (IsFirstLineFault (line ∷ lines)) (steps_of lines) _
-        (MatchResult-weaker (steps_of lines) rest (λ steps all. all) (λ fault first. later_line line lines fault ok first))
+        (MatchResult-weaker (steps_of lines) rest (λ steps all. all) (λ fault first. later_line ok first))
         (λ steps all. All-append IsTimely (option_to_list step) steps (All-option step timely) all)
     by (Err fault) is named rest = record {
       earlier = [];
@@ -122,11 +105,8 @@ module _ (text : List ℕ) where
   unfolding plan_of limited
   plan_of-many steps short many found = search rules
 
-  cause_in_line : (fault : PlanFault) → length text ≤ most_text → IsFirstLineFault (lines_of text) fault → IsPlanCause text fault
-  cause_in_line TooLong short first = absurd first.its_number
-  cause_in_line TooManySteps short first = absurd first.its_number
-  cause_in_line Memory short first = tt
-  cause_in_line fault short first = (short, first)
+  cause_in_line : {fault : PlanFault} → length text ≤ most_text → IsFirstLineFault (lines_of text) fault → IsPlanCause text fault
+  cause_in_line short first = search rules
 
   -- a plan, or the cause of its fault
   plan_given : MatchResult (plan_of text) (λ steps. IsPlan (record { text = text; steps = steps })) (IsPlanCause text)
@@ -143,19 +123,18 @@ module _ (text : List ℕ) where
       read : length text ≤ most_text → (found : Result (List PlannedStep) PlanFault) → steps_of (lines_of text) ≡ found → MatchResult found (All IsTimely) (IsFirstLineFault (lines_of text))
           → MatchResult (found >>= limited) (λ steps. IsPlan (record { text = text; steps = steps })) (IsPlanCause text)
       read short (Ok steps) found timely = fits short steps found timely (nat_lt most_steps (length steps)) refl
-      read short (Err fault) found first = cause_in_line fault short first
+      read short (Err fault) found first = cause_in_line short first
 
       by : (long : Bool) → nat_lt most_text (length text) ≡ long
           → MatchResult (cond long (Err TooLong) (steps_of (lines_of text) >>= limited)) (λ steps. IsPlan (record { text = text; steps = steps })) (IsPlanCause text)
       by true long = ltb-true _ _ long
       by false short = read (ltb-false _ _ short) (steps_of (lines_of text)) refl (lines_given (lines_of text))
 
-  pub plan_read : (steps : List PlannedStep) → plan_of text ≡ Ok steps → IsPlan (record { text = text; steps = steps })
-  plan_read steps is = MatchResult-at_ok (λ found. IsPlan (record { text = text; steps = found })) (IsPlanCause text) steps is plan_given
+  pub plan_read : {steps : List PlannedStep} → plan_of text ≡ Ok steps → IsPlan (record { text = text; steps = steps })
+  plan_read is = search (rules, plan_given)
 
   pub plan_cause_for : (fault : PlanFault) → plan_of text ≡ Err fault → IsPlanCause text fault
-  plan_cause_for fault is = MatchResult-at_err (λ found. IsPlan (record { text = text; steps = found })) (IsPlanCause text) fault is plan_given
+  plan_cause_for fault is = search (rules, plan_given)
 
   pub plan_cause_of : (fault : PlanFault) → Fails is_plan_memory fault (plan_of text) → IsPlanCause text fault
-  plan_cause_of Memory is = tt
-  plan_cause_of fault is = plan_cause_for _ is
+  plan_cause_of fault is = search (rules, plan_cause_for)

@@ -22,8 +22,8 @@ share_nothing [] = refl
 share_nothing (x ∷ xs) = share_nothing xs
 
 -- in order, all from a place on are above what is below that place's number
-above_from : (a : ℕ) (xs : List ℕ) (i : ℕ) → IsNonDecreasing xs → i < length xs → a < get_or xs i 0 → AllByRecursion (λ x. a < x) (drop i xs)
-above_from a xs i sorted within above =
+above_from : {a : ℕ} (xs : List ℕ) {i : ℕ} → IsNonDecreasing xs → i < length xs → a < get_or xs i 0 → AllByRecursion (λ x. a < x) (drop i xs)
+above_from {a} xs {i} sorted within above =
     recursion_from_All (λ x. a < x) (drop i xs) (All-from_get_or (λ x. a < x) (drop i xs) 0 (λ k there.
     let later : i + k < length xs = omega (arith, length-drop i xs) in
     let rises : get_or xs i 0 ≤ get_or xs (i + k) 0 = sorted i (i + k) 0 (omega arith) later in
@@ -33,8 +33,8 @@ module _ (xs ys : List ℕ) (i j : ℕ) (here : i < length xs) (there : j < leng
   -- the lesser number is passed
   pub share_after_less : IsNonDecreasing ys → get_or xs i 0 < get_or ys j 0 → share eqb (drop (i + 1) xs) (drop j ys) ≡ share eqb (drop i xs) (drop j ys)
   share_after_less sorted less =
-      sym (rw (drop-cons xs i 0, add-one) (share_past_first (get_or xs i 0) (drop (suc i) xs) (drop j ys) (above_from (get_or xs i 0) ys j sorted there less)))
+      sym (rw (drop-cons xs i 0, add-one) (share_past_first (get_or xs i 0) (drop (suc i) xs) (drop j ys) (above_from ys sorted there less)))
 
   pub share_after_greater : IsNonDecreasing xs → get_or ys j 0 < get_or xs i 0 → share eqb (drop i xs) (drop (j + 1) ys) ≡ share eqb (drop i xs) (drop j ys)
   share_after_greater sorted less =
-      sym (rw (drop-cons ys j 0, add-one) (share_past_second (get_or ys j 0) (drop i xs) (drop (suc j) ys) (above_from (get_or ys j 0) xs i sorted here less)))
+      sym (rw (drop-cons ys j 0, add-one) (share_past_second (get_or ys j 0) (drop i xs) (drop (suc j) ys) (above_from xs sorted here less)))

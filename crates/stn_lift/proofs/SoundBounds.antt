@@ -1,5 +1,5 @@
 -- What holds of the bounds of a plan.
-use Rattle.std.{proofs.{Common.{rules, ◌≡◌, ℕ, ◌+◌, ◌*◌, ◌<◌, ◌≤◌, ℤ, pos, ◌+ℤ◌, ◌≤ℤ◌, ◌<ℤ◌, zero, suc, Bool, true, not, ◌&&◌, eqb, nat_lt, List, [], ◌∷◌, ◌++◌, take, Ordering, Less, Equal, Greater, inl, inr, sym, subst, arith, append_assoc, length-append}, lemmas.{Bool.{cases_eq, ne_eqb, cond_both, ltb-true, and_parts, Decides.nat_tests}, Int.ints, List.{take-append-le, take_all, Elements.{All-from_recursion, recursion_from_All}}}}, specs.{List.{All, AllByRecursion}, Ordering.{int_cmp, MatchOrdering}, Cmp.int_ranks}}
+use Rattle.std.{proofs.{Common.{rules, ◌≡◌, ℕ, ◌+◌, ◌*◌, ◌<◌, ◌≤◌, ℤ, pos, ◌+ℤ◌, ◌≤ℤ◌, ◌<ℤ◌, zero, suc, Bool, true, not, ◌&&◌, eqb, nat_lt, List, [], ◌∷◌, ◌++◌, take, Ordering, Less, Equal, Greater, inl, inr, sym, subst, arith, append_assoc}, lemmas.{Bool.{cases_eq, ne_eqb, cond_both, ltb-true, and_parts, Decides.nat_tests}, Int.ints, List.{take-append-le, take_all, Elements.{All-from_recursion, recursion_from_All}}}}, specs.{List.{All, AllByRecursion}, Ordering.{int_cmp, MatchOrdering}, Cmp.int_ranks}}
 use Rattle.stn_time.{specs.Time.horizon, proofs.Each.{each_joined, each_parted, each_pushed}}
 use Rattle.stn_net.{specs.{Difference.{Difference, NamesEvents}, Horizon.{horizon_bound, horizon_bounds}, Schedule.{Meets, IsSchedule}}, proofs.{Horizons.length-horizon_bounds, Schedules.met_behind, Widest.horizon_each}}
 use Rattle.stn_lift.specs.BaseBounds.{step_of, duration_bound, order_bound, pair_order, event_orders, orders, duration_bounds, IsOrderedPair, KeepsOrder}
@@ -16,8 +16,8 @@ module _ (interferes : ℕ → ℕ → Bool) (planned duration : ℕ → ℤ) (s
 
   -- what holds of each order that a pair has
   module _ (P : Difference → Type 0) (each : (one other : ℕ) → 0 < one → one < other → other ≤ 2 * steps → P (order_bound one other (int_cmp (planned one) (planned other)))) where
-    each_pair : (one other : ℕ) → 0 < one → other ≤ 2 * steps → AllByRecursion P (pair_order interferes planned one other)
-    each_pair one other first last =
+    each_pair : {one other : ℕ} → 0 < one → other ≤ 2 * steps → AllByRecursion P (pair_order interferes planned one other)
+    each_pair {one} {other} first last =
         cond_both (is_pair one other) (order_bound one other (int_cmp (planned one) (planned other)) ∷ []) [] (AllByRecursion P)
         (λ pair. (each one other first (ltb-true one other (and_parts (nat_lt one other) _ pair).0) last, tt)) (λ none. tt)
 
@@ -25,7 +25,7 @@ module _ (interferes : ℕ → ℕ → Bool) (planned duration : ℕ → ℤ) (s
     unfolding event_orders
     each_event one zero first most = tt
     each_event one (suc events) first most =
-        each_joined P (event_orders interferes planned one events) (pair_order interferes planned one (suc events)) (each_event one events first (omega arith)) (each_pair one (suc events) first most)
+        each_joined P (event_orders interferes planned one events) (pair_order interferes planned one (suc events)) (each_event one events first (omega arith)) (each_pair first most)
 
     pub each_order : (one : ℕ) → AllByRecursion P (orders interferes planned (2 * steps) one)
     unfolding orders
@@ -52,12 +52,10 @@ module _ (interferes : ℕ → ℕ → Bool) (planned duration : ℕ → ℤ) (s
 
   -- the first bounds are the horizon bounds
   pub first_horizons : take (2 * steps) bounds ≡ horizon_bounds (2 * steps)
-  first_horizons = search (rules, length-horizon_bounds, length-append, take-append-le, take_all)
+  first_horizons = search (rules, length-horizon_bounds, take-append-le, take_all)
 
-  order_named : (one other : ℕ) (o : Ordering) → one ≤ 2 * steps → other ≤ 2 * steps → NamesEvents (2 * steps) (order_bound one other o)
-  order_named one other Less first second = record { from = first; to = second }
-  order_named one other Equal first second = record { from = first; to = second }
-  order_named one other Greater first second = record { from = second; to = first }
+  order_named : {one other : ℕ} (o : Ordering) → one ≤ 2 * steps → other ≤ 2 * steps → NamesEvents (2 * steps) (order_bound one other o)
+  order_named o first second = search rules
 
   -- all name events of the plan
   pub all_named : All (NamesEvents (2 * steps)) bounds
@@ -65,15 +63,15 @@ module _ (interferes : ℕ → ℕ → Bool) (planned duration : ℕ → ℤ) (s
       each_bound (NamesEvents (2 * steps))
       (λ event first last. let named : NamesEvents (2 * steps) (horizon_bound event) = record { from = omega arith; to = last } in named)
       (λ step within. let named : NamesEvents (2 * steps) (duration_bound step (duration step)) = record { from = omega arith; to = omega arith } in named)
-      (λ one other first later last. order_named one other (int_cmp (planned one) (planned other)) (omega arith) last)
+      (λ one other first later last. order_named (int_cmp (planned one) (planned other)) (omega arith) last)
 
   module _ (origin : planned 0 ≡ pos 0) (timed : (event : ℕ) → event ≤ 2 * steps → (pos 0 ≤ℤ planned event) × (planned event ≤ℤ horizon))
       (lasting : (step : ℕ) → step < steps → planned (2 * step + 2) ≡ planned (2 * step + 1) +ℤ duration step) where
-    order_met : (one other : ℕ) (o : Ordering) → MatchOrdering o (planned one <ℤ planned other) (planned one ≡ planned other) (planned other <ℤ planned one)
+    order_met : {one other : ℕ} (o : Ordering) → MatchOrdering o (planned one <ℤ planned other) (planned one ≡ planned other) (planned other <ℤ planned one)
         → (pos 0 ≤ℤ planned one) × (planned one ≤ℤ horizon) → (pos 0 ≤ℤ planned other) × (planned other ≤ℤ horizon) → Meets planned (order_bound one other o)
-    order_met one other Less is first second = (omega (arith, ints, is, first.0, first.1, second.0, second.1), omega (arith, ints, is, first.0, first.1, second.0, second.1))
-    order_met one other Equal is first second = (omega (arith, ints, is), omega (arith, ints, is))
-    order_met one other Greater is first second = (omega (arith, ints, is, first.0, first.1, second.0, second.1), omega (arith, ints, is, first.0, first.1, second.0, second.1))
+    order_met Less is first second = (omega (arith, ints, is, first.0, first.1, second.0, second.1), omega (arith, ints, is, first.0, first.1, second.0, second.1))
+    order_met Equal is first second = (omega (arith, ints, is), omega (arith, ints, is))
+    order_met Greater is first second = (omega (arith, ints, is, first.0, first.1, second.0, second.1), omega (arith, ints, is, first.0, first.1, second.0, second.1))
 
     horizon_met : (event : ℕ) → event ≤ 2 * steps → Meets planned (horizon_bound event)
     horizon_met event last = let within = timed event last in (omega (arith, ints, origin, within.0), omega (arith, ints, origin, within.1))
@@ -86,7 +84,7 @@ module _ (interferes : ℕ → ℕ → Bool) (planned duration : ℕ → ℤ) (s
     planned_possible = record {
       origin = origin;
       met = each_bound (Meets planned) (λ event first last. horizon_met event last) duration_met
-          (λ one other first later last. order_met one other (int_cmp (planned one) (planned other)) (int_ranks (planned one) (planned other)) (timed one (omega arith)) (timed other last));
+          (λ one other first later last. order_met {one = one} {other = other} (int_cmp (planned one) (planned other)) (int_ranks (planned one) (planned other)) (timed one (omega arith)) (timed other last));
     }
 
   -- a pair's order is among the bounds
@@ -119,18 +117,16 @@ module _ (interferes : ℕ → ℕ → Bool) (planned duration : ℕ → ℤ) (s
         let less : nat_lt one other ≡ true = grind (arith, nat_tests, pair.later) in
         let here = rw (less, ne_eqb (step_of one) (step_of other) pair.steps, pair.share) at orders in here.0
 
-  order_kept : (one other : ℕ) (o : Ordering) (time : ℕ → ℤ) → MatchOrdering o (planned one <ℤ planned other) (planned one ≡ planned other) (planned other <ℤ planned one)
+  order_kept : {one other : ℕ} (o : Ordering) (time : ℕ → ℤ) → MatchOrdering o (planned one <ℤ planned other) (planned one ≡ planned other) (planned other <ℤ planned one)
       → Meets time (order_bound one other o)
       → (planned one <ℤ planned other → time one <ℤ time other) × (planned other <ℤ planned one → time other <ℤ time one) × (planned one ≡ planned other → time one ≡ time other)
-  order_kept one other Less time is met = search rules
-  order_kept one other Equal time is met = search rules
-  order_kept one other Greater time is met = search rules
+  order_kept o time is met = search rules
 
   -- in every schedule of bounds that imply the orders, events that interfere keep the plan's order
   pub orders_keep : (all : List Difference) → ((time : ℕ → ℤ) → IsSchedule all time → All (Meets time) (orders interferes planned (2 * steps) (2 * steps))) → KeepsOrder (2 * steps) interferes planned all
   orders_keep all met =
       let kept = λ (time : ℕ → ℤ) (one other : ℕ) (schedule : IsSchedule all time) (pair : IsOrderedPair (2 * steps) interferes one other).
-      order_kept one other (int_cmp (planned one) (planned other)) time (int_ranks (planned one) (planned other)) (pair_holds (Meets time) one other pair (met time schedule)) in
+      order_kept (int_cmp (planned one) (planned other)) time (int_ranks (planned one) (planned other)) (pair_holds (Meets time) one other pair (met time schedule)) in
       record {
         before = λ time one other schedule pair. (kept time one other schedule pair).0;
         after = λ time one other schedule pair. (kept time one other schedule pair).1;
@@ -138,7 +134,7 @@ module _ (interferes : ℕ → ℕ → Bool) (planned duration : ℕ → ℤ) (s
       }
 
   pub order_keeps : KeepsOrder (2 * steps) interferes planned bounds
-  order_keeps = orders_keep bounds (met_behind (horizon_bounds (2 * steps) ++ duration_bounds duration steps) (orders interferes planned (2 * steps) (2 * steps)))
+  order_keeps = search (rules, orders_keep, met_behind)
 
 -- one pair more
 pub more_pairs : (interferes : ℕ → ℕ → Bool) (planned : ℕ → ℤ) (one count : ℕ) (first old new : List Difference) → old ≡ first ++ event_orders interferes planned one count

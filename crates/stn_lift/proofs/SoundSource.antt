@@ -1,28 +1,19 @@
 -- A source that has a base is sound.
-use Rattle.std.{proofs.{Common.{rules, ◌≡◌, ℕ, ℤ, pos, ◌+◌, ◌*◌, ◌<◌, ◌≤◌, ◌+ℤ◌, ◌≤ℤ◌, zero, suc, Bool, true, false, not, ◌==◌, cond, nat_lt, int_lt, List, [], ◌∷◌, length, find, Option, Some, None, Result, Ok, Err, All, refl, ap, subst, ◌∙◌, arith}, lemmas.{Bool.Decides.nat_tests, Int.ints, List.Elements.{All-head, All-tail}}}, specs.{Prelude.slice_index_or, List.AllByRecursion, Result.result_unwrap_or}}
+use Rattle.std.proofs.lemmas.Grind.{common_steps}
+use Rattle.std.{proofs.{Common.{rules, ◌≡◌, ℕ, ℤ, pos, ◌+◌, ◌*◌, ◌<◌, ◌≤◌, ◌+ℤ◌, ◌≤ℤ◌, zero, suc, Bool, false, cond, nat_lt, int_lt, List, [], ◌∷◌, length, find, Option, Some, None, Result, Ok, Err, All, refl, ap, subst, ◌∙◌, arith}, lemmas.{Int.ints, List.Elements.{All-head, All-tail}}}, specs.{Prelude.slice_index_or, List.AllByRecursion, Result.result_unwrap_or}}
 use Rattle.stn_text.{proofs.Readings.bind_ok}
 use Rattle.stn_time.specs.Time.{horizon}
 use Rattle.stn_pddl.{specs.{Tree.{Names.is_same_word, Scan.most_text}, declared.fault.DomainFault.DomainFault, Schemas.ActionSchema, Domains.{domain_of, action_named}, Sound.IsSound}, proofs.SoundActions.{domain-sound, domain-short, found-sound}}
 use Rattle.stn_net.specs.{Event.most_steps, Schedule.times_of}
-use Rattle.stn_lift.{specs.{declared.{plan.fault.PlanFault.PlanFault, fault.{LiftFault.{LiftFault, TheVariants.{Arity, DurationDiffers, PastHorizon}}, BaseFault.TheVariants.TooManySteps as TooMany}}, Plan.Steps.{PlannedStep, IsTimely, plan_of}, Timelines.IsTimed, Activities.{Activity, differs, activity, with_action, with_found, activity_of, activities}, BaseBounds.{times_behind, event_times, events_interfere, duration_of}, PlanSource.{PlanSource, bare, files, of_lift, steps_in, lifted, activities_of, source_with, base_of, IsSoundSource}}, proofs.{BareSource.sound_bare_source, SoundBounds.{first_horizons, all_named, planned_possible, order_keeps}, FewBounds.few_bounds, Steps.few_steps, Texts.lifted-Ok, PlanFacts.plan_read}}
+use Rattle.stn_lift.{specs.{declared.{plan.fault.PlanFault.PlanFault, fault.{LiftFault.{LiftFault}, BaseFault.TheVariants.TooManySteps as TooMany}}, Plan.Steps.{PlannedStep, IsTimely, plan_of}, Timelines.IsTimed, Activities.{Activity, with_action, with_found, activity_of, activities}, BaseBounds.{times_behind, event_times, duration_of}, PlanSource.{PlanSource, bare, files, of_lift, steps_in, lifted, activities_of, source_with, base_of, IsSoundSource}}, proofs.{BareSource.sound_bare_source, SoundBounds.{first_horizons, all_named, planned_possible, order_keeps}, FewBounds.few_bounds, Steps.few_steps, Texts.lifted-Ok, PlanFacts.plan_read}}
 
 -- ---- the steps in a domain
-not_past : (time : ℤ) → int_lt horizon time ≡ false → time ≤ℤ horizon
-not_past time e = omega (arith, ints)
+not_past : {time : ℤ} → int_lt horizon time ≡ false → time ≤ℤ horizon
+not_past e = omega (arith, ints)
 
 with_action_timed : (number : ℕ) (step : PlannedStep) (action : ActionSchema) (one : Activity) → IsTimely step → IsSound action → with_action number step action ≡ Ok one → IsTimed one
 unfolding with_action
-with_action_timed number step action one timely sound is =
-    by (not (length step.args == length action.parameters)) (differs step.duration action.duration) (int_lt horizon (step.time +ℤ action.duration)) refl is
-  where
-    by : (arity other past : Bool) → int_lt horizon (step.time +ℤ action.duration) ≡ past
-        → cond arity (Err (Arity number)) (cond other (Err (DurationDiffers number)) (cond past (Err (PastHorizon number)) (Ok (activity step action)))) ≡ Ok one → IsTimed one
-    by true other past e h = cc
-    by false true past e h = cc
-    by false false true e h = cc
-    by false false false e h =
-        let same : activity step action ≡ one = cc in
-        subst IsTimed same (record { time = timely.time; duration = sound.duration; last = not_past (step.time +ℤ action.duration) e })
+with_action_timed number step action one timely sound is = search rules
 
 activity_timed : (actions : List ActionSchema) (number : ℕ) (step : PlannedStep) (one : Activity) → AllByRecursion IsSound actions → IsTimely step
     → activity_of actions number step ≡ Ok one → IsTimed one
@@ -36,7 +27,7 @@ activity_timed actions number step one all timely is = by (find (λ action. is_s
 all_timed : (actions : List ActionSchema) (before : ℕ) (steps : List PlannedStep) (found : List Activity) → AllByRecursion IsSound actions → All IsTimely steps
     → activities actions before steps ≡ Ok found → AllByRecursion IsTimed found
 unfolding activities
-all_timed actions before [] found all timely is = let none : [] ≡ found = cc in subst (AllByRecursion IsTimed) none tt
+all_timed actions before [] found all timely is = cc
 all_timed actions before (step ∷ steps) found all timely is =
     let first = bind_ok (activity_of actions (before + 1) step) _ found is in
     let others = bind_ok (activities actions (before + 1) steps) _ found first.2 in
@@ -51,7 +42,7 @@ activities_timed domain plan = by (domain_of domain) refl (plan_of plan) refl
   where
     given : (actions : List ActionSchema) (planned : List PlannedStep) → domain_of domain ≡ Ok actions → plan_of plan ≡ Ok planned
         → (found : Result (List Activity) LiftFault) → activities actions 0 planned ≡ found → AllByRecursion IsTimed (result_unwrap_or (of_lift found) [])
-    given actions planned domain_is plan_is (Ok steps) is = all_timed actions 0 planned steps (domain-sound domain actions domain_is) (plan_read plan planned plan_is).timely is
+    given actions planned domain_is plan_is (Ok steps) is = all_timed actions 0 planned steps (domain-sound domain actions domain_is) (plan_read plan plan_is).timely is
     given actions planned domain_is plan_is (Err fault) is = tt
 
     by : (actions : Result (List ActionSchema) DomainFault) → domain_of domain ≡ actions → (planned : Result (List PlannedStep) PlanFault) → plan_of plan ≡ planned
@@ -76,9 +67,7 @@ times_within (step ∷ steps) timed =
 
 -- at any place, 0 where the list has none
 time_within : (times : List ℤ) → AllByRecursion IsWithin times → (place : ℕ) → IsWithin (slice_index_or times place (pos 0))
-time_within [] all place = (omega (arith, ints), omega (arith, ints))
-time_within (time ∷ times) all zero = all.0
-time_within (time ∷ times) all (suc place) = time_within times all.1 place
+time_within times all place = grind (arith, common_steps)
 
 -- the end of a step is its start and its duration
 ends_at : (steps : List Activity) (place : ℕ) → place < length steps
@@ -98,48 +87,38 @@ module _ (domain plan : List ℕ) where
   abbrev planned : ℕ → ℤ
   planned = times_of (event_times (activities_of domain plan))
 
-  lasting : (place : ℕ) → place < length steps → planned (2 * place + 2) ≡ planned (2 * place + 1) +ℤ duration_of steps place
-  lasting place below =
+  lasting : {place : ℕ} → place < length steps → planned (2 * place + 2) ≡ planned (2 * place + 1) +ℤ duration_of steps place
+  lasting {place} below =
       let end : 2 * place + 2 ≡ suc (2 * place + 1) = omega arith in
       let start : 2 * place + 1 ≡ suc (2 * place) = omega arith in
       search (rules, ends_at)
 
   within : (event : ℕ) → event ≤ 2 * length steps → IsWithin (planned event)
-  within event last = time_within (event_times steps) ((omega (arith, ints), omega (arith, ints)), times_within steps (activities_timed domain plan)) event
+  within event last = search (rules, time_within, times_within, activities_timed)
 
   -- what holds of the source of two texts
   files_sound : base_of (files domain plan) ≡ Ok (files domain plan) → length domain ≤ most_text → length plan ≤ most_text → IsSoundSource (files domain plan)
-  files_sound based short_domain short_plan = record {
-    based = based;
-    small = few_steps domain plan;
-    horizon = first_horizons (events_interfere steps) planned (duration_of steps) (length steps);
-    named = all_named (events_interfere steps) planned (duration_of steps) (length steps);
-    few = few_bounds (events_interfere steps) planned (duration_of steps) (length steps) (few_steps domain plan);
-    possible = planned_possible (events_interfere steps) planned (duration_of steps) (length steps) refl within lasting;
-    ordered = order_keeps (events_interfere steps) planned (duration_of steps) (length steps);
-    texts = (short_domain, short_plan);
-  }
+  files_sound based short_domain short_plan =
+      search (rules, few_steps, first_horizons, all_named, few_bounds, planned_possible, within, lasting, order_keeps)
 
-texts_sound : (domain plan : List ℕ) (made : PlanSource) (actions : Result (List ActionSchema) DomainFault) (planned : Result (List PlannedStep) PlanFault)
+texts_sound : (domain plan : List ℕ) {made : PlanSource} (actions : Result (List ActionSchema) DomainFault) (planned : Result (List PlannedStep) PlanFault)
     → domain_of domain ≡ actions → plan_of plan ≡ planned → source_with (files domain plan) (steps_in actions planned) ≡ Ok made → IsSoundSource made
-texts_sound domain plan made (Err fault) planned domain_is plan_is is = cc
-texts_sound domain plan made (Ok actions) (Err fault) domain_is plan_is is = cc
-texts_sound domain plan made (Ok actions) (Ok planned) domain_is plan_is is = by (activities actions 0 planned) refl is
+texts_sound domain plan (Err fault) planned domain_is plan_is is = cc
+texts_sound domain plan (Ok actions) (Err fault) domain_is plan_is is = cc
+texts_sound domain plan {made} (Ok actions) (Ok planned) domain_is plan_is is = by (activities actions 0 planned) refl is
   where
     by : (found : Result (List Activity) LiftFault) → activities actions 0 planned ≡ found → source_with (files domain plan) (of_lift found) ≡ Ok made
         → IsSoundSource made
     by (Ok steps) found h =
         let same : files domain plan ≡ made = cc in
         subst IsSoundSource same (files_sound domain plan (ap (source_with (files domain plan)) (lifted-Ok domain plan actions planned domain_is plan_is ∙ ap of_lift found))
-        (domain-short domain actions domain_is) (plan_read plan planned plan_is).short)
+        (domain-short domain actions domain_is) (plan_read plan plan_is).short)
     by (Err fault) found h = cc
 
-bare_sound : (steps : ℕ) (made : PlanSource) (many : Bool) → nat_lt most_steps steps ≡ many → cond many (Err TooMany) (Ok (bare steps)) ≡ Ok made
+bare_sound : (steps : ℕ) {made : PlanSource} {many : Bool} → nat_lt most_steps steps ≡ many → cond many (Err TooMany) (Ok (bare steps)) ≡ Ok made
     → IsSoundSource made
-bare_sound steps made true e h = cc
-bare_sound steps made false e h = let same : bare steps ≡ made = cc in subst IsSoundSource same (sound_bare_source steps (grind (arith, nat_tests)))
+bare_sound steps e h = search (rules, sound_bare_source)
 
 pub base_sound : (source made : PlanSource) → base_of source ≡ Ok made → IsSoundSource made
 unfolding lifted
-base_sound (bare steps) made is = bare_sound steps made (nat_lt most_steps steps) refl is
-base_sound (files domain plan) made is = texts_sound domain plan made (domain_of domain) (plan_of plan) refl refl is
+base_sound source made is = grind (arith, bare_sound, texts_sound)

@@ -1,5 +1,5 @@
 -- How the steps of a text are read one after another.
-use Rattle.std.{proofs.Common.{◌≡◌, ℕ, List, ◌∷◌, ◌++◌, Option, Result, Ok, Err, refl, sym, ap, ◌∙◌, append_assoc}, specs.Option.option_to_list}
+use Rattle.std.{proofs.Common.{rules, ◌≡◌, ℕ, List, ◌∷◌, ◌++◌, Option, Result, Ok, append_assoc}, specs.Option.option_to_list}
 use Rattle.stn_text.specs.Faults.{◌>>=◌}
 use Rattle.stn_lift.specs.{declared.plan.fault.PlanFault.PlanFault, Plan.{Tokens.Lexeme, Steps.{PlannedStep, line_step, steps_of}}}
 
@@ -15,10 +15,4 @@ behind_steps steps meaning = meaning >>= λ found. Ok (steps ++ found)
 pub steps_more : (before after : List PlannedStep) (lines rest : List (ℕ × List ℕ)) (line : ℕ × List ℕ) (found : Option PlannedStep) → lines ≡ line ∷ rest → line_step line ≡ Ok found
     → after ≡ before ++ option_to_list found → behind_steps after (steps_of rest) ≡ behind_steps before (steps_of lines)
 unfolding steps_of
-steps_more before after lines rest line found here is more =
-    by (steps_of rest)
-    ∙ sym (ap (λ all. behind_steps before (steps_of all)) here ∙ ap (λ first. behind_steps before (first >>= λ step. steps_of rest >>= λ steps. Ok (option_to_list step ++ steps))) is)
-  where
-    by : (behind : Result (List PlannedStep) PlanFault) → behind_steps after behind ≡ behind_steps before (behind >>= λ steps. Ok (option_to_list found ++ steps))
-    by (Ok steps) = ap Ok (ap (λ all. all ++ steps) more ∙ append_assoc before (option_to_list found) steps)
-    by (Err fault) = refl
+steps_more before after lines rest line found here is more = search (rules, append_assoc)

@@ -2,8 +2,8 @@
 use Rattle.std.{proofs.{Common.{rules, ◌≡◌, ℕ, ◌+◌, ◌≤◌, List, [], ◌∷◌, ◌++◌, length, Result, Ok, Err, IsOk, refl, ap, subst, arith}, lemmas.Result.{MatchResult-at_ok, MatchResult-at_err, MatchResult-weaker}}, specs.Result.{MatchResult, result_unwrap_or}}
 use Rattle.stn_text.{specs.Faults.{◌>>=◌, Fails}, proofs.Readings.both_give}
 use Rattle.stn_net.specs.Event.{most_steps}
-use Rattle.stn_pddl.specs.{declared.fault.DomainFault.DomainFault, Schemas.ActionSchema, Domains.domain_of}
-use Rattle.stn_lift.{specs.{declared.{plan.fault.PlanFault.PlanFault, fault.LiftFault.{LiftFault, TheVariants.Memory}}, Plan.Steps.{PlannedStep, plan_of}, Activities.{Activity, activity_of, activities, IsFirstRefusedStep, IsLiftCause, is_lift_memory}, PlanSource.{files, of_lift, steps_in, lifted, activities_of, steps_of}}, proofs.PlanFacts.plan_read}
+use Rattle.stn_pddl.specs.{declared.fault.DomainFault.DomainFault, Schemas.ActionSchema}
+use Rattle.stn_lift.{specs.{declared.{plan.fault.PlanFault.PlanFault, fault.LiftFault.{LiftFault}}, Plan.Steps.{PlannedStep}, Activities.{Activity, activity_of, activities, IsFirstRefusedStep, IsLiftCause, is_lift_memory}, PlanSource.{files, of_lift, steps_in, lifted, activities_of, steps_of}}, proofs.PlanFacts.plan_read}
 
 -- the parts of a list of steps of which one is refused
 record Parts (actions : List ActionSchema) (before : ℕ) (steps : List PlannedStep) (fault : LiftFault) : Type 0 where
@@ -59,14 +59,13 @@ length-activities actions before steps found is =
     MatchResult-at_ok (λ (given : List Activity). length given ≡ length steps) (Parts actions before steps) found is (activities_given actions before steps)
 
 -- the fault of the steps is that of the first that is refused
-first_refused : (actions : List ActionSchema) (steps : List PlannedStep) (fault : LiftFault) → activities actions 0 steps ≡ Err fault → IsFirstRefusedStep actions steps fault
-first_refused actions steps fault e =
+first_refused : {actions : List ActionSchema} {steps : List PlannedStep} {fault : LiftFault} → activities actions 0 steps ≡ Err fault → IsFirstRefusedStep actions steps fault
+first_refused {actions} {steps} {fault} e =
     let parts = MatchResult-at_err (λ (found : List Activity). length found ≡ length steps) (Parts actions 0 steps) fault e (activities_given actions 0 steps) in
     search rules
 
 pub cause_of : (actions : List ActionSchema) (steps : List PlannedStep) (fault : LiftFault) → Fails is_lift_memory fault (activities actions 0 steps) → IsLiftCause actions steps fault
-cause_of actions steps Memory is = tt
-cause_of actions steps fault is = first_refused actions steps _ is
+cause_of actions steps fault is = search (rules, first_refused)
 
 -- of a domain and a plan of few enough steps
 few_in : (actions : Result (List ActionSchema) DomainFault) (plan : Result (List PlannedStep) PlanFault)
@@ -82,4 +81,4 @@ few_in (Ok actions) (Ok steps) few = by (activities actions 0 steps) refl
 -- two texts never have too many steps
 pub few_steps : (domain plan : List ℕ) → steps_of (files domain plan) ≤ most_steps
 unfolding lifted activities_of
-few_steps domain plan = few_in (domain_of domain) (plan_of plan) (λ steps is. (plan_read plan steps is).few)
+few_steps domain plan = search (rules, few_in, plan_read)

@@ -1,8 +1,7 @@
 -- The base of two texts, from what their readers and the lifting give.
-use Rattle.std.{proofs.Common.{◌≡◌, ℕ, List, [], Result, Ok, Err, ap, ◌∙◌}, specs.Result.result_unwrap_or}
+use Rattle.std.{proofs.Common.{rules, ◌≡◌, ℕ, List, Result, Ok, Err, ap, ◌∙◌}}
 use Rattle.stn_text.specs.Faults.{Fails}
 use Rattle.stn_pddl.specs.{declared.fault.DomainFault.DomainFault, Schemas.ActionSchema, Domains.domain_of}
-use Rattle.stn_pddl.specs.declared.fault.DomainFault.TheVariants as domain_fault
 use Rattle.stn_pddl.specs.Faults as pddl
 use Rattle.stn_lift.specs.{declared.{plan.fault.PlanFault.PlanFault, fault.{LiftFault.{LiftFault, TheVariants.Memory}, BaseFault.TheVariants.{Domain, Plan, Lift}}}, Plan.Steps.{PlannedStep, plan_of}, Faults.{of_domain, of_plan, of_lifting}, Activities.{Activity, activities}, PlanSource.{PlanSource, files, of_lift, steps_in, lifted, activities_of, source_with, source_with_lifted, base_of, is_base_memory}}
 use Rattle.stn_lift.specs.declared.plan.fault.PlanFault.TheVariants as plan_fault
@@ -14,22 +13,21 @@ module _ (domain plan : List ℕ) where
   pub lifted-Ok : (actions : List ActionSchema) (steps : List PlannedStep) → domain_of domain ≡ Ok actions → plan_of plan ≡ Ok steps
       → lifted domain plan ≡ of_lift (activities actions 0 steps)
   unfolding lifted
-  lifted-Ok actions steps domain_is plan_is = ap (λ r. steps_in r (plan_of plan)) domain_is ∙ ap (steps_in (Ok actions)) plan_is
+  lifted-Ok actions steps domain_is plan_is = cc
 
   -- what they do, where no step has a fault
   pub texts_lifted : (actions : List ActionSchema) (steps : List PlannedStep) (found : List Activity) → domain_of domain ≡ Ok actions → plan_of plan ≡ Ok steps
       → activities actions 0 steps ≡ Ok found → activities_of domain plan ≡ found
   unfolding activities_of
-  texts_lifted actions steps found domain_is plan_is is = ap (λ r. result_unwrap_or r []) (lifted-Ok actions steps domain_is plan_is ∙ ap of_lift is)
+  texts_lifted actions steps found domain_is plan_is is = cc (lifted-Ok actions steps domain_is plan_is)
 
   -- a domain with a fault
   refused_at_domain : (fault : DomainFault) → domain_of domain ≡ Err fault → base_of (files domain plan) ≡ Err (Domain fault)
   unfolding lifted
-  refused_at_domain fault is = ap (λ r. source_with (files domain plan) (steps_in r (plan_of plan))) is
+  refused_at_domain fault is = cc
 
   pub domain_refused : (fault : DomainFault) → Fails pddl.is_memory fault (domain_of domain) → Fails is_base_memory (of_domain fault) (base_of (files domain plan))
-  domain_refused domain_fault.Memory h = tt
-  domain_refused fault h = refused_at_domain _ h
+  domain_refused fault h = search (rules, refused_at_domain)
 
   module _ (actions : List ActionSchema) (domain_is : domain_of domain ≡ Ok actions) where
     -- a plan with a fault
@@ -44,9 +42,9 @@ module _ (domain plan : List ℕ) where
     plan_refused fault h = refused_at_plan _ h
 
     -- a step with a fault
-    pub steps_refused : (steps : List PlannedStep) (other : PlanSource) (fault : LiftFault) → plan_of plan ≡ Ok steps
+    pub steps_refused : {steps : List PlannedStep} (other : PlanSource) (fault : LiftFault) → plan_of plan ≡ Ok steps
         → Fails lifting.is_lift_memory fault (source_with_lifted other (activities actions 0 steps)) → Fails is_base_memory (of_lifting fault) (base_of (files domain plan))
-    steps_refused steps other fault plan_is h = rw (lifted-Ok actions steps domain_is plan_is) (by fault (activities actions 0 steps) h)
+    steps_refused {steps} other fault plan_is h = rw (lifted-Ok actions steps domain_is plan_is) (by fault (activities actions 0 steps) h)
       where
         refused : (fault : LiftFault) (found : Result (List Activity) LiftFault) → source_with_lifted other found ≡ Err fault
             → source_with (files domain plan) (of_lift found) ≡ Err (Lift fault)

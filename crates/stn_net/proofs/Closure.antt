@@ -1,4 +1,4 @@
-use Rattle.std.{proofs.{lemmas.{Grind.common_steps, Int.{ints, clamps}, List.Elements.{All-push, All-pop}}, Common.{rules, ◌≡◌, ℕ, ℤ, pos, ◌≤◌, ◌+ℤ◌, ◌-ℤ◌, ◌≤ℤ◌, neg_ℤ, List, [], ◌∷◌, ◌++◌, get_or, Some, sym, refl, subst, arith}}, specs.Prelude.All}
+use Rattle.std.{proofs.{lemmas.{Grind.common_steps, Int.{ints, clamps}, List.Elements.All-push}, Common.{rules, ◌≡◌, ℕ, ℤ, pos, ◌≤◌, ◌+ℤ◌, ◌-ℤ◌, ◌≤ℤ◌, neg_ℤ, List, [], ◌∷◌, ◌++◌, get_or, sym, subst, arith}}, specs.Prelude.All}
 use Rattle.stn_time.{specs.Time.horizon, proofs.Each.All-left}
 use Rattle.stn_net.{specs.{Difference.{Difference, NamesEvents}, Schedule.{IsSchedule, HasSchedule, Meets}, Matrix.{Table.{Table, far_of}, Tightest.IsExact, Closed.{IsShortest, IsClosed}, Way.{shorter, narrower, IsImplied, HasRoom}}}, proofs.Tightest.{IsTight, tight_from_exact, exact_from_tight}}
 
@@ -21,7 +21,7 @@ shorter-shortest events far u v w shortest us vs round = record {
 -- and a closed square closed
 pub shorter-closed : (events : ℕ) (far : ℕ → ℕ → ℤ) (u v : ℕ) (w : ℤ) → IsClosed events far → u ≤ events → v ≤ events → pos 0 ≤ℤ (far v u +ℤ w)
     → IsClosed events (shorter far u v w)
-shorter-closed events far u v w closed us vs round = search (rules, ints, clamps, shorter-shortest, closed.shortest, closed.most)
+shorter-closed events far u v w closed us vs round = search (rules, ints, shorter-shortest)
 
 -- nor does a row whose way to the link's end is no shorter by the link
 pub shorter-kept_row : (events : ℕ) (far : ℕ → ℕ → ℤ) (u v : ℕ) (w : ℤ) → IsClosed events far → v ≤ events
@@ -42,21 +42,21 @@ narrower-shortest events far b shortest named ordered room = search (rules, shor
 
 pub narrower-closed : (events : ℕ) (far : ℕ → ℕ → ℤ) (b : Difference) → IsClosed events far → NamesEvents events b → b.lo ≤ℤ b.hi → HasRoom far b
     → IsClosed events (narrower far b)
-narrower-closed events far b closed named ordered room = search (rules, ints, clamps, narrower-shortest, closed.shortest, closed.most)
+narrower-closed events far b closed named ordered room = search (rules, ints, narrower-shortest)
 
 -- a schedule of a longer list is one of its front, and meets the last bound
 pub schedule_before : (bounds more : List Difference) (time : ℕ → ℤ) → IsSchedule (bounds ++ more) time → IsSchedule bounds time
-schedule_before bounds more time s = record { origin = s.origin; met = All-left (Meets time) bounds more s.met }
+schedule_before bounds more time s = search (rules, All-left)
 
 pub schedule_last : (bounds : List Difference) (b : Difference) (time : ℕ → ℤ) → IsSchedule (bounds ++ b ∷ []) time → Meets time b
-schedule_last bounds b time s = (All-pop (Meets time) (bounds ++ b ∷ []) bounds (Some b) refl s.met).1
+schedule_last bounds b time s = grind (arith, common_steps)
 
 -- equal entries are alike
 pub shortest_same : (events : ℕ) (far other : ℕ → ℕ → ℤ) → ((x y : ℕ) → x ≤ events → y ≤ events → other x y ≡ far x y) → IsShortest events far → IsShortest events other
 shortest_same events far other same shortest = grind (arith)
 
 pub closed_same : (events : ℕ) (far other : ℕ → ℕ → ℤ) → ((x y : ℕ) → x ≤ events → y ≤ events → other x y ≡ far x y) → IsClosed events far → IsClosed events other
-closed_same events far other same closed = record { shortest = shortest_same events far other same closed.shortest; most = grind (arith) }
+closed_same events far other same closed = search rules
 
 pub tight_same : (bounds : List Difference) (events : ℕ) (far other : ℕ → ℕ → ℤ) → All (NamesEvents events) bounds
     → ((x y : ℕ) → x ≤ events → y ≤ events → other x y ≡ far x y) → IsTight bounds events far → IsTight bounds events other
@@ -84,7 +84,7 @@ narrower_at_most : (far : ℕ → ℕ → ℤ) (b : Difference) (x y : ℕ) → 
 narrower_at_most far b x y = omega (arith, ints, clamps)
 
 narrower_implied : (events : ℕ) (far : ℕ → ℕ → ℤ) (b : Difference) → IsShortest events far → NamesEvents events b → IsImplied (narrower far b) b
-narrower_implied events far b shortest named = record { upper = grind (arith, common_steps); lower = grind (arith, common_steps) }
+narrower_implied events far b shortest named = search rules
 
 -- a tight square is tight for one more bound by way of its links
 pub narrower-tight : (bounds : List Difference) (events : ℕ) (far : ℕ → ℕ → ℤ) (b : Difference) → IsShortest events far → NamesEvents events b

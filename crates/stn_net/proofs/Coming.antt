@@ -1,11 +1,10 @@
-use Rattle.std.{proofs.{lemmas.{Grind.common_steps, Bool.{cases_lt, false≢true}, Int.{ints, by_lt_z}}, Common.{rules, ◌≡◌, ℕ, ℤ, ◌+◌, ◌<◌, ◌≤◌, ◌≤ℤ◌, ◌<ℤ◌, ◌↔◌, Bool, true, false, List, length, Option, Some, None, refl, arith}}, specs.Prelude.{int_le, is_none, IfSome, IfNone}}
+use Rattle.std.{proofs.{lemmas.Int.{ints, by_lt_z}, Common.{rules, ◌≡◌, ℕ, ℤ, ◌+◌, ◌<◌, ◌≤◌, ◌↔◌, Bool, true, List, length, Option, arith}}, specs.Prelude.{is_none, IfSome, IfNone}}
 use Rattle.stn_net.{specs.{Difference.Difference, Matrix.{Table.{Table, far_of}, Tightest.IsExact}, Windows.{Dispatch.{IsLeft, IsFirstReady, ComesFirst}, Leading.{earliest, MayLead, NonePast, CanLead, IsFirstPast, IsLeastLeader, IsEarliestBelow, IsEarliestSoFar, earlier_of}}}, proofs.{Tightest.shortest_from_exact, Readiness.{left_within, ready_now, ready_can_lead}}}
 
 -- a look for the first event whose latest time has passed finds none exactly where none has
 pub past_told : (latest : ℕ → ℤ) (done : List Bool) (time : ℤ) (found : Option ℕ) → IfSome found (IsFirstPast latest done time) → IfNone found (NonePast latest done time)
     → (is_none found ≡ true) ↔ NonePast latest done time
-past_told latest done time None past none = (λ yes. none, λ is. refl)
-past_told latest done time (Some event) past none = (λ yes. absurd (false≢true yes), λ is. (let late = is event past.left in absurd (omega (arith, ints, past.past))))
+past_told latest done time found past none = search rules
 
 -- the least event that can lead runs first, now
 pub leader_is_first : (bounds : List Difference) (table : Table) (done : List Bool) (now : ℤ) (run : ℤ × ℕ) → IsExact bounds table → length done ≡ table.events + 1
@@ -47,40 +46,20 @@ earliest_is_first bounds table done now run exact one_each none first =
           (omega (arith, ints, sooner.0), λ same. sooner.1 (omega (arith, ints, sooner.0)));
     }
 
--- the earlier of two runs is the first where its time is no later
-earlier_keeps : (run other : ℤ × ℕ) → run.0 ≤ℤ other.0 → earlier_of (Some run) other ≡ run
-earlier_keeps run other no_later = let test : int_le run.0 other.0 ≡ true = grind (arith, ints) in rw test refl
-
-earlier_takes : (run other : ℤ × ℕ) → other.0 <ℤ run.0 → earlier_of (Some run) other ≡ other
-earlier_takes run other before = let test : int_le run.0 other.0 ≡ false = grind (arith, ints) in rw test refl
-
--- where no event below a number is left, one of that number is the first below the next
-first_of_all : (times : ℕ → ℤ) (done : List Bool) (number event : ℕ) (time : ℤ) → event ≡ number → IsLeft done event → time ≡ times event
-    → ((other : ℕ) → other < number → ¬ IsLeft done other) → IsEarliestBelow times done (number + 1) (time, event)
-first_of_all times done number event time same left at none = grind (arith, cases_lt)
-
 -- a run that is the first below a number is the first below the next, where it comes before an event of that number that is left
 one_further : (times : ℕ → ℤ) (done : List Bool) (number : ℕ) (run : ℤ × ℕ) → IsEarliestBelow times done number run
     → (IsLeft done number → ComesFirst run.0 run.1 (times number) number) → IsEarliestBelow times done (number + 1) run
-one_further times done number run first next = grind (arith, cases_lt)
-
--- it stays the first, where the event of that number is no earlier
-first_stays : (times : ℕ → ℤ) (done : List Bool) (number event : ℕ) (run : ℤ × ℕ) (time : ℤ) → event ≡ number → time ≡ times event
-    → IsEarliestBelow times done number run → run.0 ≤ℤ time → IsEarliestBelow times done (number + 1) run
-first_stays times done number event run time same at first no_later = search rules
+one_further times done number run first next = grind (arith)
 
 -- a look at one more event that is left: the earlier of the two runs comes first among those so far
 pub one_more_run : (times : ℕ → ℤ) (done : List Bool) (number event : ℕ) (first : Option (ℤ × ℕ)) (time : ℤ) → event ≡ number → IsLeft done event → time ≡ times event
     → IsEarliestSoFar times done number first → IsEarliestBelow times done (number + 1) (earlier_of first (time, event))
-one_more_run times done number event None time same left at none = first_of_all times done number event time same left at none
-one_more_run times done number event (Some run) time same left at first =
-    grind (arith, common_steps, by_lt_z, earlier_takes, earlier_keeps, first_stays)
+one_more_run times done number event first time same left at none = search rules
 
 -- a look at one more event that is not left changes nothing
 pub same_first : (times : ℕ → ℤ) (done : List Bool) (number event : ℕ) (first : Option (ℤ × ℕ)) → event ≡ number → ¬ IsLeft done event
     → IsEarliestSoFar times done number first → IsEarliestSoFar times done (number + 1) first
-same_first times done number event None same not_left none = grind (arith, cases_lt)
-same_first times done number event (Some run) same not_left first = one_further times done number run first (λ is_left. absurd (not_left (rw same is_left)))
+same_first times done number event first same not_left none = search rules
 
 -- no event below the next number can lead, where none below the number can and that of the number can't
 pub one_more_behind : (far : ℕ → ℕ → ℤ) (done : List Bool) (now : ℤ) (number event : ℕ) → event ≡ number → ¬ CanLead far done now event

@@ -1,5 +1,5 @@
 -- The earliest and the latest times of a plan's events.
-use Rattle.std.{proofs.{Common.{◌≡◌, ℕ, ℤ, ◌+◌, ◌≤◌, ◌<ℤ◌, ◌≤ℤ◌, ◌↔◌, ◌⊎◌, inl, inr, neg_ℤ, Bool, List, length, get_or, arith}, lemmas.Int.{ints, by_lt_z}}, specs.Prelude.All}
+use Rattle.std.{proofs.{Common.{rules, ◌≡◌, ℕ, ℤ, ◌+◌, ◌≤◌, ◌<ℤ◌, ◌≤ℤ◌, ◌↔◌, ◌⊎◌, inl, inr, neg_ℤ, Bool, List, length, get_or, arith}, lemmas.Int.{ints, by_lt_z}}, specs.Prelude.All}
 use Rattle.stn_net.{specs.{Difference.{Difference, NamesEvents}, Schedule.IsSchedule, Matrix.{Table.{Table, far_of}, Tightest.{IsTightest, IsExact}}, Windows.{Window.IsInWindow, Dispatch.{IsLeft, HasTimeFrom, IsOverdue, CanWaitUntil}, Leading.{NonePast, IsFirstPast}, Soonest.{AreEarliest, AreLatest}}}, proofs.Readiness.left_within}
 
 -- how far the origin comes after each event at the most gives the earliest times
@@ -50,7 +50,7 @@ extreme_schedule bounds events times named taken side = record {
 }
 
 pub earliest_schedule : (bounds : List Difference) (events : ℕ) (times : ℕ → ℤ) → All (NamesEvents events) bounds → AreEarliest bounds events times → IsSchedule bounds times
-earliest_schedule bounds events times named are = extreme_schedule bounds events times named are.taken (inl are.least)
+earliest_schedule bounds events times named are = search (rules, extreme_schedule)
 
 pub latest_schedule : (bounds : List Difference) (events : ℕ) (times : ℕ → ℤ) → All (NamesEvents events) bounds → AreLatest bounds events times → IsSchedule bounds times
 latest_schedule bounds events times named are = extreme_schedule bounds events times named are.taken (inr are.most)
@@ -58,7 +58,7 @@ latest_schedule bounds events times named are = extreme_schedule bounds events t
 module _ (bounds : List Difference) (events : ℕ) (latest : ℕ → ℤ) (done : List Bool) (are : AreLatest bounds events latest) (one_each : length done ≡ events + 1) where
   -- an event that is left is one of the plan's
   within : (event : ℕ) → IsLeft done event → event ≤ events
-  within event left = omega (arith, left_within done event left)
+  within event left = search (rules, left_within)
 
   -- where the plan can wait, no latest time has passed
   pub waits_none_past : (now : ℤ) → CanWaitUntil bounds done now → NonePast latest done now
@@ -69,7 +69,7 @@ module _ (bounds : List Difference) (events : ℕ) (latest : ℕ → ℤ) (done 
 
   -- where none has, it can
   pub none_past_waits : (now : ℤ) → All (NamesEvents events) bounds → NonePast latest done now → CanWaitUntil bounds done now
-  none_past_waits now named none = (latest, latest_schedule bounds events latest named are, none)
+  none_past_waits now named none = search (rules, latest_schedule)
 
   -- an event whose latest time comes before now takes no time from now on, and no other does
   past_without_time : (now : ℤ) (event : ℕ) → IsLeft done event → (latest event <ℤ now) ↔ (¬ HasTimeFrom bounds now event)

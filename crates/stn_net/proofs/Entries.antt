@@ -1,10 +1,10 @@
-use Rattle.std.{proofs.{lemmas.{Grind.common_steps, Int.{ints, clamps}, Bool.{cases_eq, cases_lt}, Nat.{mul-add-lt, same_from_place}, List.{get_or_default, Elements.{All-push, Contains-push, Contains-append_left}}}, Common.{rules, ◌≡◌, ◌≢◌, ℕ, ℤ, pos, ◌+◌, ◌*◌, ◌<◌, ◌≤◌, ◌+ℤ◌, ◌≤ℤ◌, ◌<ℤ◌, ◌⊎◌, inl, inr, List, [], ◌∷◌, ◌++◌, length, set, refl, sym, ◌∙◌, arith, get_or-set_same, get_or-set_other}}, specs.{Prelude.{All, Contains, slice_index_or}, Int.int_min}}
+use Rattle.std.{proofs.{lemmas.{Int.{ints, clamps}, Bool.{cases_eq, cases_lt}, Nat.same_from_place, List.{get_or_default, Elements.{All-push, Contains-push, Contains-append_left}}}, Common.{rules, ◌≡◌, ◌≢◌, ℕ, ℤ, pos, ◌+◌, ◌*◌, ◌<◌, ◌≤◌, ◌+ℤ◌, ◌≤ℤ◌, ◌<ℤ◌, ◌⊎◌, inl, inr, List, [], ◌∷◌, ◌++◌, length, set, refl, sym, ◌∙◌, arith, get_or-set_same, get_or-set_other}}, specs.{Prelude.{All, Contains, slice_index_or}, Int.int_min}}
 use Rattle.stn_time.specs.Time.{horizon}
 use Rattle.stn_net.{specs.Matrix.{Closed.IsClosed, Table.{Square, entry}, Way.{IsWholeSquare, shorter, IsWithinTwoHorizons, AreNearer, AreRunsOf, IsWrittenEntry, IsRowShortened}}, proofs.Closure.shorter-kept_row}
 
 -- the place of an entry lies in the square
 pub place_within : (events row column : ℕ) → row ≤ events → column ≤ events → row * (events + 1) + column < (events + 1) * (events + 1)
-place_within events row column rs cs = mul-add-lt row (events + 1) column (events + 1) (omega arith) (omega arith)
+place_within events row column rs cs = search rules
 
 -- a write at the place of an entry is a write of this entry alone
 pub written-set : (square : Square) (row column : ℕ) (value : ℤ) → IsWholeSquare square → row ≤ square.events → column ≤ square.events
@@ -75,12 +75,12 @@ pub shortened_columns : (size : ℕ) (old new onward : ℕ → ℤ) (through : �
     → AreShortened size old new onward through columns place → length columns ≤ place
     → ((y : ℕ) → y < size → Contains columns y ⊎ (old y ≤ℤ (through +ℤ onward y)))
     → (y : ℕ) → y < size → new y ≡ int_min (old y) (through +ℤ onward y)
-shortened_columns size old new onward through columns place so_far all left_out y ys = search (rules, get_or_default, ints)
+shortened_columns size old new onward through columns place so_far all left_out y ys = search (rules, get_or_default)
 
 -- a column that comes no nearer is left out
 pub nearer_skip : (events : ℕ) (far : ℕ → ℕ → ℤ) (u v : ℕ) (w : ℤ) (columns : List ℕ) (column : ℕ) → AreNearer events far u v w columns column
     → far u column ≤ℤ (w +ℤ far v column) → AreNearer events far u v w columns (column + 1)
-nearer_skip events far u v w columns column so_far longer = grind (arith, cases_eq)
+nearer_skip events far u v w columns column so_far longer = grind (arith)
 
 -- the others are listed
 pub nearer_more : (events : ℕ) (far : ℕ → ℕ → ℤ) (u v : ℕ) (w : ℤ) (columns : List ℕ) (column : ℕ) → AreNearer events far u v w columns column
@@ -108,7 +108,7 @@ pub record IsShortenedTo (events : ℕ) (old new : ℕ → ℕ → ℤ) (u v : �
 -- the row that the link leads to is as it was all the while
 pub shortened-own_row : (events : ℕ) (old new : ℕ → ℕ → ℤ) (u v : ℕ) (w : ℤ) (row : ℕ) → IsShortenedTo events old new u v w row
     → (y : ℕ) → y ≤ events → new v y ≡ old v y
-shortened-own_row events old new u v w row so_far y ys = (let to = so_far.to in grind (arith, common_steps, cases_lt))
+shortened-own_row events old new u v w row so_far y ys = search rules
 
 -- the row as it was
 pub shortened_skip : (events : ℕ) (old new : ℕ → ℕ → ℤ) (u v : ℕ) (w : ℤ) (row : ℕ) → IsShortenedTo events old new u v w row

@@ -1,4 +1,5 @@
-use Rattle.std.proofs.{Common.{◌≡◌, ℕ, ◌≤◌, zero, suc, List, [], ◌∷◌, ◌++◌, length, take, refl, ap, ◌∙◌, arith, length-append}, lemmas.List.{length-take, take-append-le}}
+use Rattle.std.proofs.lemmas.Grind.{common_steps}
+use Rattle.std.proofs.{Common.{rules, ◌≡◌, ℕ, ◌≤◌, zero, suc, List, [], ◌∷◌, ◌++◌, length, take, refl, arith, length-append}, lemmas.List.take-append-le}
 use Rattle.stn_net.specs.{Difference.Difference, Horizon.{horizon_bound, horizon_bounds}}
 
 -- there is one horizon bound for each event
@@ -9,8 +10,8 @@ length-horizon_bounds (suc events) = omega (arith, length-append (horizon_bounds
 
 -- bounds that begin with the horizon bounds are no fewer than the events
 pub known_within : (events : ℕ) (base : List Difference) → take events base ≡ horizon_bounds events → events ≤ length base
-known_within events base begins = omega (arith, ap length begins, length-take events base, length-horizon_bounds events)
+known_within events base begins = grind (arith, common_steps, length-horizon_bounds)
 
 -- with more bounds after them they still begin so
 pub known_first : (events : ℕ) (base extra : List Difference) → take events base ≡ horizon_bounds events → take events (base ++ extra) ≡ horizon_bounds events
-known_first events base extra begins = take-append-le events base extra (known_within events base begins) ∙ begins
+known_first events base extra begins = search (rules, take-append-le, known_within)

@@ -1,4 +1,4 @@
-use Rattle.std.{proofs.{Common.{◌≡◌, ℕ, ℤ, true, Bool, List, [], ◌∷◌, ◌++◌, refl, sym, arith}, lemmas.Int.ints}, specs.Prelude.slice_set}
+use Rattle.std.{proofs.{Common.{rules, ◌≡◌, ℕ, ℤ, true, Bool, List, [], ◌∷◌, ◌++◌, refl, sym, arith}, lemmas.Int.ints}, specs.Prelude.slice_set}
 use Rattle.stn_net.specs.{Difference.Difference, declared.windows.answers.Next.{Next, TheVariants.{Run, AllDone, Overdue}}, Windows.{Dispatch.{IsFirstReady, IsOverdue, IsNext}, Rehearsal.{fixed_at, IsRehearsal}}}
 
 -- two runs that both come first are one
@@ -14,13 +14,13 @@ one_first bounds done now time other_time event other these those =
 pub one_next : (bounds : List Difference) (done : List Bool) (now : ℤ) (one other : Next) → IsNext bounds done now one → IsNext bounds done now other → one ≡ other
 one_next bounds done now (Run time event) (Run other_time other) p q = let same = one_first bounds done now time other_time event other p q in rw (same.0, same.1) refl
 one_next bounds done now (Run time event) AllDone p q = absurd (q event p.ready.left)
-one_next bounds done now (Run time event) (Overdue other) p q = absurd (q.none time event p.later p.ready)
+one_next bounds done now (Run time event) (Overdue other) p q = search rules
 one_next bounds done now AllDone (Run time event) p q = absurd (p event q.ready.left)
 one_next bounds done now AllDone AllDone p q = refl
 one_next bounds done now AllDone (Overdue other) p q = absurd (p other q.left)
-one_next bounds done now (Overdue event) (Run time other) p q = absurd (p.none time other q.later q.ready)
+one_next bounds done now (Overdue event) (Run time other) p q = search rules
 one_next bounds done now (Overdue event) AllDone p q = absurd (q event p.left)
-one_next bounds done now (Overdue event) (Overdue other) p q = let same : event ≡ other = omega (arith, p.least other q.left q.past, q.least event p.left p.past) in rw same refl
+one_next bounds done now (Overdue event) (Overdue other) p q = search rules
 
 -- a plan has one rehearsal
 pub one_rehearsal : (one other : List (ℤ × ℕ)) (bounds : List Difference) (done : List Bool) (now : ℤ) → IsRehearsal bounds done now one → IsRehearsal bounds done now other → one ≡ other
@@ -37,4 +37,4 @@ one_rehearsal (run ∷ runs) (other ∷ others) bounds done now p q =
 -- no event is overdue in a plan that has a rehearsal
 pub none_overdue : (bounds : List Difference) (done : List Bool) (now : ℤ) (runs : List (ℤ × ℕ)) (event : ℕ) → IsRehearsal bounds done now runs → ¬ IsOverdue bounds done now event
 none_overdue bounds done now [] event rehearsal overdue = rehearsal event overdue.left
-none_overdue bounds done now (run ∷ runs) event rehearsal overdue = overdue.none run.0 run.1 rehearsal.0.later rehearsal.0.ready
+none_overdue bounds done now (run ∷ runs) event rehearsal overdue = search rules

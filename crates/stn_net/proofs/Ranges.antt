@@ -5,7 +5,7 @@ use Rattle.stn_net.specs.{Difference.Difference, Schedule.{Meets, HasSchedule}, 
 -- of all times between two there is one pair, where there is any time
 pub one_pair : (P : ℤ → Type 0) (some least greatest first last : ℤ) → P some → ((time : ℤ) → P time ↔ ((least ≤ℤ time) × (time ≤ℤ greatest)))
     → ((time : ℤ) → P time ↔ ((first ≤ℤ time) × (time ≤ℤ last))) → (least ≡ first) × (greatest ≡ last)
-one_pair P some least greatest first last is these those = search (rules, ints)
+one_pair P some least greatest first last is these those = search (rules)
 
 -- a range has one pair of ends, where there is a schedule
 pub one_range : (bounds : List Difference) (from to : ℕ) (least greatest first last : ℤ) → HasSchedule bounds

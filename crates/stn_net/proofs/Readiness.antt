@@ -1,9 +1,9 @@
-use Rattle.std.{proofs.{Common.{◌≡◌, ℕ, ℤ, ◌+◌, ◌<◌, ◌≤◌, ◌+ℤ◌, ◌-ℤ◌, Bool, true, List, length, sym, ◌∙◌, inl, inr, arith}, lemmas.{Int.{ints, clamps}, Bool.{false≢true, cases_lt}, List.get_or_past}}, specs.Int.int_min}
+use Rattle.std.{proofs.{Common.{rules, ◌≡◌, ℕ, ℤ, ◌+◌, ◌<◌, ◌≤◌, ◌+ℤ◌, ◌-ℤ◌, Bool, List, length, arith}, lemmas.{Int.{ints, clamps}, Bool.cases_lt, List.get_or_past}}, specs.Int.int_min}
 use Rattle.stn_net.{specs.{Difference.Difference, Matrix.{Table.{Table, far_of}, Tightest.IsExact}, Windows.{Dispatch.{IsLeft, IsReady}, Leading.{NonePast, CanLead}}}, proofs.{Tightest.{exact_row, shortest_from_exact}, WindowEnds.lesser_schedule}}
 
 -- an event that is left has a test in the list
 pub left_within : (done : List Bool) (event : ℕ) → IsLeft done event → event < length done
-left_within done event left = elim (cases_lt event (length done)) [ inl lt ↦ lt | inr ge ↦ absurd (false≢true (sym left.1 ∙ get_or_past done event true ge)) ]
+left_within done event left = search (rules, cases_lt, get_or_past)
 
 -- an event that is left, whose earliest time has come, that leads, and before which no other has to run, is ready
 pub ready_now : (bounds : List Difference) (table : Table) (done : List Bool) (event : ℕ) (time : ℤ) → IsExact bounds table → length done ≡ table.events + 1

@@ -1,14 +1,10 @@
 -- The times at which an event may run.
-use Rattle.std.{proofs.{Common.{◌≡◌, inl, inr, ℕ, ℤ, ◌+◌, ◌≤ℤ◌, ◌<ℤ◌, ◌↔◌, Bool, true, false, cond, List, length, Option, Some, None, refl, arith}, lemmas.Int.{ints, by_lt_z}}, specs.Ordering.{ord_max, int_cmp, is_lt}}
+use Rattle.std.{proofs.{Common.{rules, ◌≡◌, inl, inr, ℕ, ℤ, ◌+◌, ◌≤ℤ◌, ◌↔◌, Bool, List, length, Option, Some, None, refl, arith}, lemmas.Int.{ints, by_lt_z}}, specs.Ordering.{ord_max, int_cmp}}
 use Rattle.stn_net.{specs.{Difference.Difference, Matrix.{Table.{Table, far_of}, Tightest.IsExact}, Windows.{Dispatch.{IsLeft, IsReady, AreReadyTimes}, Leading.{earliest, MayLead, IsLeastLatest}}}, proofs.{Readiness.{ready_now, ready_can_lead, ready_none_past}, SomeNext.{AreFlagged, left_told, leads_told, some_least_latest}}}
 
 -- the later of two times comes before whatever both come before
 pub later_of : (early now first time : ℤ) → first ≡ ord_max int_cmp early now → (first ≤ℤ time) ↔ ((early ≤ℤ time) × (now ≤ℤ time))
-later_of early now first time is = by (is_lt (int_cmp now early)) refl is
-  where
-    by : (less : Bool) → is_lt (int_cmp now early) ≡ less → first ≡ cond less early now → (first ≤ℤ time) ↔ ((early ≤ℤ time) × (now ≤ℤ time))
-    by true e same = let below : now <ℤ early = grind (arith, ints) in ((λ h. (omega (arith, ints), omega (arith, ints))), (λ h. let low = h.0 in omega (arith, ints)))
-    by false e same = let below : early ≤ℤ now = grind (arith, ints) in ((λ h. (omega (arith, ints), omega (arith, ints))), (λ h. let low = h.1 in omega (arith, ints)))
+later_of early now first time is = search rules
 
 -- an event that is left and leads may run from its earliest time up to the least of all latest times
 ready_between : (bounds : List Difference) (table : Table) (done : List Bool) (event : ℕ) (last time : ℤ) → IsExact bounds table → length done ≡ table.events + 1

@@ -1,5 +1,5 @@
-use Rattle.std.{proofs.{lemmas.{Grind.common_steps, Int.ints, Bool.{false≢true, Decides.eqb_tells}, List.{Sums.sum_by-cons, Elements.{All-nil, All-cons}}}, Common.{rules, ◌≡◌, ◌≢◌, ℕ, ℤ, true, Bool, List, [], ◌∷◌, ◌++◌, cond, eqb, inl, inr, refl, sym, ap, ◌∙◌, arith, get_or-set_other}}, specs.Prelude.{slice_set, Result, Err, IfErr}}
-use Rattle.stn_net.{specs.{Difference.Difference, Schedule.{IsSchedule, HasSchedule}, Matrix.{Table.Table, Tightest.IsExact}, declared.windows.answers.{Next.{Next, TheVariants.{Run, AllDone, Overdue}}, RehearseFault.{RehearseFault, TheVariants.Memory}}, Windows.{Dispatch.{IsLeft, IsReady, IsOverdue, IsNext, CanWaitUntil}, Rehearsal.{fixed_at, IsRehearsal, NeverFalls, RunsEachOnce, HasScheduleThrough, IsRehearseFault}}}, proofs.Closure.{schedule_before, schedule_last}}
+use Rattle.std.{proofs.{lemmas.{Grind.common_steps, Int.ints, Bool.Decides.eqb_tells, List.{Sums.sum_by-cons, Elements.All-cons}}, Common.{rules, ◌≡◌, ◌≢◌, ℕ, ℤ, true, Bool, List, [], ◌∷◌, ◌++◌, cond, eqb, inl, inr, refl, sym, ap, ◌∙◌, arith}}, specs.Prelude.{slice_set, Result, Err, IfErr}}
+use Rattle.stn_net.{specs.{Difference.Difference, Schedule.{IsSchedule, HasSchedule}, Matrix.{Table.Table, Tightest.IsExact}, declared.windows.answers.{Next.{Next, TheVariants.Overdue}, RehearseFault.{RehearseFault, TheVariants.Memory}}, Windows.{Dispatch.{IsLeft, IsReady, IsOverdue, IsNext, CanWaitUntil}, Rehearsal.{fixed_at, IsRehearsal, NeverFalls, RunsEachOnce, HasScheduleThrough, IsRehearseFault}}}, proofs.Closure.{schedule_before, schedule_last}}
 
 -- a schedule that has the event at the time is one of the bounds and the fixed event
 pub fixed_schedule : (bounds : List Difference) (times : ℕ → ℤ) (time : ℤ) (event : ℕ) → IsSchedule bounds times → times event ≡ time → IsSchedule (bounds ++ fixed_at time event ∷ []) times
@@ -12,11 +12,11 @@ ready_can_be_fixed bounds done time event ready =
 
 -- what is left once an event is done is another event, which was left before
 pub left_before : (done : List Bool) (event other : ℕ) → IsLeft done event → IsLeft (slice_set done event true) other → (other ≢ event) × IsLeft done other
-left_before done event other was_left left = grind (arith, common_steps, false≢true)
+left_before done event other was_left left = grind (arith, common_steps)
 
 -- and another event that was left is left
 pub left_after : (done : List Bool) (event other : ℕ) → IsLeft done other → other ≢ event → IsLeft (slice_set done event true) other
-left_after done event other left differs = (left.0, get_or-set_other done event other true true differs ∙ left.1)
+left_after done event other left differs = search rules
 
 -- once an event has run, none is overdue from its time on
 pub none_overdue_after : (bounds : List Difference) (done : List Bool) (time : ℤ) (event other : ℕ) → IsReady bounds done event time
@@ -31,7 +31,7 @@ none_overdue_after bounds done time event other ready overdue =
 
 -- some schedule has each event of a rehearsal at its time
 pub rehearsed_schedule : (runs : List (ℤ × ℕ)) (bounds : List Difference) (done : List Bool) (now : ℤ) → HasSchedule bounds → IsRehearsal bounds done now runs → HasScheduleThrough bounds runs
-rehearsed_schedule [] bounds done now possible rehearsal = (possible.0, possible.1, All-nil (λ (run : ℤ × ℕ). possible.0 run.1 ≡ run.0))
+rehearsed_schedule [] bounds done now possible rehearsal = search rules
 rehearsed_schedule (run ∷ runs) bounds done now possible rehearsal =
     let rest = rehearsed_schedule runs (bounds ++ fixed_at run.0 run.1 ∷ []) (slice_set done run.1 true) run.0 (ready_can_be_fixed bounds done run.0 run.1 rehearsal.0.ready) rehearsal.1 in
     let times = rest.0 in
@@ -48,14 +48,12 @@ rehearsed_rising (run ∷ runs) bounds done now rehearsal =
 -- where no event is overdue, the plan can wait
 pub can_wait : (bounds : List Difference) (done : List Bool) (now : ℤ) (answer : Next) → HasSchedule bounds → IsNext bounds done now answer
     → ((event : ℕ) → answer ≢ Overdue event) → CanWaitUntil bounds done now
-can_wait bounds done now (Run time event) possible next none = search rules
-can_wait bounds done now AllDone possible next none = (possible.0, possible.1, λ event left. absurd (next event left))
-can_wait bounds done now (Overdue event) possible next none = absurd (none event refl)
+can_wait bounds done now answer possible next none = search rules
 
 -- so can one that has a rehearsal
 pub rehearsed_in_time : (runs : List (ℤ × ℕ)) (bounds : List Difference) (done : List Bool) (now : ℤ) → HasSchedule bounds → IsRehearsal bounds done now runs → CanWaitUntil bounds done now
-rehearsed_in_time [] bounds done now possible rehearsal = can_wait bounds done now AllDone possible rehearsal (λ event is. cc)
-rehearsed_in_time (run ∷ runs) bounds done now possible rehearsal = can_wait bounds done now (Run run.0 run.1) possible rehearsal.0 (λ event is. cc)
+rehearsed_in_time [] bounds done now possible rehearsal = search rules
+rehearsed_in_time (run ∷ runs) bounds done now possible rehearsal = search rules
 
 -- a plan in which an event is overdue can't
 pub overdue_cannot_wait : (bounds : List Difference) (done : List Bool) (now : ℤ) (event : ℕ) → IsOverdue bounds done now event → ¬ CanWaitUntil bounds done now
@@ -69,7 +67,7 @@ runs_at event run = one_or_none (eqb run.1 event)
 
 -- each event that is left runs once in a rehearsal, and no other
 pub rehearsed_once : (runs : List (ℤ × ℕ)) (bounds : List Difference) (done : List Bool) (now : ℤ) → IsRehearsal bounds done now runs → RunsEachOnce done runs
-rehearsed_once [] bounds done now rehearsal = record { left = λ event left. absurd (rehearsal event left); others = λ event not_left. refl }
+rehearsed_once [] bounds done now rehearsal = search rules
 rehearsed_once (run ∷ runs) bounds done now rehearsal =
     let rest = rehearsed_once runs (bounds ++ fixed_at run.0 run.1 ∷ []) (slice_set done run.1 true) run.0 rehearsal.1 in
     let left = rehearsal.0.ready.left in

@@ -9,11 +9,11 @@ met_behind bounds more time s = All-right (Meets time) bounds more s.met
 
 -- a schedule that meets more bounds is one of all
 pub schedule_with : (bounds more : List Difference) (time : ℕ → ℤ) → IsSchedule bounds time → All (Meets time) more → IsSchedule (bounds ++ more) time
-schedule_with bounds more time s met = record { origin = s.origin; met = All-append (Meets time) bounds more s.met met }
+schedule_with bounds more time s met = search (rules, All-append)
 
 -- bounds in another order have the same schedules
 pub schedule_permuted : (these those : List Difference) → IsPermutation these those → (time : ℕ → ℤ) → IsSchedule these time → IsSchedule those time
-schedule_permuted these those moved time s = record { origin = s.origin; met = All-permutation (Meets time) these those moved s.met }
+schedule_permuted these those moved time s = search (rules, All-permutation)
 
 -- a table that is exact for bounds is so for them in another order
 pub exact_permuted : (these those : List Difference) (table : Table) → IsPermutation these those → IsExact these table → IsExact those table

@@ -1,9 +1,9 @@
 -- Something comes next, whichever events are left.
-use Rattle.std.proofs.{Common.{◌≡◌, ◌⊎◌, inl, inr, ℕ, ℤ, zero, suc, pos, ◌+◌, ◌<◌, ◌≤◌, ◌<ℤ◌, Bool, true, false, List, length, get_or, Option, Some, None, refl, sym, arith}, lemmas.{Bool.cases_lt, Int.{ints, by_lt_z}}}
-use Rattle.stn_net.{specs.{Difference.Difference, Matrix.{Table.{Table, far_of}, Tightest.IsExact}, declared.windows.answers.Next.{Next, TheVariants.{Run, AllDone, Overdue}}, Windows.{Dispatch.{IsLeft, IsNext}, Leading.{earliest, MayLead, NonePast, CanLead, IsFirstPast, IsLeastLatest, IsLeastLeader, IsEarliestSoFar, earlier_of}}}, proofs.{Told.{Told, both_told, less_told, below_told, false_told, least_below}, Readiness.left_within, Ends.{latest_of_exact, past_is_overdue}, Coming.{leader_is_first, earliest_is_first, one_more_run, same_first}}}
+use Rattle.std.proofs.{Common.{rules, ◌≡◌, ◌⊎◌, inl, inr, ℕ, ℤ, zero, suc, pos, ◌+◌, ◌<◌, ◌≤◌, ◌<ℤ◌, Bool, List, length, Option, Some, None, refl, sym, arith}, lemmas.{Bool.cases_lt, Int.{ints, by_lt_z}}}
+use Rattle.stn_net.{specs.{Difference.Difference, Matrix.{Table.{Table, far_of}, Tightest.IsExact}, declared.windows.answers.Next.{Next, TheVariants.{Run, AllDone, Overdue}}, Windows.{Dispatch.{IsLeft, IsNext}, Leading.{earliest, MayLead, NonePast, CanLead, IsFirstPast, IsLeastLatest, IsLeastLeader, IsEarliestSoFar, earlier_of}}}, proofs.{Told.{Told, both_told, less_told, least_below}, Readiness.left_within, Ends.{latest_of_exact, past_is_overdue}, Coming.{leader_is_first, earliest_is_first, one_more_run, same_first}}}
 
 pub left_told : (done : List Bool) (event : ℕ) → Told (IsLeft done event)
-left_told done event = both_told (0 < event) (get_or done event true ≡ false) (below_told 0 event) (false_told (get_or done event true))
+left_told done event = search rules
 
 module _ (done : List Bool) where
   -- the least of some events that are all left, or none
@@ -53,7 +53,7 @@ module _ (done : List Bool) where
 
   -- the first of the events with numbers below the limit, by these times, or none
   some_earliest : (times : ℕ → ℤ) (limit : ℕ) → (first : Option (ℤ × ℕ)) × IsEarliestSoFar times done limit first
-  some_earliest times zero = (None, λ event below. absurd (omega arith))
+  some_earliest times zero = search rules
   some_earliest times (suc event) =
       let (first, so_far) = some_earliest times event in
       let e : event + 1 ≡ suc event = omega arith in

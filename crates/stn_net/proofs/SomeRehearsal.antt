@@ -1,4 +1,5 @@
 -- The rest of a plan can be rehearsed, or an event is overdue.
+use Rattle.std.proofs.lemmas.Grind.{common_steps}
 use Rattle.std.{proofs.{Common.{rules, ◌≡◌, ◌≢◌, ◌⊎◌, inl, inr, ℕ, ℤ, zero, suc, ◌+◌, ◌≤◌, Bool, true, not, List, [], ◌∷◌, ◌++◌, refl, subst, arith, length-set}, lemmas.List.Sums.sum_by-set}, specs.Prelude.{count_by, slice_set}}
 use Rattle.stn_net.{specs.{Difference.Difference, Matrix.Table.Table, declared.windows.answers.Next.{Next, TheVariants.{Run, AllDone, Overdue}}, Windows.{Dispatch.{IsLeft, IsNext}, Rehearsal.{fixed_at, IsRehearsal, IsRehearseFault}}}, proofs.{Readiness.left_within, Rehearsals.{ready_can_be_fixed, none_overdue_after, overdue_cannot_wait}, Fixed.exact_fixed, SomeNext.{AreFlagged, some_next}}}
 use Rattle.stn_net.specs.declared.windows.answers.RehearseFault.TheVariants as fault
@@ -17,7 +18,7 @@ some_rehearsal : (left : ℕ) (bounds : List Difference) (table : Table) (done :
     → AreUnderWay bounds table done now answer → (runs : List (ℤ × ℕ)) × IsRehearsal bounds done now runs
 some_rehearsal left bounds table done now AllDone few are = ([], are.next)
 some_rehearsal left bounds table done now (Overdue event) few are = absurd (are.in_time event refl)
-some_rehearsal zero bounds table done now (Run time event) few are = absurd (omega (arith, one_fewer done event are.next.ready.left))
+some_rehearsal zero bounds table done now (Run time event) few are = grind (arith, common_steps)
 some_rehearsal (suc left) bounds table done now (Run time event) few are =
     let ready = are.next.ready in
     let (other, same, exact) = exact_fixed bounds table time event are.flagged.exact (omega (arith, left_within done event ready.left, are.flagged.one_each)) (ready_can_be_fixed bounds done time event ready) in

@@ -1,12 +1,12 @@
 -- What the soonest times say of what comes next, of the rest of a plan, and of when an event may run.
-use Rattle.std.{proofs.{lemmas.{Int.{ints, clamps}, Bool.{cases_eq, cases_lt, eq-eqb, ne_eqb, false≢true}, Cmp.{nat_cmp_total, int_cmp_total, on_total, then_total}, List.{Sorted.{sorted_far, ranks_by, All-permutation, sum_by-IsPermutation}, Elements.{All-append, All-contains, All-contains_itself, All-filter, All-push, Contains-append_left, Contains-push, filter_passes}, Sums.{length-filter, get_or-le-sum_by, sum_by-cons, sum_by_push}}}, Common.{rules, ◌≡◌, ◌≢◌, inl, inr, ℕ, ℤ, pos, zero, suc, ◌+◌, ◌<◌, ◌≤◌, ◌+ℤ◌, ◌-ℤ◌, ◌≤ℤ◌, ◌<ℤ◌, ◌↔◌, Bool, true, false, eqb, eqb-true, List, [], ◌∷◌, ◌++◌, length, get_or, Ordering, Less, Equal, Greater, refl, sym, ap, subst, ◌∙◌, arith}}, specs.{Prelude.{All, Option, Some, None, slice_set, count_by, MatchOption}, List.{AllPairs, Contains, filter, Sorted.{IsSorted, IsPermutation}}, Int.{int_min, int_max}, Ordering.{ord_max, int_cmp, nat_cmp, is_lt, ordering_then, MatchOrdering}, Cmp.{IsTotalOrder, ranks, int_ranks}}}
+use Rattle.std.{proofs.{lemmas.{Int.{ints, clamps}, Bool.{cases_eq, cases_lt, eq-eqb, ne_eqb}, List.{Sorted.{sorted_far, ranks_by, All-permutation, sum_by-IsPermutation}, Elements.{All-append, All-contains, All-contains_itself, All-filter, All-push, Contains-append_left, Contains-push, filter_passes}, Sums.{length-filter, get_or-le-sum_by, sum_by-cons, sum_by_push}}}, Common.{rules, ◌≡◌, ◌≢◌, inl, inr, ℕ, ℤ, pos, zero, suc, ◌+◌, ◌<◌, ◌≤◌, ◌+ℤ◌, ◌-ℤ◌, ◌≤ℤ◌, ◌<ℤ◌, ◌↔◌, Bool, true, false, eqb, eqb-true, List, [], ◌∷◌, ◌++◌, length, get_or, Ordering, refl, sym, ap, subst, ◌∙◌, arith}}, specs.{Prelude.{All, Some, None, slice_set, count_by}, List.{AllPairs, Contains, filter, Sorted.{IsSorted, IsPermutation}}, Int.{int_min, int_max}, Ordering.{ord_max, int_cmp, nat_cmp, is_lt, ordering_then, MatchOrdering}, Cmp.{IsTotalOrder, ranks, int_ranks}}}
 use Rattle.stn_time.{proofs.Each.All-right, specs.Time.horizon}
-use Rattle.stn_net.{specs.{Difference.{Difference, NamesEvents}, Schedule.{IsSchedule, HasSchedule, Meets}, Windows.{Dispatch.{IsLeft, LeavesNoneBefore, IsReady, AreReadyTimes, ComesFirst, IsFirstReady, CanWaitUntil}, Rehearsal.{fixed_at, IsRehearsal}, Leading.{floor_at, AreFloorsBelow, RunsBefore, AreRunsBelow, AreReadyAt, IsEarliestBelow, IsEarliestSoFar}, Soonest.{AreEarliest, AreSoonest}}}, proofs.{Closure.{schedule_before, schedule_last}, Readiness.left_within, WindowEnds.lesser_schedule, ReadyTimes.later_of, Ends.earliest_schedule, Rehearsals.{fixed_schedule, left_before, left_after, one_or_none, runs_at}}}
+use Rattle.stn_net.{specs.{Difference.{Difference, NamesEvents}, Schedule.{IsSchedule, HasSchedule, Meets}, Windows.{Dispatch.{IsLeft, LeavesNoneBefore, IsReady, AreReadyTimes, ComesFirst, IsFirstReady, CanWaitUntil}, Rehearsal.{fixed_at, IsRehearsal}, Leading.{floor_at, AreFloorsBelow, RunsBefore, AreRunsBelow, AreReadyAt}, Soonest.{AreEarliest, AreSoonest}}}, proofs.{Closure.{schedule_before, schedule_last}, Readiness.left_within, WindowEnds.lesser_schedule, ReadyTimes.later_of, Ends.earliest_schedule, Rehearsals.{fixed_schedule, left_before, left_after, one_or_none, runs_at}}}
 
 module _ (bounds : List Difference) (done : List Bool) (now : ℤ) (times : ℕ → ℤ) (are : AreSoonest bounds done now times) where
   -- an event that is left and comes first in the soonest times is ready then
   first_is_ready : (event : ℕ) → IsLeft done event → ((other : ℕ) → IsLeft done other → times event ≤ℤ times other) → IsReady bounds done event (times event)
-  first_is_ready event left first = record { left = left; possible = (times, are.schedule, refl, first) }
+  first_is_ready event left first = search rules
 
   -- whatever may run from now on comes no sooner
   pub ready_no_sooner : (event : ℕ) (time : ℤ) → now ≤ℤ time → IsReady bounds done event time → times event ≤ℤ time
@@ -54,7 +54,7 @@ stands {X} number xs n some =
 
 -- the first comes before each
 first_before : (run : ℤ × ℕ) (runs : List (ℤ × ℕ)) (place : ℕ) (d : ℤ × ℕ) → AllPairs RunsBefore (run ∷ runs) → place < length (run ∷ runs) → RunsBefore run (get_or (run ∷ runs) place d)
-first_before run runs zero d order within = (omega (arith, ints), λ same. omega arith)
+first_before run runs zero d order within = omega (arith, ints)
 first_before run runs (suc place) d order within = order 0 (suc place) d (omega arith) within
 
 -- the runs are those of all events that are left, each at its time, in their order
@@ -94,7 +94,7 @@ module _ (times : ℕ → ℤ) (done : List Bool) (run : ℤ × ℕ) (runs : Lis
 -- the soonest times in their order are a rehearsal
 pub soonest_is_rehearsal : (runs : List (ℤ × ℕ)) (bounds : List Difference) (done : List Bool) (now : ℤ) (times : ℕ → ℤ) → AreSoonest bounds done now times
     → AreRuns times done runs → IsRehearsal bounds done now runs
-soonest_is_rehearsal [] bounds done now times soonest are = λ event left. absurd (omega (arith, are.once event left))
+soonest_is_rehearsal [] bounds done now times soonest are = search rules
 soonest_is_rehearsal (run ∷ runs) bounds done now times soonest are =
     let (left, at) = head_is times done run runs are in
     let first = head_comes_first times done run runs are in
@@ -130,12 +130,6 @@ above_schedule bounds floors done now times are schedule waits by_horizon = reco
       rw is met);
 }
 
--- the first of all events that are left
-pub first_of_left : (times : ℕ → ℤ) (done : List Bool) (limit : ℕ) (first : Option (ℤ × ℕ)) → length done ≤ limit → IsEarliestSoFar times done limit first
-    → MatchOption first ((event : ℕ) → ¬ IsLeft done event) (IsEarliestBelow times done (length done))
-first_of_left times done limit None all none = λ event left. none event (omega (arith, all, left_within done event left)) left
-first_of_left times done limit (Some run) all first = grind (arith, left_within)
-
 -- one more event, which is left
 pub floor_pushed : (done : List Bool) (now : ℤ) (number : ℕ) (floors : List Difference) → IsLeft done number → AreFloorsBelow done now number floors
     → AreFloorsBelow done now (number + 1) (floors ++ floor_at now number ∷ [])
@@ -151,7 +145,7 @@ floor_pushed done now number floors left are = record {
 -- one more that is not
 pub floor_kept : (done : List Bool) (now : ℤ) (number : ℕ) (floors : List Difference) → ¬ IsLeft done number → AreFloorsBelow done now number floors
     → AreFloorsBelow done now (number + 1) floors
-floor_kept done now number floors not_left are = grind (arith, cases_lt)
+floor_kept done now number floors not_left are = grind (arith)
 
 module _ (bounds floors : List Difference) (done : List Bool) (now : ℤ) (are : AreFloorsBelow done now (length done) floors)
     (by_horizon : (times : ℕ → ℤ) → IsSchedule bounds times → (event : ℕ) → IsLeft done event → times event ≤ℤ horizon) where
@@ -257,16 +251,12 @@ module _ (times : ℕ → ℤ) (done : List Bool) where
   by_turn x y = ordering_then (int_cmp x.0 y.0) (nat_cmp x.1 y.1)
 
   turns : IsTotalOrder by_turn
-  turns = then_total (on_total (λ (x : ℤ × ℕ). x.0) int_cmp_total) (on_total (λ (x : ℤ × ℕ). x.1) nat_cmp_total)
+  turns = search rules
 
   -- what the other is not less than comes before it
   not_less : (a b : ℤ × ℕ) (first second : Ordering) → MatchOrdering first (b.0 <ℤ a.0) (b.0 ≡ a.0) (a.0 <ℤ b.0)
       → MatchOrdering second (b.1 < a.1) (b.1 ≡ a.1) (a.1 < b.1) → is_lt (ordering_then first second) ≡ false → RunsBefore a b
-  not_less a b Less second p q e = absurd (false≢true (sym e))
-  not_less a b Equal Less p q e = absurd (false≢true (sym e))
-  not_less a b Equal Equal p q e = (omega (arith, ints), λ same. omega arith)
-  not_less a b Equal Greater p q e = (omega (arith, ints), λ same. omega arith)
-  not_less a b Greater second p q e = (omega (arith, ints), λ same. absurd (omega (arith, ints)))
+  not_less a b first second p q e = search rules
 
   sorted_in_order : (xs : List (ℤ × ℕ)) → IsSorted by_turn xs → AllPairs RunsBefore xs
   sorted_in_order xs sorted = λ i j d before within.

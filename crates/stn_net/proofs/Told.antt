@@ -1,31 +1,21 @@
 -- What can be told, and the least number of which it holds.
-use Rattle.std.proofs.{Common.{rules, ◌≡◌, ◌⊎◌, inl, inr, ℕ, ℤ, zero, suc, ◌<◌, ◌<ℤ◌, Bool, true, false, refl, sym, arith}, lemmas.{Bool.{cases_lt, false≢true}, Int.{ints, by_lt_z}}}
+use Rattle.std.proofs.{Common.{rules, ◌≡◌, ◌⊎◌, inl, inr, ℕ, ℤ, zero, suc, ◌<◌, ◌<ℤ◌, arith}, lemmas.Bool.cases_lt}
 
 -- it holds, or it doesn't
 abbrev pub Told : Type 0 → Type 0
 Told P = P ⊎ (¬ P)
 
 pub both_told : (P Q : Type 0) → Told P → Told Q → Told (P × Q)
-both_told P Q (inl p) (inl q) = inl (p, q)
-both_told P Q (inl p) (inr none) = inr (λ both. none both.1)
-both_told P Q (inr none) q = inr (λ both. none both.0)
+both_told P Q h2 q = search rules
 
 pub told_as : (P Q : Type 0) → (P → Q) → (Q → P) → Told P → Told Q
-told_as P Q forth back (inl p) = inl (forth p)
-told_as P Q forth back (inr none) = inr (λ q. none (back q))
+told_as P Q forth back h4 = search rules
 
 pub same_told : (a b : ℤ) → Told (a ≡ b)
 same_told a b = search rules
 
 pub less_told : (a b : ℤ) → Told (a <ℤ b)
-less_told a b = by_lt_z a b (λ below. inl below) (λ le. inr (λ below. omega (arith, ints)))
-
-pub below_told : (a b : ℕ) → Told (a < b)
-below_told a b = elim (cases_lt a b) [ inl below ↦ inl below | inr past ↦ inr (λ below. omega arith) ]
-
-pub false_told : (b : Bool) → Told (b ≡ false)
-false_told true = inr (λ e. false≢true (sym e))
-false_told false = inl refl
+less_told a b = search rules
 
 -- the least number of which it holds
 pub least_below : (P : ℕ → Type 0) → ((k : ℕ) → Told (P k)) → (n : ℕ)

@@ -1,4 +1,4 @@
-use Rattle.std.{proofs.Common.{◌≢◌, ℕ, ℤ, true, Bool, List, [], ◌∷◌, ◌++◌, refl, append_assoc, append-nil}, specs.Prelude.slice_set}
+use Rattle.std.{proofs.Common.{rules, ◌≢◌, ℕ, ℤ, true, Bool, List, [], ◌∷◌, ◌++◌, refl, append_assoc, append-nil}, specs.Prelude.slice_set}
 use Rattle.stn_net.{specs.{Difference.Difference, Schedule.HasSchedule, Matrix.{Table.Table, Tightest.IsExact}, declared.windows.answers.Next.{Next, TheVariants.{Run, AllDone, Overdue}}, Windows.{Dispatch.{IsFirstReady, IsNext}, Rehearsal.{fixed_at, IsRehearsal}}}, proofs.Rehearsals.{ready_can_be_fixed, none_overdue_after}}
 
 -- a rehearsal has come so far: the table is exact for the bounds and those fixed since, the answer comes next there and is no overdue
@@ -14,7 +14,7 @@ pub record IsUnderWay (bounds : List Difference) (done : List Bool) (now : ℤ) 
 -- at first nothing has run
 pub under_way_at_first : (bounds : List Difference) (done : List Bool) (now : ℤ) (table : Table) (answer : Next) → IsExact bounds table → IsNext bounds done now answer
     → ((event : ℕ) → answer ≢ Overdue event) → IsUnderWay bounds done now [] table done answer
-under_way_at_first bounds done now table answer exact next in_time = record { fixed = bounds; time = now; exact = exact; next = next; in_time = in_time; goes_on = λ more rehearsal. rehearsal }
+under_way_at_first bounds done now table answer exact next in_time = search rules
 
 -- then one more event has run
 pub under_way_further : (bounds : List Difference) (done : List Bool) (now : ℤ) (runs : List (ℤ × ℕ)) (table other : Table) (finished : List Bool) (time : ℤ) (event : ℕ) (answer : Next)

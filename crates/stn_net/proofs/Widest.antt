@@ -1,17 +1,13 @@
-use Rattle.std.{proofs.{lemmas.{Grind.common_steps, Int.ints, Bool.cases_eq, List.Elements.All-nil}, Common.{◌≡◌, ◌≢◌, ℕ, zero, suc, ℤ, pos, ◌≤◌, ◌≤ℤ◌, ◌⊎◌, inl, inr, [], ◌∷◌, ap, arith}}, specs.Prelude.All}
+use Rattle.std.{proofs.{lemmas.{Grind.common_steps, Int.ints, Bool.cases_eq, List.Elements.All-nil}, Common.{rules, ◌≡◌, ◌≢◌, ℕ, zero, suc, ℤ, pos, ◌≤◌, ◌≤ℤ◌, inl, inr, [], ◌∷◌, ap, arith}}, specs.Prelude.All}
 use Rattle.stn_time.specs.Time.{horizon}
 use Rattle.stn_net.{specs.{Difference.{Difference, NamesEvents}, Horizon.{horizon_bound, horizon_bounds}, Schedule.IsSchedule, Matrix.{Table.{Table, far_of}, Tightest.IsExact, Closed.{IsClosed, IsWidest}, Way.IsImplied}}, proofs.{Tightest.{IsTight, exact_from_tight}, Closure.{schedule_before, schedule_last}}}
 
--- the widest difference of two events is 0 or the horizon
-widest_cases : (events : ℕ) (far : ℕ → ℕ → ℤ) → IsWidest events far → (x y : ℕ) → x ≤ events → y ≤ events → (far x y ≡ pos 0) ⊎ (far x y ≡ horizon)
-widest_cases events far widest x y xs ys = grind (arith, cases_eq)
-
 widest_most : (events : ℕ) (far : ℕ → ℕ → ℤ) → IsWidest events far → (x y : ℕ) → x ≤ events → y ≤ events → far x y ≤ℤ horizon
-widest_most events far widest x y xs ys = elim (widest_cases events far widest x y xs ys) [ inl e ↦ omega (arith, ints) | inr e ↦ omega (arith, ints) ]
+widest_most events far widest x y xs ys = search rules
 
 -- the widest differences are closed
 pub widest-closed : (events : ℕ) (far : ℕ → ℕ → ℤ) → IsWidest events far → IsClosed events far
-widest-closed events far widest = record { shortest = grind (arith, common_steps, widest_most); most = widest_most events far widest }
+widest-closed events far widest = search rules
 
 -- what holds of each horizon bound holds of all of them
 pub horizon_each : (P : Difference → Type 0) (events : ℕ) → ((event : ℕ) → event ≢ 0 → event ≤ events → P (horizon_bound event)) → All P (horizon_bounds events)
@@ -51,7 +47,7 @@ widest-tight events far widest = record {
 
 -- the horizon bounds name their events
 pub horizon_named : (events : ℕ) → All (NamesEvents events) (horizon_bounds events)
-horizon_named events = horizon_each (NamesEvents events) events (λ event apart within. record { from = omega arith; to = within })
+horizon_named events = search (rules, horizon_each)
 
 -- a table of the widest differences is exact for the horizon bounds
 pub exact_widest : (table : Table) → IsWidest table.events (far_of table) → IsExact (horizon_bounds table.events) table

@@ -1,4 +1,4 @@
-use Rattle.std.{proofs.{Common.{◌≡◌, ℕ, ℤ, pos, ◌≤◌, ◌+ℤ◌, ◌≤ℤ◌, neg_ℤ, List, refl, arith}, lemmas.{Grind.common_steps, Int.{ints, clamps}}}, specs.Int.int_min}
+use Rattle.std.{proofs.{Common.{rules, ◌≡◌, ℕ, ℤ, pos, ◌≤◌, ◌+ℤ◌, ◌≤ℤ◌, neg_ℤ, List, refl, arith}, lemmas.{Grind.common_steps, Int.{ints, clamps}}}, specs.Int.int_min}
 use Rattle.stn_net.{specs.{Difference.Difference, Schedule.{IsSchedule, HasSchedule}, Matrix.{Table.{Table, far_of}, Tightest.{IsExact, IsTightest}}, Windows.Window.{IsInWindow, IsWindow}}, proofs.Ranges.{one_pair, range_of_ends}}
 
 -- a window has one pair of ends, where there is a schedule
@@ -9,7 +9,7 @@ one_window bounds event earliest latest first last possible = one_pair (IsInWind
 -- the lesser of one schedule and of another that is put off, as long as neither passes the origin, is a schedule
 pub lesser_schedule : (bounds : List Difference) (late early : ℕ → ℤ) (delay : ℤ) → IsSchedule bounds late → IsSchedule bounds early → pos 0 ≤ℤ delay
     → IsSchedule bounds (λ y. int_min (late y) (early y +ℤ delay))
-lesser_schedule bounds late early delay is_late is_early after = grind (arith, common_steps, ints, clamps, is_late.origin, is_early.origin)
+lesser_schedule bounds late early delay is_late is_early after = search (rules, common_steps, ints, clamps)
 
 -- an event's window is the range of the origin and the event
 pub window_of_ends : (bounds : List Difference) (event : ℕ) (back far : ℤ) → IsTightest bounds event 0 back → IsTightest bounds 0 event far

@@ -1,5 +1,5 @@
 -- A map of actions, and the list of what it says.
-use Rattle.std.{proofs.Common.{rules, ◌≡◌, ℕ, Bool, true, false, ◌||◌, cond, List, [], ◌∷◌, ◌++◌, Option, Some, None, is_some, MatchOption, Result, Ok, Err, OnOk, OnErr, refl, sym, ◌∙◌, ap}, specs.{Option.{option_map, option_copied}, Borrow.Bor, Map.lookup}}
+use Rattle.std.{proofs.Common.{rules, ◌≡◌, ℕ, false, List, [], ◌∷◌, ◌++◌, Option, Some, None, is_some, MatchOption, Result, OnOk, OnErr, refl}, specs.{Option.{option_map, option_copied}, Borrow.Bor, Map.lookup}}
 use Rattle.stn_time.proofs.Each.{each_pushed}
 use Rattle.stn_pddl.specs.{declared.{tree.name.Name.Name, action.Action.Action}, Tree.Names.is_same_word, Schemas.ActionSchema, Actions.is_taken, Domains.action_named, Views.{bytes_of_name, action_schema, entries_schema, AreNamed}}
 
@@ -21,12 +21,12 @@ module _ {A : Type 0} where
     taken-lookup (e ∷ entries) named = search (rules, (taken-lookup entries named.1))
 
     -- what a look-up gives
-    pub named-found : (entries : List (Name × Action A)) (actions : List ActionSchema) (found : Option (Bor (Action A))) → AreNamed entries → entries_schema entries ≡ actions
+    pub named-found : (entries : List (Name × Action A)) {actions : List ActionSchema} (found : Option (Bor (Action A))) → AreNamed entries → entries_schema entries ≡ actions
         → option_copied found ≡ lookup (λ (name : Name). is_same_word word (bytes_of_name name)) entries
         → MatchOption found (action_named word actions ≡ None) (λ action. action_named word actions ≡ Some (action_schema action.now))
-    named-found entries actions found named same is = search (rules, named-lookup)
+    named-found entries found named same is = search (rules, named-lookup)
 
   -- a name that is not taken has no entry
-  pub absent : (name : Name) (entries : List (Name × Action A)) (actions : List ActionSchema) → AreNamed entries → entries_schema entries ≡ actions → is_taken (bytes_of_name name) actions ≡ false
+  pub absent : (name : Name) (entries : List (Name × Action A)) {actions : List ActionSchema} → AreNamed entries → entries_schema entries ≡ actions → is_taken (bytes_of_name name) actions ≡ false
       → lookup (λ (other : Name). is_same_word (bytes_of_name name) (bytes_of_name other)) entries ≡ None
-  absent name entries actions named same new = search (rules, taken-lookup)
+  absent name entries named same new = search (rules, taken-lookup)

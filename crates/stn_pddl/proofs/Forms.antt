@@ -1,11 +1,9 @@
 -- What the forms of a domain give: a sound value, or a fault of the forms.
-use Rattle.std.{proofs.{Common.{rules, ◌≡◌, ℕ, Bool, true, false, cond, ◌&&◌, ◌==◌, List, [], ◌∷◌, ◌++◌, length, is_some, Option, Some, None, Result, Ok, Err, refl, arith, ℤ, pos, ◌≤ℤ◌, int_lt, position, codes}, lemmas.{Int.ints, List.Quantifiers.position-Some, Result.MatchResult-weaker}}, specs.{List.AllByRecursion, Result.MatchResult}}
-use Rattle.stn_time.{proofs.Each.each_pushed, specs.{declared.reading.TimeFault.TimeFault, TimeOf.time_of}}
+use Rattle.std.{proofs.{Common.{rules, ◌≡◌, ℕ, Bool, true, false, cond, ◌==◌, List, [], ◌∷◌, ◌++◌, length, Option, Result, Ok, Err, refl, ℤ, pos, ◌≤ℤ◌}, lemmas.{Int.ints, Result.MatchResult-weaker}}, specs.{List.AllByRecursion, Result.MatchResult}}
+use Rattle.stn_time.{proofs.Each.each_pushed}
 use Rattle.stn_text.{specs.Faults.{◌>>=◌}, proofs.Readings.{both_give, either_gives}}
-use Rattle.stn_pddl.specs.{Tree.{Names.is_same_word, Trees.{Trees, End, Word, Group, how_many}}, declared.{fault.DomainFault.{DomainFault, TheVariants.{TooLong, Syntax, TooDeep, Unsupported, Number, Twice, Memory}}, action.{Label.{Label, TheVariants.{StartCondition, OverAll, EndCondition, StartEffect, EndEffect}}, Side.{Side, TheVariants.{Condition, Effect}}, Form.{Form, TheVariants.{Plain, Timed}}}, word.{Head.Head, Item.Item, Field.Field, Key.Key, Section.Section}}, Words.{is_name, is_variable, is_key, head_of, item_of, key_of, section_of}, Atoms.{parameter_at, term, terms, atom, equality}, Sound.{IsSoundTerm, IsSoundAtom, HasSoundAtoms, IsSound}, Schemas.{TermSchema, AtomSchema, ActionSchema, Constant, bare_action, with_literal}, Conditions.{is_effect, row, tree, literal, negated_tree, negated_first, negation, label_of, labelled}, Fields.{Listing, Values, no_values, parameters, parameters_behind_type, not_negative, constant, duration, value_of, with_value, fields, field_value}, Actions.{timed_value, action_of_lists, action_of_values, named_action, is_taken, action}, Domains.{part, parts, is_title, root, domain_of_tree}}
+use Rattle.stn_pddl.specs.{Tree.{Trees.{Trees, End, Word, Group, how_many}}, declared.{fault.DomainFault.{DomainFault, TheVariants.{TooLong, Syntax, TooDeep, Twice, Memory}}, action.{Label.{Label}, Side.{Side, TheVariants.{Condition, Effect}}, Form.{Form, TheVariants.{Plain, Timed}}}, word.{Head.Head, Item.Item, Field.Field, Key.Key, Section.Section}}, Words.{is_name, head_of, item_of, key_of, section_of}, Atoms.{term, terms, atom, equality}, Sound.{IsSoundTerm, IsSoundAtom, HasSoundAtoms, IsSound}, Schemas.{TermSchema, AtomSchema, ActionSchema, bare_action, with_literal}, Conditions.{row, tree, literal, negated_tree, negation, label_of, labelled}, Fields.{Listing, Values, no_values, parameters, parameters_behind_type, constant, duration, with_value, fields, field_value}, Actions.{timed_value, action_of_lists, action_of_values, named_action, is_taken, action}, Domains.{part, parts, root, domain_of_tree}}
 use Rattle.stn_pddl.specs.declared.word.Head.TheVariants as head
-use Rattle.stn_pddl.specs.declared.word.Item.TheVariants as item
-use Rattle.stn_pddl.specs.declared.word.Key.TheVariants as key
 use Rattle.stn_pddl.specs.declared.word.Section.TheVariants as section
 
 -- a fault of the forms: the text is not too long, its brackets are not too deep, and there is memory
@@ -26,8 +24,8 @@ record Keeps (before after : ActionSchema) : Type 0 where
   duration : after.duration ≡ before.duration
   atoms : HasSoundAtoms before → HasSoundAtoms after
 
-same : (a : ActionSchema) → Keeps a a
-same a = record { name = refl; parameters = refl; duration = refl; atoms = λ h. h }
+same : {a : ActionSchema} → Keeps a a
+same = search rules
 
 -- one change of an action, and then another
 keeps_both : (a : ActionSchema) (first : Result ActionSchema DomainFault) (next : ActionSchema → Result ActionSchema DomainFault)
@@ -37,7 +35,7 @@ keeps_both a first next one other = search rules
 -- terms and atoms
 term_given : (names : List (List ℕ)) (line : ℕ) (word : List ℕ) → OfForms (IsSoundTerm (length names)) (term names line word)
 unfolding term
-term_given names line word = search (rules, either_gives, position-Some)
+term_given names line word = search rules
 
 terms_given : (names : List (List ℕ)) (rest : Trees) (before : List TermSchema) → AllByRecursion (IsSoundTerm (length names)) before
     → OfForms (AllByRecursion (IsSoundTerm (length names))) (terms names rest before)
@@ -63,10 +61,10 @@ module _ (label : Label) (a : ActionSchema) where
   unfolding equality
   equality_given line rest =
       either_gives (Keeps a) IsFormFault (how_many rest == 2) (terms a.parameters rest [] >>= λ found. Ok a) (Err (Syntax line))
-      (both_give (AllByRecursion (IsSoundTerm (length a.parameters))) (Keeps a) IsFormFault (terms a.parameters rest []) (λ found. Ok a) (terms_given _ rest [] tt) (λ found sound. same a)) tt
+      (both_give (AllByRecursion (IsSoundTerm (length a.parameters))) (Keeps a) IsFormFault (terms a.parameters rest []) (λ found. Ok a) (terms_given _ rest [] tt) (λ found sound. same)) tt
 
   literal_given : (negated : Bool) (line : ℕ) (word : List ℕ) (rest : Trees) (k : Head) → OfForms (Keeps a) (literal label negated line word rest a k)
-  literal_given negated line word rest k = search (rules, either_gives, equality_given, atom_given)
+  literal_given negated line word rest k = search (rules, equality_given, atom_given)
 
   negated_given : (line : ℕ) (children : Trees) → OfForms (Keeps a) (negated_tree label line children a)
   unfolding negated_tree
@@ -74,18 +72,18 @@ module _ (label : Label) (a : ActionSchema) where
 
   negation_given : (line : ℕ) (rest : Trees) → OfForms (Keeps a) (negation label line rest a)
   unfolding negation
-  negation_given line rest = search (rules, either_gives, negated_given)
+  negation_given line rest = search (rules, negated_given)
 
 -- conjunctions
 module _ (line at : ℕ) (word : List ℕ) (rest : Trees) (a : ActionSchema) where
   plain_given : (label : Label) → OfForms (Keeps a) (row (Plain label) rest a) → (k : Head) → head_of word ≡ k → OfForms (Keeps a) (tree (Plain label) line (Word at word rest) a)
   unfolding tree
   plain_given label all head.And e = rw (e, tree) all
-  plain_given label all head.Not e = rw (e, tree) (negation_given label a line rest)
+  plain_given label all head.Not e = search (rules, negation_given)
   plain_given label all head.Equal e = rw (e, tree) (literal_given label a false line word rest head.Equal)
-  plain_given label all head.At e = rw (e, tree) (atom_given label a false word rest)
-  plain_given label all head.Over e = rw (e, tree) (atom_given label a false word rest)
-  plain_given label all head.Name e = rw (e, tree) (atom_given label a false word rest)
+  plain_given label all head.At e = search (rules, atom_given)
+  plain_given label all head.Over e = search (rules, atom_given)
+  plain_given label all head.Name e = search (rules, atom_given)
   plain_given label all other e = rw (e, tree) tt
 
   timed_given : (side : Side) → OfForms (Keeps a) (row (Timed side) rest a) → ((time : Head) → OfForms (Keeps a) (labelled side time line rest a))
@@ -96,18 +94,18 @@ module _ (line at : ℕ) (word : List ℕ) (rest : Trees) (a : ActionSchema) whe
   label_given : (side : Side) (time : Head) → ((label : Label) → OfForms (Keeps a) (row (Plain label) rest a)) → (found : Option Label) → label_of side time word ≡ found
       → OfForms (Keeps a) (labelled side time line (Word at word rest) a)
   unfolding labelled
-  label_given side time all found e = search (rules, either_gives)
+  label_given side time all found e = search (rules)
 
 mutual
   unfolding row tree labelled
 
   row_given : (form : Form) (trees : Trees) (a : ActionSchema) → OfForms (Keeps a) (row form trees a)
-  row_given form End a = same a
+  row_given form End a = same
   row_given form (Word line word next) a = tt
   row_given form (Group line children next) a = keeps_both a (tree form line children a) (λ found. row form next found) (tree_given form line children a) (λ found. row_given form next found)
 
   tree_given : (form : Form) (line : ℕ) (trees : Trees) (a : ActionSchema) → OfForms (Keeps a) (tree form line trees a)
-  tree_given form line End a = same a
+  tree_given form line End a = same
   tree_given form line (Group at children next) a = tt
   tree_given (Plain label) line (Word at word rest) a = plain_given line at word rest a label (row_given (Plain label) rest a) (head_of word) refl
   tree_given (Timed side) line (Word at word rest) a = timed_given line at word rest a side (row_given (Timed side) rest a) (λ time. labelled_given side time line rest a) (head_of word) refl
@@ -140,13 +138,13 @@ mutual
 -- a duration is not negative
 duration_given : (line : ℕ) (children : Trees) → OfForms (λ millis. pos 0 ≤ℤ millis) (duration line children)
 unfolding duration constant
-duration_given line children = search (rules, either_gives, ints)
+duration_given line children = search (rules, ints)
 
 -- the values of the keys
 module _ (line : ℕ) (word : List ℕ) (next : Trees) (before : Values) where
   key_given : ((name : Field) → OfForms (λ _. Unit {0}) (field_value line name next before)) → (k : Key) → key_of word ≡ k → OfForms (λ _. Unit {0}) (fields (Word line word next) before)
   unfolding fields
-  key_given more k e = search (rules, either_gives)
+  key_given more k e = search (rules)
 
 mutual
   unfolding fields field_value
@@ -163,15 +161,15 @@ mutual
 
 value_given : (side : Side) (value : Option Listing) (a : ActionSchema) → OfForms (Keeps a) (timed_value side value a)
 unfolding timed_value
-value_given side value a = search (rules, same, tree_given)
+value_given side value a = search (rules, tree_given)
 
 -- An action has the name that it was read with, and is sound.
 pub record IsMade (name : List ℕ) (action : ActionSchema) : Type 0 where
   pub named : action.name ≡ name
   pub sound : IsSound action
 
-made_of : (name : List ℕ) (names : List (List ℕ)) (millis : ℤ) (b : ActionSchema) → pos 0 ≤ℤ millis → Keeps (bare_action name names millis) b → IsMade name b
-made_of name names millis b positive kept = search rules
+made_of : {name : List ℕ} {names : List (List ℕ)} {millis : ℤ} {b : ActionSchema} → pos 0 ≤ℤ millis → Keeps (bare_action name names millis) b → IsMade name b
+made_of positive kept = search rules
 
 lists_given : (name : List ℕ) (listed timed : Listing) (values : Values) → OfForms (IsMade name) (action_of_lists name listed timed values)
 unfolding action_of_lists
@@ -185,7 +183,7 @@ lists_given name listed timed values =
     (λ millis positive. MatchResult-weaker (timed_value Condition values.condition (bare_action name names millis) >>= λ action. timed_value Effect values.effect action)
     (keeps_both _ _ (λ action. timed_value Effect values.effect action)
     (value_given Condition values.condition (bare_action name names millis)) (λ action. value_given Effect values.effect action))
-    (λ b kept. made_of name names millis b positive kept) (λ fault is. is)))
+    (λ b kept. made_of positive kept) (λ fault is. is)))
 
 values_given : (line : ℕ) (name : List ℕ) (values : Values) (listed timed : Option Listing) → OfForms (IsMade name) (action_of_values line name values listed timed)
 values_given line name values listed timed = search (rules, lists_given)
@@ -231,4 +229,4 @@ all_parts_given rest = parts_given rest [] tt
 
 pub domain_given : (trees : Trees) → OfForms (AllByRecursion IsSound) (domain_of_tree trees)
 unfolding domain_of_tree root
-domain_given trees = search (rules, either_gives, all_parts_given)
+domain_given trees = search (rules, all_parts_given)

@@ -1,7 +1,7 @@
 -- The actions of a domain are sound.
-use Rattle.std.{proofs.{Common.{rules, ◌≡◌, ℕ, ◌≤◌, Bool, true, false, cond, nat_lt, List, [], ◌∷◌, length, Option, Some, None, Result, Ok, Err, IfOk, refl, ◌∙◌, ap, subst, arith, find, MatchOption, IfSome}, lemmas.{Bool.Decides.nat_tests, Result.MatchResult-at_ok}}, specs.{List.AllByRecursion, Borrow.Bor}}
-use Rattle.stn_text.specs.Faults.{◌>>=◌, Returns}
-use Rattle.stn_pddl.{specs.{declared.{tree.scan.{Place.TheVariants.Before, TreeFault.{TreeFault, TheVariants.TooLong}}, fault.DomainFault.DomainFault, action.Action.Action}, Tree.{Names.is_same_word, Trees.{Trees, rows_from}, Scan.{most_text, tree_of, scanned}}, Faults.is_memory, Schemas.ActionSchema, Views.action_schema, Sound.IsSound, Actions.{named_action, is_taken}, Domains.{domain_of_bytes, domain_of, action_named}}, proofs.Forms.{IsFormFault, IsMade, named_given, domain_given}}
+use Rattle.std.{proofs.{Common.{rules, ◌≡◌, ℕ, ◌≤◌, Bool, false, List, [], ◌∷◌, length, Option, Some, None, Result, Ok, Err, IfOk, ◌∙◌, ap, find, MatchOption, IfSome}, lemmas.{Result.MatchResult-at_ok}}, specs.{List.AllByRecursion, Borrow.Bor}}
+use Rattle.stn_text.specs.Faults.{Returns}
+use Rattle.stn_pddl.{specs.{declared.{tree.scan.{TreeFault.{TreeFault}}, fault.DomainFault.DomainFault, action.Action.Action}, Tree.{Trees.{Trees}, Scan.{most_text, tree_of}}, Faults.is_memory, Schemas.ActionSchema, Views.action_schema, Sound.IsSound, Actions.{named_action, is_taken}, Domains.{domain_of_bytes, domain_of, action_named}}, proofs.Forms.{IsMade, named_given, domain_given}}
 
 -- the name of an action that was read is new
 pub new-name : {A : Type 0} (result : Result (Action A) DomainFault) (line : ℕ) (name : List ℕ) (rest : Trees) (earlier : List ActionSchema) → Returns is_memory action_schema result (named_action line name rest)
@@ -14,7 +14,7 @@ new-name (Err fault) line name rest earlier gives new = tt
 -- A domain's text is not too long.
 pub domain-short : (text : List ℕ) (actions : List ActionSchema) → domain_of text ≡ Ok actions → length text ≤ most_text
 unfolding domain_of tree_of
-domain-short text actions is = search (rules, nat_tests)
+domain-short text actions is = search (rules)
 
 -- The actions of a text are sound.
 pub domain-sound : (text : List ℕ) (actions : List ActionSchema) → domain_of text ≡ Ok actions → AllByRecursion IsSound actions

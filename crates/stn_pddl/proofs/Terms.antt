@@ -1,5 +1,5 @@
 -- Terms, as the code finds them.
-use Rattle.std.{proofs.{Common.{rules, arith, ◌≡◌, ℕ, Bool, true, false, cond, List, [], ◌∷◌, ◌++◌, Option, Err, refl, ◌∙◌, ap, position}, lemmas.List.{length-map, map-append}}, specs.List.{position_or_len, list_any}}
+use Rattle.std.{proofs.{Common.{rules, arith, ◌≡◌, ℕ, Bool, true, false, cond, List, [], ◌∷◌, ◌++◌, Option, Err, refl, position}, lemmas.List.{length-map, map-append}}, specs.List.{position_or_len, list_any}}
 use Rattle.stn_pddl.specs.{Tree.{Trees.{Trees, Word}, Names.is_same_word}, declared.{tree.name.Name.Name, fault.DomainFault.{TheVariants.{Twice}}}, Fields.{parameters}, Words.{is_variable, item_of}, Atoms.{term, parameter_at}, Views.{bytes_of_name, words_of}}
 use Rattle.stn_pddl.specs.declared.word.Item.TheVariants as item
 
@@ -22,13 +22,13 @@ module _ (line : ℕ) (word : List ℕ) (row next : Trees) (names : List Name) (
   -- what a parameter gives
   at_parameter : (before : List (List ℕ)) → parameters row before ≡ cond (list_any (is_same_word word) before) (Err (Twice line)) (parameters next (before ++ word ∷ []))
   unfolding parameters
-  at_parameter before = ap (λ r. parameters r before) here ∙ rw (is, parameters) refl
+  at_parameter before = cc
 
   -- a parameter that stood before
   pub parameter-twice : list_any (λ (name : Name). is_same_word word (bytes_of_name name)) names ≡ true → parameters row (words_of names) ≡ Err (Twice line)
-  parameter-twice seen = at_parameter _ ∙ rw (list_any-names (is_same_word word) names ∙ seen) refl
+  parameter-twice seen = search (rules, at_parameter, list_any-names)
 
   -- a parameter that is new
-  pub parameter-new : (name : Name) (now : List Name) → bytes_of_name name ≡ word → list_any (λ (name : Name). is_same_word word (bytes_of_name name)) names ≡ false
+  pub parameter-new : (name : Name) {now : List Name} → bytes_of_name name ≡ word → list_any (λ (name : Name). is_same_word word (bytes_of_name name)) names ≡ false
       → now ≡ names ++ name ∷ [] → parameters next (words_of now) ≡ parameters row (words_of names)
-  parameter-new name now same new pushed = grind (arith, at_parameter, list_any-names, map-append)
+  parameter-new name same new pushed = grind (arith, at_parameter, list_any-names, map-append)

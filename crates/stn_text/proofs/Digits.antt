@@ -22,8 +22,8 @@ unfolding number_of
 number_of-digits word e d = cond-true _ _ _ (and_from _ _ e d)
 
 -- the decimal form of a number is a word that reads as the number
-pub number_of-decimal : (n : ℕ) → n < 2 ^ 16 → number_of (decimal n) ≡ Some n
-number_of-decimal n small =
+pub number_of-decimal : {n : ℕ} → n < 2 ^ 16 → number_of (decimal n) ≡ Some n
+number_of-decimal {n} small =
     let wide : n < 2 ^ 64 = omega arith in
     let some = decimal_nonempty n wide in
     let short = length-decimal-le 5 n (omega arith) (omega arith) wide in

@@ -1,10 +1,10 @@
 -- What holds of each element of a list holds of the elements of its parts, and of one list after another.
-use Rattle.std.{proofs.{Common.{List, [], ◌∷◌, ◌++◌}, lemmas.List.Elements.{All-from_recursion, recursion_from_All}}, specs.List.{All, AllByRecursion}}
+use Rattle.std.proofs.lemmas.Grind.{common_steps}
+use Rattle.std.{proofs.{Common.{rules, arith, List, [], ◌∷◌, ◌++◌}, lemmas.List.Elements.{All-from_recursion, recursion_from_All}}, specs.List.{All, AllByRecursion}}
 
 module _ {X : Type 0} (P : X → Type 0) where
   pub each_joined : (xs ys : List X) → AllByRecursion P xs → AllByRecursion P ys → AllByRecursion P (xs ++ ys)
-  each_joined [] ys first second = second
-  each_joined (x ∷ xs) ys first second = (first.0, each_joined xs ys first.1 second)
+  each_joined xs ys first second = grind (arith, common_steps)
 
   pub each_parted : (xs ys : List X) → AllByRecursion P (xs ++ ys) → AllByRecursion P xs × AllByRecursion P ys
   each_parted [] ys each = (tt, each)
@@ -15,7 +15,7 @@ module _ {X : Type 0} (P : X → Type 0) where
   each_pushed xs x each one = each_joined xs (x ∷ []) each (one, tt)
 
   pub All-left : (xs ys : List X) → All P (xs ++ ys) → All P xs
-  All-left xs ys each = All-from_recursion P xs (each_parted xs ys (recursion_from_All P (xs ++ ys) each)).0
+  All-left xs ys each = search (rules, All-from_recursion, each_parted, recursion_from_All)
 
   pub All-right : (xs ys : List X) → All P (xs ++ ys) → All P ys
-  All-right xs ys each = All-from_recursion P ys (each_parted xs ys (recursion_from_All P (xs ++ ys) each)).1
+  All-right xs ys each = search (rules, All-from_recursion, each_parted, recursion_from_All)

@@ -1,5 +1,5 @@
 -- The tokens of what is left of a line.
-use Rattle.std.{proofs.Common.{rules, ◌≡◌, ℕ, suc, ◌+◌, Bool, true, false, List, [], ◌∷◌, take, drop, refl, ap, arith}, specs.List.prefix_len}
+use Rattle.std.{proofs.Common.{rules, ◌≡◌, ℕ, suc, ◌+◌, Bool, true, false, List, [], ◌∷◌, take, drop, refl, arith}, specs.List.prefix_len}
 use Rattle.stn_lift.specs.{declared.plan.bytes.Kind.Kind, Plan.{Bytes.kind_of, Tokens.{Word, is_word_letter, is_word_byte, begins_word, tokens_with_letter, tokens_with_byte, tokens_of}}}
 use Rattle.stn_lift.specs.declared.plan.bytes.Kind.TheVariants as kind
 
@@ -9,17 +9,13 @@ pub tokens_before : (rest : List ℕ) (b : ℕ) (bytes : List ℕ) (found : Kind
 unfolding tokens_of
 tokens_before rest b bytes found e k = rw (e, k) refl
 
-is_letter-Letter : (found : Kind) → is_word_letter found ≡ true → found ≡ kind.Letter
-is_letter-Letter kind.Space e = cc
-is_letter-Letter kind.Comment e = cc
-is_letter-Letter (kind.Mark mark) e = cc
-is_letter-Letter kind.Letter e = refl
-is_letter-Letter kind.Stray e = cc
+is_letter-Letter : {found : Kind} → is_word_letter found ≡ true → found ≡ kind.Letter
+is_letter-Letter e = search rules
 
 -- a letter belongs to the word after it
 tokens_of-letter : (b : ℕ) (bytes : List ℕ) → is_word_byte b ≡ true → tokens_of (b ∷ bytes) ≡ tokens_with_letter b (begins_word bytes) (tokens_of bytes)
 unfolding tokens_of
-tokens_of-letter b bytes e = ap (λ found. tokens_with_byte found b (begins_word bytes) (tokens_of bytes)) (is_letter-Letter (kind_of b) e)
+tokens_of-letter b bytes e = cc (is_letter-Letter e)
 
 -- the tokens are one word, which goes up to a place, and the tokens after it
 abbrev BeginsWith : List ℕ → List ℕ → List ℕ → Type 0
@@ -44,6 +40,6 @@ tokens_of-run b [] e = tokens_of-letter b [] e
 tokens_of-run b (c ∷ bytes) e = tokens_of-step (is_word_byte c) b c bytes e refl (λ more. tokens_of-run c bytes more)
 
 -- the word that a byte of a word begins, and the tokens after it
-pub tokens_of-letters : (rest : List ℕ) (b : ℕ) (bytes : List ℕ) → rest ≡ b ∷ bytes → is_word_byte b ≡ true
+pub tokens_of-letters : {rest : List ℕ} {b : ℕ} {bytes : List ℕ} → rest ≡ b ∷ bytes → is_word_byte b ≡ true
     → tokens_of rest ≡ Word (take (prefix_len is_word_byte rest) rest) ∷ tokens_of (drop (prefix_len is_word_byte rest) rest)
-tokens_of-letters rest b bytes r e = search (rules, tokens_of-run)
+tokens_of-letters r e = search (rules, tokens_of-run)

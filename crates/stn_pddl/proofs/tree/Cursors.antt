@@ -1,5 +1,5 @@
 -- Bytes left at a cursor.
-use Rattle.std.proofs.Common.{rules, ◌≡◌, ℕ, zero, suc, Result, Ok, Err, IfOk, ◌<◌, arith, ◌∙◌}
+use Rattle.std.proofs.Common.{rules, ◌≡◌, ℕ, zero, suc, Result, IfOk, ◌<◌}
 use Rattle.stn_pddl.specs.{declared.tree.cursor.Cursor.Cursor, Tree.{Cursors.{IsPast, behind_at, left_at}, Trees.{Rows, behind_row}}}
 
 -- after so many more rows

@@ -1,12 +1,12 @@
 -- The faults of a text, and what a text without one is.
-use Rattle.std.{proofs.{Common.{rules, ◌≡◌, ℕ, ◌+◌, ◌-◌, ◌<◌, ◌≤◌, Bool, true, false, cond, nat_lt, List, [], ◌∷◌, length, Result, Ok, Err, refl, ap, subst, arith}, lemmas.{Bool.ltb-true, Result.{MatchResult-at_err, MatchResult-weaker}}}, specs.Result.MatchResult}
-use Rattle.stn_pddl.{specs.{declared.tree.{bytes.Kind.{Kind, TheVariants.{Blank, Open, Close, Letter}}, scan.{TreeFault.{TreeFault, TheVariants.{TooLong, TooDeep}}, Place.{Place, TheVariants.{Before, Inside, After}}}}, Tree.{Bytes.{kind_in, comment_after, line_after}, Trees.{Trees, rows_from}, Scan.{most_text, place_after, scanned, tree_of, IsOneList}, FirstFault.IsOnLine}}, proofs.tree.Scanned.one-list}
-use Rattle.stn_text.{specs.Faults.{◌>>=◌}, proofs.Readings.{bind_ok, both_give, either_gives}}
+use Rattle.std.{proofs.{Common.{rules, ◌≡◌, ℕ, ◌<◌, ◌≤◌, Bool, true, false, cond, nat_lt, List, [], ◌∷◌, length, Ok, Err, refl, arith}, lemmas.{Bool.ltb-true, Result.{MatchResult-at_err, MatchResult-weaker}}}, specs.Result.MatchResult}
+use Rattle.stn_pddl.{specs.{declared.tree.{bytes.Kind.{Kind}, scan.{TreeFault.{TreeFault, TheVariants.{TooLong}}, Place.{Place, TheVariants.{Before, Inside, After}}}}, Tree.{Bytes.{kind_in, comment_after, line_after}, Trees.{Trees, rows_from}, Scan.{most_text, place_after, scanned, tree_of, IsOneList}, FirstFault.IsOnLine}}, proofs.tree.Scanned.one-list}
+use Rattle.stn_text.{specs.Faults.{◌>>=◌}, proofs.Readings.{both_give}}
 
 -- a fault of a byte is on the line of the byte
 on_its_line : (kind : Kind) (line : ℕ) (place : Place) → MatchResult (place_after kind line place) (λ _. Unit {0}) (IsOnLine line)
 unfolding place_after
-on_its_line kind line place = search (rules, either_gives)
+on_its_line kind line place = search (rules)
 
 pub place_after-line : (kind : Kind) (line : ℕ) (place : Place) (fault : TreeFault) → place_after kind line place ≡ Err fault → IsOnLine line fault
 place_after-line kind line place fault is = MatchResult-at_err (λ _. Unit {0}) _ fault is (on_its_line kind line place)
@@ -49,7 +49,7 @@ module _ (text : List ℕ) where
 
   pub tree_of-refused : (fault : TreeFault) → length text ≤ most_text → tree_of text ≡ Err fault → scanned false 1 Before text ≡ Err fault
   unfolding tree_of
-  tree_of-refused fault short is = search (rules, short_test)
+  tree_of-refused fault short is = search (rules)
 
   pub tree_of-Ok : (end : Place) → length text ≤ most_text → scanned false 1 Before text ≡ Ok end → tree_of text ≡ Ok (rows_from false 1 text).row
   unfolding tree_of
@@ -58,8 +58,8 @@ module _ (text : List ℕ) where
   -- the tree of a text is that of its rows
   pub tree_of-rows : (row : Trees) → tree_of text ≡ Ok row → (end : Place) × (scanned false 1 Before text ≡ Ok end) × ((rows_from false 1 text).row ≡ row)
   unfolding tree_of
-  tree_of-rows row is = search (rules, bind_ok)
+  tree_of-rows row is = search (rules)
 
   -- and is one list
-  pub tree_of-list : (row : Trees) → tree_of text ≡ Ok row → IsOneList row
-  tree_of-list row is = search (rules, tree_of-rows, one-list)
+  pub tree_of-list : {row : Trees} → tree_of text ≡ Ok row → IsOneList row
+  tree_of-list is = search (rules, tree_of-rows, one-list)

@@ -45,24 +45,24 @@ module _ (text : List ℕ) where
   unfolding domain_of tree_of
   by_length long = search (rules)
 
-  by_other : (line : ℕ) → IsOtherList text line → domain_of text ≡ Err (Syntax line)
-  by_other line is = by_list line is.children is.list ∙ root-other line is.children is.other
+  by_other : {line : ℕ} → IsOtherList text line → domain_of text ≡ Err (Syntax line)
+  by_other {line} is = by_list line is.children is.list ∙ root-other line is.children is.other
 
-  by_part : (fault : DomainFault) → IsFirstRefusedPart text fault → domain_of text ≡ Err fault
-  by_part fault is =
+  by_part : {fault : DomainFault} → IsFirstRefusedPart text fault → domain_of text ≡ Err fault
+  by_part {fault} is =
       cc (by_list is.line is.children is.list, root-parts is.line is.children is.rest is.domain, refused_then is.earlier is.later [] is.before fault is.none_before is.refused)
 
-  by_syntax : (line : ℕ) → (tree_of text ≡ Err (tree.Syntax line)) ⊎ (IsOtherList text line ⊎ IsFirstRefusedPart text (Syntax line)) → domain_of text ≡ Err (Syntax line)
-  by_syntax line (inl is) = by_bytes (tree.Syntax line) is
-  by_syntax line (inr (inl is)) = by_other line is
-  by_syntax line (inr (inr is)) = by_part (Syntax line) is
+  by_syntax : {line : ℕ} → (tree_of text ≡ Err (tree.Syntax line)) ⊎ (IsOtherList text line ⊎ IsFirstRefusedPart text (Syntax line)) → domain_of text ≡ Err (Syntax line)
+  by_syntax {line} (inl is) = by_bytes (tree.Syntax line) is
+  by_syntax {line} (inr (inl is)) = by_other is
+  by_syntax {line} (inr (inr is)) = by_part is
 
   pub fault_of : (fault : DomainFault) → is_memory fault ≡ false → IsDomainCause text fault → domain_of text ≡ Err fault
   fault_of TooLong some is = by_length is
-  fault_of (Syntax line) some is = by_syntax line is
+  fault_of (Syntax line) some is = by_syntax is
   fault_of (TooDeep line) some is = by_bytes (tree.TooDeep line) is
   fault_of Memory some is = cc
-  fault_of fault some is = by_part _ is
+  fault_of fault some is = by_part is
 
-  pub cause_for : (fault : DomainFault) → is_memory fault ≡ false → domain_of text ≡ Err fault → IsDomainCause text fault
-  cause_for fault some is = search (rules, cause_of)
+  pub cause_for : {fault : DomainFault} → is_memory fault ≡ false → domain_of text ≡ Err fault → IsDomainCause text fault
+  cause_for some is = search (rules, cause_of)

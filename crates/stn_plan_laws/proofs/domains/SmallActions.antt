@@ -6,13 +6,13 @@ use Rattle.stn_pddl.specs.declared.word.Head.TheVariants as head
 use Rattle.stn_plan_laws.{specs.{Tree.Case.{in_small, mapped}, Case.{term_in_small, atom_in_small, action_in_small}}, proofs.domains.SmallWords.{same_first, same_variable, same_key, same_position, same_head}}
 
 -- one meaning after another, and a choice of two
-pub mapped-then : {A B C D : Type 0} (f : A → C) (g : B → D) (other : Result C DomainFault) (one : Result A DomainFault) (after : C → Result D DomainFault) (next : A → Result B DomainFault)
+pub mapped-then : {A B C D : Type 0} {f : A → C} (g : B → D) {other : Result C DomainFault} (one : Result A DomainFault) (after : C → Result D DomainFault) (next : A → Result B DomainFault)
     → other ≡ mapped f one → ((found : A) → after (f found) ≡ mapped g (next found)) → (other >>= after) ≡ mapped g (one >>= next)
-mapped-then f g other one after next same rest = search rules
+mapped-then g one after next same rest = search rules
 
-pub mapped-either : {A B : Type 0} (f : A → B) (test other_test : Bool) (one two : Result A DomainFault) (other_one other_two : Result B DomainFault)
+pub mapped-either : {A B : Type 0} (f : A → B) {test other_test : Bool} (one two : Result A DomainFault) {other_one other_two : Result B DomainFault}
     → other_test ≡ test → other_one ≡ mapped f one → other_two ≡ mapped f two → cond other_test other_one other_two ≡ mapped f (cond test one two)
-mapped-either f test other_test one two other_one other_two tests first second = search rules
+mapped-either f one two tests first second = search rules
 
 same_many : (row : Trees) → how_many (in_small row) ≡ how_many row
 unfolding how_many in_small
@@ -90,7 +90,7 @@ mutual
   small_row form End a = refl
   small_row form (Word line word next) a = refl
   small_row form (Group line children next) a =
-      mapped-then action_in_small action_in_small (tree form line (in_small children) (action_in_small a)) (tree form line children a) (λ found. row form (in_small next) found) (λ found. row form next found)
+      mapped-then action_in_small (tree form line children a) (λ found. row form (in_small next) found) (λ found. row form next found)
       (small_list form line children a) (λ found. small_row form next found)
 
   pub small_list : (form : Form) (line : ℕ) (trees : Trees) (a : ActionSchema) → tree form line (in_small trees) (action_in_small a) ≡ mapped action_in_small (tree form line trees a)

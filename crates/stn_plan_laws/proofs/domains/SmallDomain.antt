@@ -93,8 +93,8 @@ small_sides : (values : Values) (a : ActionSchema)
 small_sides values a = search (rules, small_value)
 
 -- a number has no letters
-same_result : (found : Result ℤ DomainFault) → found ≡ mapped (λ millis. millis) found
-same_result found = search rules
+same_result : {found : Result ℤ DomainFault} → found ≡ mapped (λ millis. millis) found
+same_result = search rules
 
 small_lists : (name : List ℕ) (listed timed : Listing) (values : Values)
     → action_of_lists (folded name) (small_listing listed) (small_listing timed) (small_values values) ≡ mapped action_in_small (action_of_lists name listed timed values)
@@ -103,13 +103,13 @@ small_lists name listed timed values =
     let sides : ActionSchema → Result ActionSchema DomainFault = λ a. timed_value Condition values.condition a >>= λ found. timed_value Effect values.effect found in
     let other_sides : ActionSchema → Result ActionSchema DomainFault =
     λ a. timed_value Condition (option_map small_listing values.condition) a >>= λ found. timed_value Effect (option_map small_listing values.effect) found in
-    mapped-then (map folded) action_in_small (parameters (in_small listed.children) []) (parameters listed.children [])
+    mapped-then action_in_small (parameters listed.children [])
     (λ names. duration timed.line (in_small timed.children) >>= λ millis. other_sides (bare_action (folded name) names millis))
     (λ names. duration timed.line timed.children >>= λ millis. sides (bare_action name names millis))
     (small_parameters listed.children [])
-    (λ names. mapped-then (λ (millis : ℤ). millis) action_in_small (duration timed.line (in_small timed.children)) (duration timed.line timed.children)
+    (λ names. mapped-then action_in_small (duration timed.line timed.children)
     (λ millis. other_sides (bare_action (folded name) (map folded names) millis)) (λ millis. sides (bare_action name names millis))
-    (same_duration timed.line timed.children ∙ same_result (duration timed.line timed.children))
+    (same_duration timed.line timed.children ∙ same_result)
     (λ millis. ap other_sides (small_bare name names millis) ∙ small_sides values (bare_action name names millis)))
 
 small_action_of : (line : ℕ) (name : List ℕ) (values : Values) (listed timed : Option Listing)
@@ -140,7 +140,7 @@ unfolding parts in_small
 small_parts End before = refl
 small_parts (Word line word next) before = refl
 small_parts (Group line children next) before =
-    mapped-then (map action_in_small) (map action_in_small) (part line (in_small children) (map action_in_small before)) (part line children before)
+    mapped-then (map action_in_small) (part line children before)
     (λ found. parts (in_small next) found) (λ found. parts next found) (small_part line children before) (λ found. small_parts next found)
 
 same_title : (children : Trees) → is_title (in_small children) ≡ is_title children

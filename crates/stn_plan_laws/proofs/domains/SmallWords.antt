@@ -31,16 +31,16 @@ same_prefix word (other ∷ words) = grind (arith, same_both, (same_prefix word 
 pub same_position : (word : List ℕ) (words : List (List ℕ)) → position (is_same_word (folded word)) (map folded words) ≡ position (is_same_word word) words
 same_position word words = grind (arith, same_prefix, length-map)
 
-same_begins : (b : ℕ) (word : List ℕ) → b < 65 → begins_with_byte b (folded word) ≡ begins_with_byte b word
-same_begins b word small = search (rules, same_test)
+same_begins : {b : ℕ} (word : List ℕ) → b < 65 → begins_with_byte b (folded word) ≡ begins_with_byte b word
+same_begins word small = search (rules, same_test)
 
 pub same_variable : (word : List ℕ) → is_variable (folded word) ≡ is_variable word
 unfolding is_variable
-same_variable word = same_begins 63 word (omega arith)
+same_variable word = same_begins word (omega arith)
 
 pub same_key : (word : List ℕ) → is_key (folded word) ≡ is_key word
 unfolding is_key
-same_key word = same_begins 58 word (omega arith)
+same_key word = same_begins word (omega arith)
 
 pub same_name : (word : List ℕ) → is_name (folded word) ≡ is_name word
 unfolding is_name
@@ -70,8 +70,8 @@ same_section word = search (rules, same_first, same_key)
 same_digit : (b : ℕ) → is_ascii_digit (to_ascii_lowercase b) ≡ is_ascii_digit b
 same_digit b = grind arith
 
-small_digit : (b : ℕ) → is_ascii_digit b ≡ true → to_ascii_lowercase b ≡ b
-small_digit b is = grind arith
+small_digit : {b : ℕ} → is_ascii_digit b ≡ true → to_ascii_lowercase b ≡ b
+small_digit is = grind arith
 
 same_digits : (bytes : List ℕ) → all_ascii_digits (folded bytes) ≡ all_ascii_digits bytes
 same_digits [] = refl
@@ -95,7 +95,7 @@ same_front (b ∷ bytes) = by (is_ascii_digit b) refl (same_front bytes)
         → take (cond digit (1 + prefix_len is_ascii_digit bytes) 0) (folded (b ∷ bytes)) ≡ take (cond digit (1 + prefix_len is_ascii_digit bytes) 0) (b ∷ bytes)
     by true this more =
         let next : 1 + prefix_len is_ascii_digit bytes ≡ suc (prefix_len is_ascii_digit bytes) = omega arith in
-        rw next (ap (λ c. c ∷ take (prefix_len is_ascii_digit bytes) (folded bytes)) (small_digit b this) ∙ ap (λ l. b ∷ l) more)
+        rw next (ap (λ c. c ∷ take (prefix_len is_ascii_digit bytes) (folded bytes)) (small_digit this) ∙ ap (λ l. b ∷ l) more)
     by false this more = refl
 
 folded-drop : (n : ℕ) (bytes : List ℕ) → drop n (folded bytes) ≡ folded (drop n bytes)
@@ -106,8 +106,8 @@ folded-drop (suc n) (b ∷ bytes) = folded-drop n bytes
 same_numeral : (bytes : List ℕ) → is_numeral (folded bytes) ≡ is_numeral bytes
 same_numeral bytes = search (rules, same_digits)
 
-numeral-digits : (bytes : List ℕ) → is_numeral bytes ≡ true → folded bytes ≡ bytes
-numeral-digits bytes is = search (rules, small_digits)
+numeral-digits : {bytes : List ℕ} → is_numeral bytes ≡ true → folded bytes ≡ bytes
+numeral-digits is = search (rules, small_digits)
 
 same_fraction : (bytes : List ℕ) → fraction_of (folded bytes) ≡ fraction_of bytes
 same_fraction bytes = search (rules, same_numeral, numeral-digits)

@@ -25,8 +25,8 @@ module _ (text : List ℕ) where
   unfolding plan_of
   short_text fault short is = search (rules)
 
-  by_line : (fault : PlanFault) → (length text ≤ most_text) × IsFirstLineFault (lines_of text) fault → plan_of text ≡ Err fault
-  by_line fault (short, is) =
+  by_line : {fault : PlanFault} → (length text ≤ most_text) × IsFirstLineFault (lines_of text) fault → plan_of text ≡ Err fault
+  by_line {fault} (short, is) =
       short_text fault short (ap steps_of is.whole ∙ lines_then is.earlier (is.line ∷ is.later) fault is.none_before (first_line is.line is.later fault is.its_fault))
 
   by_length : most_text < length text → plan_of text ≡ Err plan.TooLong
@@ -37,7 +37,7 @@ module _ (text : List ℕ) where
   plan_fault_of plan.TooLong some is = by_length is
   plan_fault_of plan.TooManySteps some (short, is) = search (rules, plan_of-many)
   plan_fault_of plan.Memory some is = cc
-  plan_fault_of fault some is = by_line _ is
+  plan_fault_of fault some is = by_line is
 
 -- after steps that are not refused
 steps_then : (actions : List ActionSchema) (before : ℕ) (earlier later : List PlannedStep) (fault : LiftFault) → IsOk (activities actions before earlier)
@@ -52,12 +52,12 @@ unfolding activities
 first_step actions before step steps fault is = cc
 
 module _ (actions : List ActionSchema) (steps : List PlannedStep) where
-  by_step : (fault : LiftFault) → IsFirstRefusedStep actions steps fault → activities actions 0 steps ≡ Err fault
-  by_step fault is =
+  by_step : {fault : LiftFault} → IsFirstRefusedStep actions steps fault → activities actions 0 steps ≡ Err fault
+  by_step {fault} is =
       cc (steps_then actions 0 is.earlier (is.step ∷ is.later) fault is.none_before (subst (λ n. activities actions n (is.step ∷ is.later) ≡ Err fault) (omega arith) (first_step actions (length is.earlier) is.step is.later fault is.refused)))
 
-  pub lift_fault_of : (fault : LiftFault) → lifted.is_lift_memory fault ≡ false → IsLiftCause actions steps fault → activities actions 0 steps ≡ Err fault
-  lift_fault_of fault some is = search (rules, by_step)
+  pub lift_fault_of : {fault : LiftFault} → lifted.is_lift_memory fault ≡ false → IsLiftCause actions steps fault → activities actions 0 steps ≡ Err fault
+  lift_fault_of some is = search (rules, by_step)
 
-  pub lift_cause_for : (fault : LiftFault) → lifted.is_lift_memory fault ≡ false → activities actions 0 steps ≡ Err fault → IsLiftCause actions steps fault
-  lift_cause_for fault some is = search (rules, cause_of)
+  pub lift_cause_for : {fault : LiftFault} → lifted.is_lift_memory fault ≡ false → activities actions 0 steps ≡ Err fault → IsLiftCause actions steps fault
+  lift_cause_for some is = search (rules, cause_of)

@@ -31,9 +31,9 @@ times_at actions before [] step later action found e named =
 times_at actions before (other ∷ earlier) step later action found e named = search (rules, (times_at actions (before + 1) earlier step later action))
 
 -- the steps of a base are found
-found_of : (domain plan : List ℕ) (found : Result (List Activity) LiftFault) → source_with (files domain plan) (of_lift found) ≡ Ok (files domain plan)
+found_of : {domain plan : List ℕ} {found : Result (List Activity) LiftFault} → source_with (files domain plan) (of_lift found) ≡ Ok (files domain plan)
     → (steps : List Activity) × (found ≡ Ok steps)
-found_of domain plan found e = search rules
+found_of e = search rules
 
 pub planned_at : (domain plan : List ℕ) → base_of (files domain plan) ≡ Ok (files domain plan)
     → (number : ℕ) (step : PlannedStep) (action : ActionSchema) → IsStepOf domain plan number step action
@@ -41,7 +41,7 @@ pub planned_at : (domain plan : List ℕ) → base_of (files domain plan) ≡ Ok
 planned_at domain plan based number step action is =
     let steps = is.earlier ++ step ∷ is.later in
     let whole = lifted-Ok domain plan is.actions steps is.given is.read in
-    let found = found_of domain plan (activities is.actions 0 steps) (ap (source_with (files domain plan)) (sym whole) ∙ based) in
+    let found = found_of (ap (source_with (files domain plan)) (sym whole) ∙ based) in
     let times = times_at is.actions 0 is.earlier step is.later action found.0 found.1 is.named in
     let start : 2 * number - 1 ≡ suc (2 * length is.earlier) = omega (arith, is.counted) in
     let end : 2 * number ≡ suc (2 * length is.earlier + 1) = omega (arith, is.counted) in

@@ -5,8 +5,8 @@ use Rattle.stn_pddl.specs.{declared.tree.{bytes.Kind.{Kind, TheVariants.{Blank, 
 use Rattle.stn_plan_laws.specs.Tree.Case.{in_small, tree_in_small}
 
 -- the small letter for a byte, and what a byte is: no capital letter, or one
-pub small_by : (P : ℕ → Type 0) (b : ℕ) → P b → (65 ≤ b → b ≤ 90 → P (b + 32)) → P (to_ascii_lowercase b)
-small_by P b same capital = search rules
+pub small_by : (P : ℕ → Type 0) {b : ℕ} → P b → (65 ≤ b → b ≤ 90 → P (b + 32)) → P (to_ascii_lowercase b)
+small_by P same capital = search rules
 
 letter : (b : ℕ) → 65 ≤ b → b ≤ 122 → kind_of b ≡ Letter
 unfolding kind_of
@@ -15,8 +15,8 @@ letter b low high = search rules
 same_kind : (b : ℕ) → kind_of (to_ascii_lowercase b) ≡ kind_of b
 same_kind b = search (rules, letter)
 
-pub same_test : (b n : ℕ) → n < 65 → eqb (to_ascii_lowercase b) n ≡ eqb b n
-same_test b n small = search rules
+pub same_test : (b : ℕ) {n : ℕ} → n < 65 → eqb (to_ascii_lowercase b) n ≡ eqb b n
+same_test b small = search rules
 
 same_kind_in : (comment : Bool) (b : ℕ) → kind_in comment (to_ascii_lowercase b) ≡ kind_in comment b
 same_kind_in comment b = search (rules, same_kind)
@@ -27,15 +27,15 @@ same_comment comment b = search rules
 
 same_line : (line b : ℕ) → line_after line (to_ascii_lowercase b) ≡ line_after line b
 unfolding line_after
-same_line line b = rw (same_test b 10 (omega arith)) refl
+same_line line b = rw (same_test b {n = 10} (omega arith)) refl
 
 same_begins : (bytes : List ℕ) → begins_word (folded bytes) ≡ begins_word bytes
 unfolding begins_word
 same_begins bytes = search (rules, same_kind)
 
 -- the scan of both
-same_steps : (step : Result Place TreeFault) (one other : Place → Result Place TreeFault) → ((next : Place) → one next ≡ other next) → (step >>= one) ≡ (step >>= other)
-same_steps step one other same = search rules
+same_steps : (step : Result Place TreeFault) {one other : Place → Result Place TreeFault} → ((next : Place) → one next ≡ other next) → (step >>= one) ≡ (step >>= other)
+same_steps step same = search rules
 
 scanned-folded : (text : List ℕ) (comment : Bool) (line : ℕ) (place : Place) → scanned comment line place (folded text) ≡ scanned comment line place text
 unfolding scanned

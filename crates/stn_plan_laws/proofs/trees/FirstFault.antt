@@ -27,8 +27,8 @@ unfolding scanned place_after comment_after line_after
 goes_on true line place = let behind = goes_on_outside (line + 1) place in (10 ∷ behind.0, behind.1)
 goes_on false line place = goes_on_outside line place
 
-ends_at-line : (line : ℕ) (place : Place) (fault : TreeFault) → ends_at line place ≡ Err fault → fault ≡ Syntax line
-ends_at-line line place fault is = search rules
+ends_at-line : {line : ℕ} (place : Place) {fault : TreeFault} → ends_at line place ≡ Err fault → fault ≡ Syntax line
+ends_at-line place is = search rules
 
 -- the fault of the bytes from a place on
 record IsFaultFrom (comment : Bool) (line : ℕ) (place : Place) (front : List ℕ) (byte : ℕ) (fault : TreeFault) : Type 0 where
@@ -51,7 +51,7 @@ module _ (comment : Bool) (line b : ℕ) (place next : Place) (is : place_after 
 first_from : (comment : Bool) (line : ℕ) (place : Place) (text : List ℕ) (fault : TreeFault) → scanned comment line place text ≡ Err fault
     → IsFirstFrom comment line place text fault
 unfolding scanned
-first_from comment line place [] fault is = end_from (goes_on comment line place) (ends_at-line line place fault is)
+first_from comment line place [] fault is = end_from (goes_on comment line place) (ends_at-line place is)
 first_from comment line place (b ∷ bytes) fault is =
     by (place_after (kind_in comment b) line place) refl is (λ next. first_from (comment_after comment b) (line_after line b) next bytes fault)
   where

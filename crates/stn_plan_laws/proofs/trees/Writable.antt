@@ -57,8 +57,8 @@ module _ (f : Place → Result Place TreeFault) (end : Place) (line b : ℕ) (mo
   abbrev Here : ℕ → Kind → Type 0
   Here depth kind = AreWritable depth line ((before_byte kind line b more rows).row ∷ (before_byte kind line b more rows).around)
 
-  refused : {B : Type 0} (fault : TreeFault) → Err fault ≡ Ok end → B
-  refused fault is = cc
+  refused : {B : Type 0} {fault : TreeFault} → Err fault ≡ Ok end → B
+  refused is = cc
 
   abbrev Behind : Type 0
   Behind = (next : Place) → f next ≡ Ok end → AreWritable (depth_of next) line (rows.row ∷ rows.around)
@@ -70,8 +70,8 @@ module _ (f : Place → Result Place TreeFault) (end : Place) (line b : ℕ) (mo
     where
       by : (fits : Bool) → nat_lt depth 32 ≡ fits → (cond fits (Ok (Inside (depth + 1))) (Err (TooDeep line)) >>= f) ≡ Ok end → Here depth Open
       by true few e = opened-rows depth line more b rows.row rows.around (ltb-true _ _ few) (behind (Inside (depth + 1)) e)
-      by false few e = refused (TooDeep line) e
-  opened-place After behind is = refused (Syntax line) is
+      by false few e = refused e
+  opened-place After behind is = refused is
 
   closed-place : (place : Place) → Behind → (place_after Close line place >>= f) ≡ Ok end → Here (depth_of place) Close
   unfolding place_after depth_of AreWritable IsWritable end_line
@@ -82,10 +82,10 @@ module _ (f : Place → Result Place TreeFault) (end : Place) (line b : ℕ) (mo
   byte-place Blank place letter behind is = behind place is
   byte-place Open place letter behind is = opened-place place behind is
   byte-place Close place letter behind is = closed-place place behind is
-  byte-place Letter Before letter behind is = refused (Syntax line) is
+  byte-place Letter Before letter behind is = refused is
   byte-place Letter (Inside depth) letter behind is = letter-rows depth line b more rows.row rows.around (letter refl) (behind (Inside depth) is)
-  byte-place Letter After letter behind is = refused (Syntax line) is
-  byte-place Stray place letter behind is = refused (Syntax line) is
+  byte-place Letter After letter behind is = refused is
+  byte-place Stray place letter behind is = refused is
 
 rows-writable : (bytes : List ℕ) (comment : Bool) (line : ℕ) (place end : Place) → scanned comment line place bytes ≡ Ok end
     → AreWritable (depth_of place) line ((rows_from comment line bytes).row ∷ (rows_from comment line bytes).around)

@@ -3,10 +3,10 @@ use Rattle.stn_device.proofs.Known.{ConsumesAtMost-trans}
 use Rattle.stn_device.proofs.whole.read_whole.Goals as goal
 
 pub returns-in_err-extend_from_slice-in-Ok-clause-used : goal.returns-in_err-extend_from_slice-in-Ok-clause-used
-returns-in_err-extend_from_slice-in-Ok-clause-used g c = ConsumesAtMost-trans _ _ _ _ _ _ c.loop-piece.invariant.bytes c.in-Ok.ensures.bytes.0 (grind (arith, common_steps))
+returns-in_err-extend_from_slice-in-Ok-clause-used g c = ConsumesAtMost-trans _ _ _ _ _ c.loop-piece.invariant.bytes c.in-Ok.ensures.bytes.0 (grind (arith, common_steps))
 
 pub returns-in-Ok-read-clause-used : goal.returns-in-Ok-read-clause-used
-returns-in-Ok-read-clause-used g c = ConsumesAtMost-trans _ _ _ _ _ _ c.loop-piece.invariant.bytes c.in-Ok-read.ensures.bytes.0 (grind (arith, common_steps))
+returns-in-Ok-read-clause-used g c = ConsumesAtMost-trans _ _ _ _ _ c.loop-piece.invariant.bytes c.in-Ok-read.ensures.bytes.0 (grind (arith, common_steps))
 
 pub returns-in-Ok-read-clause-bytes : goal.returns-in-Ok-read-clause-bytes
 returns-in-Ok-read-clause-bytes g c = tt

@@ -4,7 +4,7 @@ use Rattle.stn_device.proofs.whole.write_whole.Goals as goal
 
 pub loop-rest-preserved : goal.loop-rest-preserved
 loop-rest-preserved g c = record {
-  part = AppendsPart-more _ _ _ _ _ _ _ _ c.loop-rest.invariant.part.1 c.loop-rest.invariant.part.2 c.in-Ok.ensures.bytes (grind (arith, common_steps));
+  part = AppendsPart-more _ _ _ _ _ _ c.loop-rest.invariant.part.1 c.loop-rest.invariant.part.2 c.in-Ok.ensures.bytes (grind (arith, common_steps));
   kept = grind (arith, common_steps);
 }
 

@@ -1,4 +1,4 @@
-use Rattle.std.proofs.{Common.{rules, []}, lemmas.List.drop_all}
+use Rattle.std.proofs.{Common.{rules}, lemmas.List.drop_all}
 use Rattle.stn_lift.proofs.Shared.{share_after_less, share_after_greater, share_nothing}
 use Rattle.stn_lift.proofs.numbers.shares.Goals as goal
 

@@ -12,10 +12,10 @@ returns g c =
     let adds = subst (λ atoms. AreNumbersOf second c.in_ok-adds.adds (map (ground args) atoms)) (append-nil (atoms_schema c.args.adds.now)) c.in_ok-adds.ensures.numbers in
     record {
       numbered = record {
-        needs = numbers_kept second third c.in_ok-deletes.ensures.kept _ _ (numbers_kept first second c.in_ok-adds.ensures.kept _ _ c.in_ok-needs.ensures.numbers);
-        adds = numbers_kept second third c.in_ok-deletes.ensures.kept _ _ adds;
+        needs = numbers_kept second third c.in_ok-deletes.ensures.kept (numbers_kept first second c.in_ok-adds.ensures.kept c.in_ok-needs.ensures.numbers);
+        adds = numbers_kept second third c.in_ok-deletes.ensures.kept adds;
         deletes = subst (λ atoms. AreNumbersOf third c.in_ok-deletes.deletes (map (ground args) atoms)) (append-nil (atoms_schema c.args.deletes.now)) c.in_ok-deletes.ensures.numbers;
       };
-      kept = kept_along c.args.atoms.now first third c.in_ok-needs.ensures.kept (kept_along first second third c.in_ok-adds.ensures.kept c.in_ok-deletes.ensures.kept);
+      kept = kept_along c.in_ok-needs.ensures.kept (kept_along c.in_ok-adds.ensures.kept c.in_ok-deletes.ensures.kept);
       unambiguous = c.in_ok-deletes.ensures.unambiguous;
     }

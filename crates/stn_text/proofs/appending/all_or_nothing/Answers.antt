@@ -1,13 +1,12 @@
-use Rattle.std.{proofs.Common.refl, specs.Prelude.{Result, Ok, Err, OnOk, OnErr}}
+use Rattle.std.proofs.Common.{rules}
+use Rattle.std.{proofs.Common.refl, specs.Prelude.{Result, OnOk, OnErr}}
 use Rattle.stn_text.proofs.appending.all_or_nothing.Goals as goal
 
 on_err : {X E P : Type 0} (outcome : Result X E) → P → OnErr outcome P
-on_err (Ok value) p = tt
-on_err (Err fault) p = p
+on_err outcome p = search rules
 
 on_ok : {X E P : Type 0} (outcome : Result X E) → P → OnOk outcome P
-on_ok (Ok value) p = p
-on_ok (Err fault) p = tt
+on_ok outcome p = search rules
 
 pub returns-then-is_err-clause-nothing : goal.returns-then-is_err-clause-nothing
 returns-then-is_err-clause-nothing g c = on_err c.args.outcome c.truncate.ensures.items

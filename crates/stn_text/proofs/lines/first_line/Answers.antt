@@ -14,8 +14,7 @@ pub returns-in-None-clause-lines : goal.returns-in-None-clause-lines
 returns-in-None-clause-lines c = lines_of-whole c.args.text.now c.requires (sym c.in-None.ensures)
 
 pub returns-in-Some-clause-bytes : goal.returns-in-Some-clause-bytes
-returns-in-Some-clause-bytes c =
-    inl (rw (behind c.args.text.now (c.in-Some.end + 1)) (cut_found c.args.text.now c.in-Some.end (sym c.in-Some.ensures)))
+returns-in-Some-clause-bytes c = inl (rw (behind c.args.text.now (c.in-Some.end + 1)) (cut_found (sym c.in-Some.ensures)))
 
 pub returns-in-Some-clause-shorter : goal.returns-in-Some-clause-shorter
 returns-in-Some-clause-shorter c = search rules

@@ -1,12 +1,12 @@
-use Rattle.std.proofs.{Common.{append_assoc, rules, ◌≡◌, ◌<◌, ◌++◌, ◌∷◌, map, length, take, get_or, sym, subst, []}, lemmas.{List.{map-append, take_more, get_or-map, length-map}, Grind.common_steps}}
+use Rattle.std.proofs.{Common.{append_assoc, rules, ◌≡◌, ◌<◌, ◌++◌, ◌∷◌, map, length, get_or, sym, subst, []}, lemmas.{List.{map-append, take_more, get_or-map, length-map}, Grind.common_steps}}
 use Rattle.stn_pddl.specs.{Sound.IsSoundAtom, Views.{atom_schema, atoms_schema}}
-use Rattle.stn_lift.{specs.{Plan.Views.word_of, Footprints.ground, Numbering.AreNumbersOf}, proofs.NumberLists.{kept_along, numbers_kept, numbers_push, all_said}}
+use Rattle.stn_lift.{specs.{Plan.Views.word_of, Numbering.AreNumbersOf}, proofs.NumberLists.{kept_along, numbers_kept, numbers_push, all_said}}
 use Rattle.stn_lift.proofs.atoms.Atoms.append_numbers.Goals as goal
 
 pub number_atom-requires : goal.number_atom-requires
 number_atom-requires g c =
     subst (λ atom. IsSoundAtom (length c.args.args.now) (atom_schema atom)) (sym c.atom-item.is)
-    (all_said (IsSoundAtom (length c.args.args.now)) atom_schema c.args.atoms.now c.loop-atom.atom-index c.atom-item.result c.requires c.loop-atom-test.true)
+    (all_said (IsSoundAtom (length c.args.args.now)) atom_schema c.args.atoms.now c.atom-item.result c.requires c.loop-atom-test.true)
 
 pub loop-atom-preserved : goal.loop-atom-preserved
 loop-atom-preserved g c =
@@ -20,9 +20,9 @@ loop-atom-preserved g c =
     let mapped : place < length atoms = rw length-map c.loop-atom-test.true in
     let here : atom ≡ get_or atoms place atom = search (rules, get_or-map) in
     record {
-      kept = kept_along c.args.self.now old new c.loop-atom.invariant.kept c.in_ok-number.ensures.kept;
+      kept = kept_along c.loop-atom.invariant.kept c.in_ok-number.ensures.kept;
       numbers = λ before are. rw c.in_ok-push.ensures.items
           (subst (AreNumbersOf new (items ++ c.in_ok-number.number ∷ [])) (search (rules, common_steps, take_more, map-append, append_assoc))
-          (numbers_push new items (before ++ map (ground args) (take place atoms)) c.in_ok-number.number (ground args atom)
-          (numbers_kept old new c.in_ok-number.ensures.kept items (before ++ map (ground args) (take place atoms)) (c.loop-atom.invariant.numbers before are)) c.in_ok-number.ensures.number));
+          (numbers_push new
+          (numbers_kept old new c.in_ok-number.ensures.kept (c.loop-atom.invariant.numbers before are)) c.in_ok-number.ensures.number));
     }

@@ -7,7 +7,7 @@ pub name_of-requires : goal.name_of-requires
 name_of-requires g c =
     let items = c.args.atom.now.terms.items in
     let within : c.loop-term.term-index < length items = rw c.deref-term-items.ensures.value at c.loop-term-test.true in
-    rw c.deref-term-items.ensures.value (all_said (IsSoundTerm (length c.args.args.now)) term_schema items c.loop-term.term-index _ c.requires within)
+    rw c.deref-term-items.ensures.value (all_said (IsSoundTerm (length c.args.args.now)) term_schema items _ c.requires within)
 
 pub loop-term-preserved : goal.loop-term-preserved
 loop-term-preserved g c =
@@ -19,10 +19,9 @@ loop-term-preserved g c =
     let named = rw c.deref-term-items.ensures.value at c.name_of.ensures in
     let one = rw named at c.in_ok-number.ensures.number in
     record {
-      kept = kept_along c.args.self.now c.loop-term.self c.number_name-in-loop-term.new.self c.loop-term.invariant.kept c.in_ok-number.ensures.kept;
+      kept = kept_along c.loop-term.invariant.kept c.in_ok-number.ensures.kept;
       names = rw c.in_ok-push-2.ensures.items
-          (spelled_more args c.number_name-in-loop-term.new.self.names c.loop-term.spelling.items (folded c.args.atom.now.predicate.bytes.now) (terms_schema items) place c.in_ok-number.number
-          _ mapped (sym (get_or-map term_schema items place _ _ within))
+          (spelled_more args c.number_name-in-loop-term.new.self.names c.loop-term.spelling.items (folded c.args.atom.now.predicate.bytes.now) (terms_schema items) c.in_ok-number.number mapped (sym (get_or-map term_schema items place _ _ within))
           (names_kept c.loop-term.self c.number_name-in-loop-term.new.self c.in_ok-number.ensures.kept c.loop-term.spelling.items _ c.loop-term.invariant.names) one);
     }
 
@@ -38,5 +37,5 @@ returns g c =
         stored = c.in_ok-number-2.ensures.number;
         names = names_kept c.loop-term.self c.number_spelling.new.self c.in_ok-number-2.ensures.kept c.loop-term.spelling.items _ names;
       };
-      kept = kept_along c.args.self.now c.loop-term.self c.number_spelling.new.self c.loop-term.invariant.kept c.in_ok-number-2.ensures.kept;
+      kept = kept_along c.loop-term.invariant.kept c.in_ok-number-2.ensures.kept;
     }

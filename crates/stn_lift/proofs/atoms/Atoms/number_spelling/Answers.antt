@@ -10,6 +10,6 @@ returns g c = record {
   number = stored_at (λ a b. pointwise nat_eq a.items b.items) spelling_of spellings_decide c.insert_full.new.self.keys c.args.spelling c.in_ok-number.number c.in_ok-number.ensures.stored;
   kept = rw (← c.self.view_is) (record {
     names = λ number name there. there;
-    spellings = kept_at (λ a b. pointwise nat_eq a.items b.items) spelling_of spellings_decide c.self.inside.spellings.keys c.insert_full.new.self.keys c.args.spelling c.in_ok-number.ensures.keys;
+    spellings = kept_at (λ a b. pointwise nat_eq a.items b.items) spelling_of spellings_decide c.self.inside.spellings.keys c.args.spelling c.in_ok-number.ensures.keys;
   });
 }

@@ -12,5 +12,4 @@ returns-clause-numbers g c =
     search (rules, map-append, numbers_moved)
 
 pub returns-clause-kept : goal.returns-clause-kept
-returns-clause-kept g c =
-    kept_along c.args.self.now c.append_numbers.new.self c.append_numbers-2.new.self c.in_ok-append_numbers.ensures.kept c.in_ok-append_numbers-2.ensures.kept
+returns-clause-kept g c = search (rules, kept_along)

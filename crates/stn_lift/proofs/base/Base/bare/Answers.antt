@@ -8,13 +8,13 @@ invariant_of-result g c = record {
   counted = refl;
   listed = c.in-Ok.ensures;
   timed = λ event. rw c.new.ensures.items refl;
-  sound = let small : c.args.steps ≤ most_steps = omega arith in sound_bare_source c.args.steps small;
+  sound = let small : c.args.steps ≤ most_steps = omega arith in sound_bare_source small;
 }
 
 pub returns : goal.returns
 returns g c =
     let small : c.args.steps ≤ most_steps = omega arith in
-    let sound = sound_bare_source c.args.steps small in
+    let sound = sound_bare_source small in
     record { made = refl; limit = (λ same. cc, λ many. absurd (omega arith)); given = sound.based; sound = sound }
 
 pub horizon_bounds-requires : goal.horizon_bounds-requires

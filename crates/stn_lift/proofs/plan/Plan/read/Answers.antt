@@ -36,7 +36,7 @@ given_of g c =
     search (rules, plan_of-Ok, ltb-false)
 
 pub invariant_of-result : goal.invariant_of-result
-invariant_of-result g c = plan_read c.args.text.now _ (given_of g c)
+invariant_of-result g c = plan_read c.args.text.now (given_of g c)
 
 pub returns : goal.returns
 returns g c = record { given = given_of g c; text = refl; cause = tt; memory = λ _. ltb-false _ _ (sym c.if-is_too_long.ensures) }

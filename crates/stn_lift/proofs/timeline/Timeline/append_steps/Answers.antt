@@ -24,7 +24,7 @@ loop-step-preserved g c =
     record {
       number = ap (λ n. n + 1) c.loop-step.invariant.number;
       found = c.loop-step.invariant.found ++ one ∷ [];
-      whole = found_at c.args.domain.now.actions all place c.loop-step.invariant.found step mapped here c.loop-step.invariant.whole (c.loop-step.number + 1) one
+      whole = found_at c.args.domain.now.actions all place c.loop-step.invariant.found step mapped here c.loop-step.invariant.whole
           (ap (λ n. n + 1) c.loop-step.invariant.number) c.in_ok-action.ensures.given;
       timeline = c.in_ok-push.ensures c.loop-step.invariant.found c.loop-step.invariant.timeline;
     }
@@ -39,7 +39,7 @@ returns g c =
         c.loop-step.invariant.found,
         c.loop-step.invariant.whole ∙ ap (λ l. behind c.args.domain.now.actions c.loop-step.invariant.found (activities c.args.domain.now.actions c.loop-step.step-index l)) none
             ∙ behind_all c.args.domain.now.actions c.loop-step.step-index c.loop-step.invariant.found,
-        all_lifted c.loop-step.atoms c.loop-step.invariant.found _ _ _ c.loop-step.invariant.timeline,
+        all_lifted c.loop-step.invariant.timeline,
       );
       fault = tt;
     }

@@ -12,7 +12,7 @@ returns g c = λ steps was.
     rw (c.deref.ensures.value, c.deref-2.ensures.value, c.deref-3.ensures.value, c.deref-4.ensures.value, c.deref-5.ensures.value) at c.in_ok-start.ensures.numbered in
     let end : IsNumbered c.footprint-2.new.atoms (numbers_of c.in_ok-end.end) (end_footprint (action_schema c.args.action.now) args) =
     rw (c.deref-6.ensures.value, c.deref-7.ensures.value, c.deref-8.ensures.value, c.deref-9.ensures.value, c.deref-10.ensures.value) at c.in_ok-end.ensures.numbered in
-    timeline_pushed c.args.atoms.now c.footprint.new.atoms c.footprint-2.new.atoms steps step _ _ _ _ _ _ (numbers_of c.in_ok-start.start) (numbers_of c.in_ok-end.end)
+    timeline_pushed step
     c.in_ok-start.ensures.kept c.in_ok-end.ensures.kept c.in_ok-end.ensures.unambiguous start end
     (c.in_ok-append_footprint-2.ensures.durations ∙ c.in_ok-append_footprint.ensures.durations ∙ c.in_ok-append_times.ensures.durations)
     (c.in_ok-append_footprint-2.ensures.times ∙ c.in_ok-append_footprint.ensures.times ∙ c.in_ok-append_times.ensures.times)

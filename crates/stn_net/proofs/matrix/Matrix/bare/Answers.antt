@@ -1,5 +1,5 @@
-use Rattle.std.proofs.Common.{subst}
-use Rattle.stn_net.{specs.{Horizon.horizon_bounds, Matrix.{Table.Table, Tightest.IsExact}}, proofs.Widest.{exact_widest, widest-closed}}
+use Rattle.std.proofs.Common.{rules, subst}
+use Rattle.stn_net.{specs.{Horizon.horizon_bounds, Matrix.{Table.Table, Tightest.IsExact}}, proofs.Widest.exact_widest}
 use Rattle.stn_net.proofs.matrix.Matrix.bare.Goals as goal
 
 pub returns-clause-exact : goal.returns-clause-exact
@@ -9,4 +9,4 @@ returns-clause-exact g c =
     subst (λ n. IsExact (horizon_bounds n) table) c.in_ok-square.ensures.events (exact_widest table c.in_ok-square.ensures.widest)
 
 pub invariant_of-result : goal.invariant_of-result
-invariant_of-result g c = widest-closed _ _ c.in_ok-square.ensures.widest
+invariant_of-result g c = search rules

@@ -1,10 +1,10 @@
-use Rattle.std.proofs.{Common.{◌≡◌, ◌∙◌, arith}, lemmas.Int.ints}
+use Rattle.std.proofs.{Common.{◌≡◌, arith}, lemmas.Int.ints}
 use Rattle.stn_net.{specs.Matrix.{Table.far_of, Closed.IsClosed}, proofs.{Closure.closed_within, matrix.Matrix.far.{Given.Over, Goals.After-entry}}}
 use Rattle.stn_net.proofs.matrix.Matrix.far.Goals as goal
 
 -- the entry that is read
 read : (g : Over) (c : After-entry g) → c.entry.result ≡ far_of c.args.self.now c.args.from c.args.to
-read g c = rw (← c.self.view_is) (rw (c.from-row.ensures ∙ c.number.ensures.value, c.from-column.ensures ∙ c.number-2.ensures.value) at c.entry.ensures)
+read g c = cc
 
 pub unwrap-requires : goal.unwrap-requires
 unwrap-requires g c =

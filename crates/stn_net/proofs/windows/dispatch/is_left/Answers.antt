@@ -1,10 +1,9 @@
-use Rattle.std.proofs.{Common.{◌≡◌, ◌<◌, ℕ, Bool, true, false, not, get_or, IsTrue, ◌↔◌, refl, sym, ap, ◌∙◌, arith}, lemmas.{Bool.{false≢true, Decides.nat_tests}, List.get_or_default}}
+use Rattle.std.proofs.{Common.{rules, ◌≡◌, ◌<◌, ℕ, Bool, true, false, not, get_or, IsTrue, ◌↔◌, ap, ◌∙◌, arith}, lemmas.{Bool.Decides.nat_tests, List.get_or_default}}
 use Rattle.stn_net.proofs.windows.dispatch.is_left.Goals as goal
 
 -- what the flag at a place says, where it is that of the event
 told : (event : ℕ) → 0 < event → (flag of_event : Bool) → flag ≡ of_event → IsTrue (not flag) ↔ ((0 < event) × (of_event ≡ false))
-told event later true of_event is = (λ none. absurd (false≢true none), λ left. absurd (false≢true (sym left.1 ∙ sym is)))
-told event later false of_event is = (λ yes. (later, sym is), λ left. refl)
+told event later of_event h3 is = search rules
 
 pub returns-then-ne : goal.returns-then-ne
 returns-then-ne c =

@@ -4,4 +4,4 @@ use Rattle.stn_pddl.proofs.tree.scan.start.Goals as goal
 
 pub returns-clause-one : goal.returns-clause-one
 unfolding rows_at rows_from
-returns-clause-one c = rw c.new.ensures (one-list _ _ (sym c.in_ok-scan.ensures))
+returns-clause-one c = rw c.new.ensures (one-list _ (sym c.in_ok-scan.ensures))

@@ -3,10 +3,10 @@ use Rattle.stn_time.proofs.Forms.{form-parts_of, time_of-found, read-time, read-
 use Rattle.stn_time.proofs.millis.Ms.read.Goals as goal
 
 pub time-requires-clause-whole : goal.time-requires-clause-whole
-time-requires-clause-whole c = (form-parts_of c.args.text.now _ c.in-Some.ensures).whole.1
+time-requires-clause-whole c = (form-parts_of c.args.text.now c.in-Some.ensures).whole.1
 
 pub time-requires-clause-fraction : goal.time-requires-clause-fraction
-time-requires-clause-fraction c = (form-parts_of c.args.text.now _ c.in-Some.ensures).fraction
+time-requires-clause-fraction c = (form-parts_of c.args.text.now c.in-Some.ensures).fraction
 
 pub returns-in-Some : goal.returns-in-Some
 returns-in-Some c =
@@ -15,9 +15,9 @@ returns-in-Some c =
     record {
       value = is;
       time = read-time text _ is;
-      malformed = read-malformed text _ is;
-      too_fine = read-too_fine text _ is;
-      out_of_range = read-out_of_range text _ is;
+      malformed = read-malformed is;
+      too_fine = read-too_fine is;
+      out_of_range = read-out_of_range is;
       unique = same_millis text;
     }
 
@@ -28,8 +28,8 @@ returns-in-None c =
     record {
       value = is;
       time = read-time text _ is;
-      malformed = read-malformed text _ is;
-      too_fine = read-too_fine text _ is;
-      out_of_range = read-out_of_range text _ is;
+      malformed = read-malformed is;
+      too_fine = read-too_fine is;
+      out_of_range = read-out_of_range is;
       unique = same_millis text;
     }

@@ -15,8 +15,7 @@ returns-in-Close-clause-first c =
     closed _ c.loop-index.index _ _ _ c.loop-index.comment c.loop-index-test.true (take_rest bytes (c.loop-index.index + 1)) c.loop-index.invariant.same_rows (sym c.kind_in.ensures ∙ c.in-Close.is)
 
 pub word_at-requires-clause-letter : goal.word_at-requires-clause-letter
-word_at-requires-clause-letter c =
-    begins-at c.loop-index.index _ _ c.loop-index.comment c.loop-index-test.true (take_rest c.args.self.rest.now c.loop-index.index) (sym c.kind_in.ensures ∙ c.in-Letter.is)
+word_at-requires-clause-letter c = search (rules, begins-at, take_rest)
 
 pub loop-index-preserved : goal.loop-index-preserved
 loop-index-preserved c = search (rules, line_after-most, passed)
