@@ -143,9 +143,7 @@ fn take_same<R: Read, A: Allocator + Copy>(
     ensures kept { result ≢ Err Read → KeepsCount reader.old reader.new }
 {
     let frame = next_reply(frames, reader)?;
-    let answer = same_of(&frame);
-    drop(frame);
-    answer
+    same_of(frame)
 }
 
 // The second reply.
@@ -208,12 +206,12 @@ fn next_reply<R: Read, A: Allocator + Copy>(
 }
 
 // Why a frame that is not waited for is refused.
-fn refusal_of<A: Allocator>(frame: &Frame<A>) -> ReplyFault
-    ensures is { result ≡ unexpected (content frame.now) }
+fn refusal_of<A: Allocator>(frame: Frame<A>) -> ReplyFault
+    ensures is { result ≡ unexpected (content frame) }
     ensures read { result ≢ Read }
 {
     match frame {
-        Frame::Refused(code) => ReplyFault::Refused(*code),
+        Frame::Refused(code) => ReplyFault::Refused(code),
         Frame::OldHello(_)
         | Frame::OldRecords(_)
         | Frame::Hello(_)
@@ -225,9 +223,9 @@ fn refusal_of<A: Allocator>(frame: &Frame<A>) -> ReplyFault
 }
 
 // SAME, or why another frame is refused.
-fn same_of<A: Allocator>(frame: &Frame<A>) -> Result<(), ReplyFault>
-    ensures same { OnOk result (content frame.now ≡ same) }
-    ensures refused { IfErr result (λ fault. (state : Content) → greeted_by state (content frame.now) ≡ at_stage (failed fault) state) }
+fn same_of<A: Allocator>(frame: Frame<A>) -> Result<(), ReplyFault>
+    ensures same { OnOk result (content frame ≡ same) }
+    ensures refused { IfErr result (λ fault. (state : Content) → greeted_by state (content frame) ≡ at_stage (failed fault) state) }
     ensures read { result ≢ Err Read }
 {
     match frame {
@@ -244,11 +242,7 @@ fn records_of<A: Allocator>(frame: Frame<A>) -> Result<Records<A>, ReplyFault>
 {
     match frame {
         Frame::Records(theirs) => Ok(theirs),
-        other => {
-            let fault = refusal_of(&other);
-            drop(other);
-            Err(fault)
-        }
+        other => Err(refusal_of(other)),
     }
 }
 
@@ -260,11 +254,7 @@ fn text_of<A: Allocator>(frame: Frame<A>) -> Result<Vec<u8, A>, ReplyFault>
 {
     match frame {
         Frame::Text(bytes) => Ok(bytes),
-        other => {
-            let fault = refusal_of(&other);
-            drop(other);
-            Err(fault)
-        }
+        other => Err(refusal_of(other)),
     }
 }
 

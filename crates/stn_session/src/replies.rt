@@ -1,5 +1,5 @@
 // The reply to a frame.
-ghost use Rattle.std.specs.Prelude.{◌≡◌, ◌⊎◌, ◌++◌, true, false, Some, IfOk, OnOk, OnErr};
+ghost use Rattle.std.specs.Prelude.{◌≡◌, ◌⊎◌, ◌++◌, true, false, None, Some, IfOk, OnOk, OnErr};
 ghost use Rattle.stn_lift.specs.PlanSource.{plan_source};
 ghost use Rattle.stn_wire.specs.Frame.{content, spelling, hello, records, ask, refused};
 ghost use Rattle.stn_refusal.specs.Codes.{number_of};
@@ -22,6 +22,19 @@ pub(crate) struct Turn {
     pub(crate) ended: Option<u8>,
     /// Whether the site's state is another one than before.
     pub(crate) changed: bool,
+}
+
+impl Turn {
+    // The session goes on.
+    fn going_on(changed: bool) -> Turn
+        ensures { result ≡ record { greeted = true; ended = None; changed = changed } }
+    {
+        Turn {
+            greeted: true,
+            ended: None,
+            changed,
+        }
+    }
 }
 
 /// Does what a frame says, and appends the reply.
@@ -60,11 +73,7 @@ fn greet<A: Allocator + Copy, C: SiteCopy<A>>(
 {
     if source.same(copy.plan().base().source()) {
         say::<A, A>(&Said::Same, out)?;
-        Ok(Turn {
-            greeted: true,
-            ended: None,
-            changed: false,
-        })
+        Ok(Turn::going_on(false))
     } else {
         end(Code::OtherPlan, greeted, out)
     }
@@ -86,19 +95,11 @@ fn take<A: Allocator + Copy, C: SiteCopy<A>>(
     match copy.take(theirs) {
         Ok(()) => {
             append_state(copy.plan().records(), out)?;
-            Ok(Turn {
-                greeted: true,
-                ended: None,
-                changed: brings,
-            })
+            Ok(Turn::going_on(brings))
         }
         Err(fault) => {
             append_refused(Failure::from(fault).code().ok_or(AllocError)?, out)?;
-            Ok(Turn {
-                greeted: true,
-                ended: None,
-                changed: false,
-            })
+            Ok(Turn::going_on(false))
         }
     }
 }
@@ -114,11 +115,7 @@ fn report<A: Allocator + Copy, C: SiteCopy<A>>(
     let mut text = Vec::new(alloc);
     copy.plan().report(&mut text)?;
     say::<A, A>(&Said::Text(&text), out)?;
-    Ok(Turn {
-        greeted: true,
-        ended: None,
-        changed: false,
-    })
+    Ok(Turn::going_on(false))
 }
 
 // REFUSED with a code, which ends the session.

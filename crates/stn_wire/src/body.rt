@@ -18,10 +18,10 @@ pub(crate) fn read_body<A: Allocator + Copy>(
     match body.split_first() {
         Some((1, rest)) => read_old_hello(alloc, rest),
         Some((2, rest)) => read_old_records(alloc, rest),
-        Some((3, rest)) => Ok(read_ask(rest)),
+        Some((3, rest)) => Ok(rest.is_empty().then_some(Frame::Ask)),
         Some((4, rest)) => read_text(alloc, rest),
         Some((5, rest)) => Ok(read_refused(rest)),
-        Some((6, rest)) => Ok(read_same(rest)),
+        Some((6, rest)) => Ok(rest.is_empty().then_some(Frame::Same)),
         Some((7, rest)) => read_hello(alloc, rest),
         Some((8, rest)) => read_records(alloc, false, rest),
         Some((16, rest)) => read_records(alloc, true, rest),
@@ -57,16 +57,6 @@ fn read_records<A: Allocator + Copy>(
     Ok(read_state(alloc, Layout::New, amended, rest)?.map(|state| Frame::Records(state)))
 }
 
-fn read_ask<A: Allocator>(rest: &[u8]) -> Option<Frame<A>>
-    ensures { IsBodyReading (3 ∷ rest.now) (option_map content result) }
-{
-    if rest.is_empty() {
-        Some(Frame::Ask)
-    } else {
-        None
-    }
-}
-
 fn read_text<A: Allocator>(alloc: A, rest: &[u8]) -> Result<Option<Frame<A>>, Memory>
     ensures { IfOk result (λ r. IsBodyReading (4 ∷ rest.now) (option_map content r)) }
 {
@@ -77,63 +67,46 @@ fn read_refused<A: Allocator>(rest: &[u8]) -> Option<Frame<A>>
     ensures { IsBodyReading (5 ∷ rest.now) (option_map content result) }
 {
     let (code, behind) = rest.split_first()?;
-    if behind.is_empty() {
-        Some(Frame::Refused(*code))
-    } else {
-        None
+    behind.is_empty().then_some(Frame::Refused(*code))
+}
+
+impl<A: Allocator + Copy> Said<'_, A> {
+    /// Appends the body of a frame that says this.
+    pub(crate) fn append_body<B: Allocator>(&self, out: &mut Vec<u8, B>) -> Result<(), Memory>
+        requires { length (body_of (said_content self.now)) ≤ most_body }
+        ensures appended { OnOk result (out.new.items ≡ out.old.items ++ body_of (said_content self.now)) }
+        ensures said { OnOk result (HasSpelling (said_content self.now)) }
+    {
+        out.push(self.kind())?;
+        self.append_rest(out)
     }
-}
 
-fn read_same<A: Allocator>(rest: &[u8]) -> Option<Frame<A>>
-    ensures { IsBodyReading (6 ∷ rest.now) (option_map content result) }
-{
-    if rest.is_empty() {
-        Some(Frame::Same)
-    } else {
-        None
+    fn kind(&self) -> u8
+        ensures { result ≡ kind_of (said_content self.now) }
+    {
+        match self {
+            Said::Hello(_) => 7,
+            Said::Records(state) => kind_of_records(state),
+            Said::Ask => 3,
+            Said::Text(_) => 4,
+            Said::Refused(_) => 5,
+            Said::Same => 6,
+        }
     }
-}
 
-pub(crate) fn append_body<A: Allocator + Copy, B: Allocator>(
-    out: &mut Vec<u8, B>,
-    said: &Said<A>,
-) -> Result<(), Memory>
-    requires { length (body_of (said_content said.now)) ≤ most_body }
-    ensures appended { OnOk result (out.new.items ≡ out.old.items ++ body_of (said_content said.now)) }
-    ensures said { OnOk result (HasSpelling (said_content said.now)) }
-{
-    out.push(kind_of(said))?;
-    append_rest(out, said)
-}
-
-fn kind_of<A: Allocator + Copy>(said: &Said<A>) -> u8
-    ensures { result ≡ kind_of (said_content said.now) }
-{
-    match said {
-        Said::Hello(_) => 7,
-        Said::Records(state) => kind_of_records(state),
-        Said::Ask => 3,
-        Said::Text(_) => 4,
-        Said::Refused(_) => 5,
-        Said::Same => 6,
-    }
-}
-
-// Appends what stands after the kind.
-fn append_rest<A: Allocator + Copy, B: Allocator>(
-    out: &mut Vec<u8, B>,
-    said: &Said<A>,
-) -> Result<(), Memory>
-    requires { length (rest_of (said_content said.now)) ≤ most_body }
-    ensures appended { OnOk result (out.new.items ≡ out.old.items ++ rest_of (said_content said.now)) }
-    ensures said { OnOk result (HasSpelling (said_content said.now)) }
-{
-    match said {
-        Said::Hello(source) => append_source(out, source),
-        Said::Records(state) => append_state(out, state),
-        Said::Ask => Ok(()),
-        Said::Text(bytes) => out.extend_from_slice(bytes),
-        Said::Refused(code) => out.extend_from_slice(&[*code]),
-        Said::Same => Ok(()),
+    // Appends what stands after the kind.
+    fn append_rest<B: Allocator>(&self, out: &mut Vec<u8, B>) -> Result<(), Memory>
+        requires { length (rest_of (said_content self.now)) ≤ most_body }
+        ensures appended { OnOk result (out.new.items ≡ out.old.items ++ rest_of (said_content self.now)) }
+        ensures said { OnOk result (HasSpelling (said_content self.now)) }
+    {
+        match self {
+            Said::Hello(source) => append_source(out, source),
+            Said::Records(state) => append_state(out, state),
+            Said::Ask => Ok(()),
+            Said::Text(bytes) => out.extend_from_slice(bytes),
+            Said::Refused(code) => out.extend_from_slice(&[*code]),
+            Said::Same => Ok(()),
+        }
     }
 }

@@ -2,7 +2,6 @@ ghost use Rattle.std.specs.Prelude.{◌≡◌, ◌-◌, ◌^◌, ◌<◌, ◌≤
 ghost use Rattle.stn_wire.specs.Frame.{content, said_content, body_of, spelling, IsOld, IsFrame, most_body};
 
 use crate::MOST_BODY;
-use crate::body::append_body;
 use crate::fault::WireFault;
 use crate::fields::append_four;
 use crate::frame::{Frame, Said};
@@ -50,7 +49,7 @@ pub fn say<A: Allocator + Copy, B: Allocator + Copy>(
     let length = body_length(said);
     let mut spelled = Vec::with_capacity(*out.allocator(), 4 + length)?;
     append_four(&mut spelled, length as u32)?;
-    append_body(&mut spelled, said)?;
+    said.append_body(&mut spelled)?;
     out.extend_from_slice(&spelled)
 }
 

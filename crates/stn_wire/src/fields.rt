@@ -82,11 +82,7 @@ fn read_gap(layout: Layout, bytes: &[u8]) -> Option<u64>
     ensures { IsReadFrom (λ gap. gap ≤ most_gap layout) (to_be_bytes (width_of layout)) bytes.now result }
 {
     let gap = layout.number_of(bytes);
-    if gap <= layout.most_gap() {
-        Some(gap)
-    } else {
-        None
-    }
+    (gap <= layout.most_gap()).then_some(gap)
 }
 
 // The lower side of a bound. The least that the layout has is open, unless the bound is an execution's.

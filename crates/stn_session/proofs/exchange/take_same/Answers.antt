@@ -9,4 +9,4 @@ returns-in_err-frame-clause-leads g c =
 
 pub returns-clause-leads : goal.returns-clause-leads
 returns-clause-leads g c = λ source first before came.
-    same_answered _ _ _ _ _ c.args.frames.now c.next_reply.new.frames _ came c.in_ok-frame.frame c.in_ok-frame.ensures.finds c.same_of-answer.result c.same_of-answer.ensures.same c.same_of-answer.ensures.refused
+    same_answered _ _ _ _ _ c.args.frames.now c.next_reply.new.frames _ came c.in_ok-frame.frame c.in_ok-frame.ensures.finds c.same_of.result c.same_of.ensures.same c.same_of.ensures.refused
