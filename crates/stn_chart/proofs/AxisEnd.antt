@@ -1,7 +1,7 @@
 -- The axis reaches past what it has to show.
-use Rattle.std.{proofs.{Common.{◌≡◌, ℕ, ℤ, zero, suc, ◌+◌, ◌-◌, ◌*◌, ◌<◌, ◌≤◌, Bool, true, false, List, [], ◌∷◌, if◌then◌else◌, ⊎_elim, true≢false, refl, subst, sym, arith}, lemmas.{Bool.{and_parts, cases_lt}, Nat.{div-add-mod', mod_below, div_below}}}, specs.{Prelude.Option, List.list_all}}
-use Rattle.stn_drawing.{specs.Axis.{gaps, gaps_in, gap_of, first_gap, fits}, proofs.AxisGaps.{is_gap, gap_bounds}}
-use Rattle.stn_chart.specs.{Chart.{reach, furthest, axis_reach, is_open_in, soonest_in, latest_in}, Places.{place_on, line_left, line_width}}
+use Rattle.std.{proofs.{Common.{◌≡◌, ℕ, ℤ, zero, suc, ◌+◌, ◌-◌, ◌*◌, ◌/◌, ◌<◌, ◌≤◌, Bool, true, false, List, [], ◌∷◌, if◌then◌else◌, ⊎_elim, true≢false, refl, subst, sym, arith, mul-add}, lemmas.{Bool.{and_parts, cases_lt}, Nat.{div-add-mod', mod_below, div_below}}}, specs.{Prelude.Option, List.list_all}}
+use Rattle.stn_drawing.{specs.{Axis.{gaps, gaps_in, gap_of, first_gap, fits}, Ticks.{Axis, place_on}}, proofs.AxisGaps.{is_gap, gap_bounds}}
+use Rattle.stn_chart.specs.{Chart.{reach, furthest, axis_reach, axis_for, is_open_in, soonest_in, latest_in}, Places.{line_left, line_width}}
 
 -- the axis reaches as far as it has to for each event
 pub reached : (windows : List (ℤ × ℤ)) (events event : ℕ) → 1 ≤ event → event ≤ events → reach windows event ≤ furthest windows events
@@ -35,20 +35,19 @@ gaps_reach gap far some =
     omega (arith, whole, rest, some)
 
 -- a time before the end of the axis stands on it
-pub on_axis : (end time : ℕ) → time < end → place_on end time ≤ line_left + line_width
+pub on_axis : (end time : ℕ) → time < end → line_left + line_width * time / end ≤ line_left + line_width
 on_axis end time below =
     let quotient = div_below (line_width * time) end 541 (omega (arith, below)) (omega (arith, below)) in
     omega (arith, quotient)
 
-module _ (windows : List (ℤ × ℤ)) (events event : ℕ) (now : Option ℤ) (some : 1 ≤ event) (within : event ≤ events) where
-  abbrev pub far : ℕ
-  far = axis_reach windows events now
+module _ (windows : List (ℤ × ℤ)) (events event steps : ℕ) (now : Option ℤ) (some : 1 ≤ event) (within : event ≤ events) where
+  abbrev axis : Axis
+  axis = axis_for windows events now steps
 
-  abbrev pub gap : ℕ
-  gap = gap_of 0 far
-
-  past : (time : ℕ) → time ≤ furthest windows events → time < gap * gaps_in gap far
-  past time shown = omega (arith, shown, gaps_reach gap far (some_gap 0 far))
+  past : (time : ℕ) → time ≤ furthest windows events → time < axis.long
+  past time shown =
+      let far = axis_reach windows events now in
+      omega (arith, shown, gaps_reach axis.gap far (some_gap 0 far), mul-add axis.gap (gaps_in axis.gap 0) (gaps_in axis.gap far))
 
   soonest_case : (b : Bool) (soonest latest : ℕ) → soonest ≤ latest → soonest ≤ (if b then soonest else latest)
   soonest_case true soonest latest order = omega arith
@@ -58,14 +57,14 @@ module _ (windows : List (ℤ × ℤ)) (events event : ℕ) (now : Option ℤ) (
   latest_case false soonest latest closed = omega arith
   latest_case true soonest latest closed = absurd (true≢false closed)
 
-  pub soonest_on_axis : soonest_in windows event ≤ latest_in windows event → place_on (gap * gaps_in gap far) (soonest_in windows event) ≤ line_left + line_width
+  pub soonest_on_axis : soonest_in windows event ≤ latest_in windows event → place_on axis (soonest_in windows event) ≤ line_left + line_width
   soonest_on_axis order =
-      on_axis (gap * gaps_in gap far) (soonest_in windows event)
+      on_axis axis.long (soonest_in windows event)
       (past (soonest_in windows event)
       (omega (arith, reached windows events event some within, soonest_case (is_open_in windows event) (soonest_in windows event) (latest_in windows event) order)))
 
-  pub latest_on_axis : is_open_in windows event ≡ false → place_on (gap * gaps_in gap far) (latest_in windows event) ≤ line_left + line_width
+  pub latest_on_axis : is_open_in windows event ≡ false → place_on axis (latest_in windows event) ≤ line_left + line_width
   latest_on_axis closed =
-      on_axis (gap * gaps_in gap far) (latest_in windows event)
+      on_axis axis.long (latest_in windows event)
       (past (latest_in windows event)
       (omega (arith, reached windows events event some within, latest_case (is_open_in windows event) (soonest_in windows event) (latest_in windows event) closed)))

@@ -5,8 +5,8 @@ use Rattle.stn_net.specs.{Difference.Difference, Schedule.HasSchedule}
 use Rattle.stn_lift.specs.PlanSource.{PlanSource, steps_of, events_of}
 use Rattle.stn_records.specs.Content.{Content}
 use Rattle.stn_site.specs.{Bounds.all_bounds, Report.{is_done, done_events}, Windows.{window_at, AreWindows}, declared.own.OwnedSteps.OwnedSteps}
-use Rattle.stn_drawing.specs.Axis.{gap_of, gaps_in}
-use Rattle.stn_chart.specs.declared.look.Look.{Look as LookOfCode}
+use Rattle.stn_drawing.specs.Ticks.{Axis, axis_reaching}
+use Rattle.stn_chart.specs.{Places.{line_left, line_width, row_top}, declared.look.Look.Look as LookOfCode}
 
 -- how a plan is drawn: the title, the present, if it is shown, whether there are arrows, and which steps a site owns
 pub record Look : Type 0 where
@@ -119,9 +119,13 @@ furthest windows (suc events) = max (furthest windows events) (reach windows (su
 abbrev pub axis_reach : List (ℤ × ℤ) → ℕ → Option ℤ → ℕ
 axis_reach windows events now = max (furthest windows events) (moment_of now) + 1
 
+-- the axis of a plan of so many steps
+abbrev pub axis_for : List (ℤ × ℤ) → ℕ → Option ℤ → ℕ → Axis
+axis_for windows events now steps = axis_reaching line_left line_width 0 (axis_reach windows events now) (row_top steps)
+
 -- what is drawn: how, the names of the steps, if they have any, how many these are, the windows of the origin and of all events, which of
--- them are done, the row of each step and the event that holds each step's start, with 0 for the origin's, the overdue event, or 0, the
--- gap of the axis and how many gaps it has
+-- them are done, the row of each step and the event that holds each step's start, with 0 for the origin's, the overdue event, or 0,
+-- and the axis
 pub record Chart : Type 0 where
   pub look : Look
   pub names : List (List ℕ)
@@ -131,8 +135,7 @@ pub record Chart : Type 0 where
   pub rows : List ℕ
   pub holders : List ℕ
   pub overdue : ℕ
-  pub gap : ℕ
-  pub ticks : ℕ
+  pub axis : Axis
 
 -- the chart of a plan and a state with these windows
 abbrev pub chart_of : Look → List (List ℕ) → PlanSource → Content → List (ℤ × ℤ) → ℕ → Chart
@@ -145,6 +148,5 @@ chart_of look names source state windows overdue = record {
   rows = map (row_in windows (steps_of source)) (range_with_len 0 (steps_of source + 1));
   holders = map (λ step. holder_in windows step (all_bounds source state)) (range_with_len 0 (steps_of source + 1));
   overdue = overdue;
-  gap = gap_of 0 (axis_reach windows (events_of source) look.present);
-  ticks = gaps_in (gap_of 0 (axis_reach windows (events_of source) look.present)) (axis_reach windows (events_of source) look.present);
+  axis = axis_for windows (events_of source) look.present (steps_of source);
 }

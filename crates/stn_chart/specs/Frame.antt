@@ -2,8 +2,8 @@
 use Rattle.std.specs.{Prelude.{ℕ, ℤ, ◌+◌, ◌-◌, ◌==◌, List, [], ◌∷◌, ◌++◌, length, codes, decimal, if◌then◌else◌, Option, Some, None}, List.{flat_map, range_with_len}}
 use Rattle.stn_time.specs.Text.{printed}
 use Rattle.stn_net.specs.Event.{event_text}
-use Rattle.stn_drawing.specs.{Sheet.{open_text, paper_text, heading_text}, Ticks.{Axis, axis_text}}
-use Rattle.stn_chart.specs.{Chart.{Chart, moment_of}, Parts.{end_of_axis, occurs, count_of, place_of}, Places.{line_left, line_width, row_top, height_of, legend_left, legend_apart}, Rows.{bar_text, fading_text, mark_text, row_text}, Style.{style_text, parts_text, sites_style}, declared.parts.Part.Part}
+use Rattle.stn_drawing.specs.{Sheet.{open_text, paper_text, heading_text}, Ticks.axis_text}
+use Rattle.stn_chart.specs.{Chart.{Chart, moment_of}, Parts.{occurs, count_of, place_of}, Places.{row_top, height_of, legend_left, legend_apart}, Rows.{bar_text, fading_text, mark_text, row_text}, Style.{style_text, parts_text, sites_style}, declared.parts.Part.Part}
 use Rattle.stn_chart.specs.declared.parts.Part.TheVariants as part
 
 abbrev pub overdue_text : ℕ → List ℕ
@@ -35,18 +35,6 @@ chart_paper chart = paper_text (height_of chart.steps) (row_top 1) (row_top char
 -- the head of the picture of a plan
 abbrev pub head_text : Chart → List ℕ
 head_text chart = open_text chart.look.title (height_of chart.steps) ++ chart_style chart ++ chart_paper chart ++ heading_text chart.look.title ++ summary_text chart
-
--- the axis: it begins at the time 0
-abbrev pub chart_axis : Chart → Axis
-chart_axis chart = record {
-  left = line_left;
-  width = line_width;
-  long = end_of_axis chart;
-  gap = chart.gap;
-  before = 0;
-  ticks = chart.ticks + 1;
-  bottom = row_top chart.steps;
-}
 
 -- the line of the present, from above the rows to below them
 abbrev pub present_line : ℕ → ℕ → List ℕ
@@ -104,4 +92,4 @@ legend_text chart = entries_text chart (legend_base chart.steps) legend_left par
 
 -- the picture of a plan
 abbrev pub plan_text : Chart → List ℕ
-plan_text chart = head_text chart ++ axis_text (chart_axis chart) ++ flat_map (row_text chart) (range_with_len 1 chart.steps) ++ present_text chart chart.look.present ++ legend_text chart ++ codes "</svg>\n"
+plan_text chart = head_text chart ++ axis_text chart.axis ++ flat_map (row_text chart) (range_with_len 1 chart.steps) ++ present_text chart chart.look.present ++ legend_text chart ++ codes "</svg>\n"

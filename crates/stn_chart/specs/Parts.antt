@@ -1,6 +1,7 @@
 -- What is true of the steps of a chart.
 use Rattle.std.specs.{Prelude.{ℕ, ℤ, ◌+◌, ◌-◌, ◌*◌, ◌==◌, nat_lt, nat_le, Bool, false, not, ◌&&◌, if◌then◌else◌, List, [], ◌∷◌, length, filter, slice_index_or, Option, Some, None}, List.range_with_len}
-use Rattle.stn_chart.specs.{Chart.{Chart, start_of, end_of, soonest_in, latest_in, is_open_in, moment_of}, Places.{place_on, row_top}, declared.parts.Part.Part}
+use Rattle.stn_drawing.specs.Ticks.{place_on}
+use Rattle.stn_chart.specs.{Chart.{Chart, start_of, end_of, soonest_in, latest_in, is_open_in, moment_of}, Places.row_top, declared.parts.Part.Part}
 use Rattle.stn_chart.specs.declared.parts.Part.TheVariants as part
 use Rattle.stn_site.specs.declared.own.OwnedSteps.{OwnedSteps}
 
@@ -30,13 +31,9 @@ is_running chart step = is_begun chart step && not (is_recorded chart (end_of st
 abbrev pub is_fixed : Chart → ℕ → Bool
 is_fixed chart step = (soonest chart (start_of step) == latest chart (start_of step)) && (soonest chart (end_of step) == latest chart (end_of step))
 
--- where the axis ends, in milliseconds
-abbrev pub end_of_axis : Chart → ℕ
-end_of_axis chart = chart.gap * chart.ticks
-
 -- the event has a latest time, less than a twentieth of the axis from now
 abbrev pub is_near : Chart → ℤ → ℕ → Bool
-is_near chart now event = not (is_open chart event) && nat_lt (20 * latest chart event) (20 * moment_of (Some now) + end_of_axis chart)
+is_near chart now event = not (is_open chart event) && nat_lt (20 * latest chart event) (20 * moment_of (Some now) + chart.axis.long)
 
 -- so near are the latest start of a step that has not begun, or the latest end of one that runs
 abbrev pub is_due_at : Chart → Option ℤ → ℕ → Bool
@@ -95,7 +92,7 @@ name_of chart step = slice_index_or chart.names (step - 1) []
 
 -- where a time stands, and where the row of a step begins
 abbrev pub place_of : Chart → ℕ → ℕ
-place_of chart time = place_on (end_of_axis chart) time
+place_of chart time = place_on chart.axis time
 
 abbrev pub top_of : Chart → ℕ → ℕ
 top_of chart step = row_top (slice_index_or chart.rows step 0)

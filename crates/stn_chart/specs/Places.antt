@@ -1,5 +1,5 @@
 -- Where things stand in the picture of a plan, in pixels from the left and from the top.
-use Rattle.std.specs.Prelude.{ℕ, ◌+◌, ◌*◌, ◌/◌}
+use Rattle.std.specs.Prelude.{ℕ, ◌+◌, ◌*◌}
 
 -- where the axis begins, and how long it is
 abbrev pub line_left : ℕ
@@ -7,10 +7,6 @@ line_left = 344
 
 abbrev pub line_width : ℕ
 line_width = 540
-
--- where a time stands on an axis that ends at the other: in proportion, rounded down
-abbrev pub place_on : ℕ → ℕ → ℕ
-place_on end time = line_left + line_width * time / end
 
 abbrev pub row_height : ℕ
 row_height = 24

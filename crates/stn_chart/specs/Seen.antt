@@ -3,6 +3,7 @@ use Rattle.std.specs.Prelude.{ℕ, ℤ, ◌==◌, Bool, List, [], ◌∷◌, map
 use Rattle.stn_lift.specs.PlanSource.{PlanSource, events_of}
 use Rattle.stn_net.specs.Difference.{Difference}
 use Rattle.stn_records.specs.Content.{Content}
+use Rattle.stn_drawing.specs.Seen.{seen_axis}
 use Rattle.stn_chart.specs.{declared.{look.Chart.Chart as ChartOfCode, floors.Drawn.Drawn}, Chart.{Chart, seen_look, floor, overdue_event}}
 
 abbrev pub seen_chart : {A : Type 0} → ChartOfCode A → Chart
@@ -15,8 +16,7 @@ seen_chart chart = record {
   rows = chart.rows.now;
   holders = chart.holders.now;
   overdue = chart.overdue;
-  gap = chart.gap;
-  ticks = chart.ticks;
+  axis = seen_axis chart.axis;
 }
 
 -- the event that is overdue, or 0

@@ -8,9 +8,10 @@ ghost use Rattle.stn_chart.specs.{Chart.{chart_of, seen_look}, Drawn.IsPlanPictu
 use crate::floors::{Drawn, drawn_at, overdue_of};
 use crate::holders::holders_in;
 use crate::look::{Chart, Look};
+use crate::places::{LINE_LEFT, LINE_WIDTH, row_top};
 use crate::tables::{axis_reach, rows_in};
 use std::alloc::Allocator;
-use stn_drawing::{gap_of, gaps_in};
+use stn_drawing::Axis;
 use stn_site::SitePlan;
 use stn_time::Memory;
 
@@ -50,7 +51,7 @@ fn text_of<'x, A: Allocator + Copy>(
     let rows = rows_in(plan.alloc(), &drawn.windows, steps)?;
     let holders = holders_in(plan.alloc(), &drawn.windows, steps, base.bounds(), &live)?;
     let far = axis_reach(&drawn.windows, base.events(), look.present);
-    let gap = gap_of(0, far);
+    let bottom = row_top(u64::from(steps));
     let chart = Chart {
         look,
         names,
@@ -60,8 +61,7 @@ fn text_of<'x, A: Allocator + Copy>(
         rows: &rows,
         holders: &holders,
         overdue: overdue_of(plan, drawn, look.present),
-        gap,
-        ticks: gaps_in(gap, far),
+        axis: Axis::reaching(LINE_LEFT, LINE_WIDTH, 0, far, bottom),
     };
     let mut text = Vec::new(plan.alloc());
     chart.append(&mut text)?;

@@ -1,17 +1,16 @@
 //! What stands around the rows: the head, the axis, the present.
 ghost use Rattle.std.specs.{Prelude.{◌≡◌, ◌++◌, ◌<◌, ◌^◌, OnOk}, List.{flat_map, range_with_len}};
 ghost use Rattle.stn_chart.specs.Frame as frame;
-ghost use Rattle.stn_drawing.specs.Seen.{seen_axis};
 ghost use Rattle.stn_chart.specs.{Frame.{overdue_text, now_text}, Rows.row_text, Seen.seen_chart};
 
 use crate::look::Chart;
 use crate::parts::Part;
-use crate::places::{LINE_LEFT, LINE_WIDTH, height_of, row_top};
+use crate::places::{height_of, row_top};
 use crate::style::{PARTS, SITES, STYLE};
 use crate::tables::moment_of;
 use std::alloc::Allocator;
 use std::io::Write;
-use stn_drawing::{Axis, append_heading, append_opening, append_paper, in_memory};
+use stn_drawing::{append_heading, append_opening, append_paper, in_memory};
 use stn_text::print_event;
 use stn_time::{Memory, Ms};
 
@@ -23,26 +22,11 @@ impl<'a, 'b, A: Allocator> Chart<'a, 'b, A> {
         ensures { OnOk result (out.new.items ≡ out.old.items ++ frame.plan_text (seen_chart self.now)) }
     {
         self.append_head(out)?;
-        self.axis().append(out)?;
+        self.axis.append(out)?;
         self.append_rows(out)?;
         self.append_present(out)?;
         self.append_legend(out)?;
         out.extend_from_slice(b"</svg>\n")
-    }
-
-    // Its axis.
-    fn axis(&self) -> Axis
-        ensures { seen_axis result ≡ frame.chart_axis (seen_chart self.now) }
-    {
-        Axis {
-            left: LINE_LEFT,
-            width: LINE_WIDTH,
-            long: self.end_of_axis(),
-            gap: self.gap,
-            before: 0,
-            ticks: self.ticks + 1,
-            bottom: row_top(u64::from(self.steps)),
-        }
     }
 
     // Appends the rows of the steps.

@@ -53,47 +53,50 @@ impl<'a, 'b, A: Allocator> Chart<'a, 'b, A> {
         if self.count_of(part) == 0 {
             return Ok(left);
         }
-        append_sample(out, part, left, base)?;
-        append_meaning(out, part, left + 24, base)?;
+        let entry = Entry { part, left, base };
+        entry.append_sample(out)?;
+        entry.append_meaning(out)?;
         Ok(left + LEGEND_APART)
     }
 }
 
-fn append_sample<A: Allocator>(
-    out: &mut Vec<u8, A>,
+// An entry of the legend: its part, where it begins, and the line on which its words stand.
+#[derive(Clone, Copy)]
+struct Entry {
     part: Part,
     left: u64,
     base: u64,
-) -> Result<(), Memory>
-    requires left { left < 2 ^ 40 }
-    requires base { 12 ≤ base }
-    ensures { OnOk result (out.new.items ≡ out.old.items ++ sample_text part left base) }
-{
-    match part {
-        Part::Soonest => append_bar(out, "a", left, base - 4, 18),
-        Part::Lasting => append_bar(out, "p", left, base - 4, 18),
-        Part::Latest => append_mark(out, "k", left + 9, base - 12),
-        Part::Fixed => append_bar(out, "f", left, base - 4, 18),
-        Part::Done => append_bar(out, "d", left, base - 4, 18),
-        Part::Running => append_bar(out, "r", left, base - 4, 18),
-        Part::Due => append_bar(out, "l", left, base - 4, 18),
-        Part::Open => append_fading(out, left, base - 7, 18),
-    }
+    ghost near: { left < 2 ^ 40 },
+    ghost below: { 12 ≤ base },
 }
 
-fn append_meaning<A: Allocator>(
-    out: &mut Vec<u8, A>,
-    part: Part,
-    left: u64,
-    base: u64,
-) -> Result<(), Memory>
-    ensures { OnOk result (out.new.items ≡ out.old.items ++ frame.words_text part left base) }
-{
-    let meaning = meaning_of(part);
-    in_memory(write!(
-        out,
-        "<text class='s' x='{left}' y='{base}'>{meaning}</text>\n"
-    ))
+impl Entry {
+    fn append_sample<A: Allocator>(&self, out: &mut Vec<u8, A>) -> Result<(), Memory>
+        ensures { OnOk result (out.new.items ≡ out.old.items ++ sample_text self.now.part self.now.left self.now.base) }
+    {
+        let (left, middle) = (self.left, self.base - 4);
+        match self.part {
+            Part::Soonest => append_bar(out, "a", left, middle, 18),
+            Part::Lasting => append_bar(out, "p", left, middle, 18),
+            Part::Latest => append_mark(out, "k", left + 9, self.base - 12),
+            Part::Fixed => append_bar(out, "f", left, middle, 18),
+            Part::Done => append_bar(out, "d", left, middle, 18),
+            Part::Running => append_bar(out, "r", left, middle, 18),
+            Part::Due => append_bar(out, "l", left, middle, 18),
+            Part::Open => append_fading(out, left, self.base - 7, 18),
+        }
+    }
+
+    fn append_meaning<A: Allocator>(&self, out: &mut Vec<u8, A>) -> Result<(), Memory>
+        ensures { OnOk result (out.new.items ≡ out.old.items ++ frame.words_text self.now.part (self.now.left + 24) self.now.base) }
+    {
+        let (left, base) = (self.left + 24, self.base);
+        let meaning = meaning_of(self.part);
+        in_memory(write!(
+            out,
+            "<text class='s' x='{left}' y='{base}'>{meaning}</text>\n"
+        ))
+    }
 }
 
 fn meaning_of(part: Part) -> &'static str

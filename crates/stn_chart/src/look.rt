@@ -1,6 +1,5 @@
-ghost use Rattle.std.specs.Prelude.{◌≡◌, ◌*◌, ◌<◌, ◌≤◌, ◌^◌};
-
 use std::alloc::Allocator;
+use stn_drawing::Axis;
 use stn_site::OwnedSteps;
 use stn_time::Ms;
 
@@ -34,11 +33,5 @@ pub struct Chart<'a, 'b, A: Allocator> {
     pub holders: &'b [u16],
     /// The event that is overdue; 0 where none is.
     pub overdue: u16,
-    /// The gap between two ticks, in milliseconds, and how many gaps the axis has.
-    pub gap: u64,
-    pub ticks: u64,
-    ghost some_gap: { 1 ≤ gap },
-    ghost some_ticks: { 1 ≤ ticks },
-    ghost small_gap: { gap < 2 ^ 36 },
-    ghost few_ticks: { ticks < 2 ^ 14 },
+    pub axis: Axis,
 }

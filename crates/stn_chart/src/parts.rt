@@ -1,11 +1,11 @@
 //! What is true of the steps of a chart.
-ghost use Rattle.std.specs.Prelude.{◌≡◌, ◌<◌, ◌≤◌, ◌^◌};
+ghost use Rattle.std.specs.Prelude.{◌≡◌, ◌+◌, ◌<◌, ◌≤◌, ◌^◌};
 ghost use Rattle.stn_lift.specs.BaseBounds as events;
 ghost use Rattle.stn_chart.specs.Parts as is;
 ghost use Rattle.stn_chart.specs.Seen.{seen_chart};
 
 use crate::look::Chart;
-use crate::places::{place_on, row_top};
+use crate::places::row_top;
 use crate::tables::{end_of, is_open_in, latest_in, moment_of, soonest_in, start_of};
 use std::alloc::Allocator;
 use stn_site::OwnedSteps;
@@ -86,21 +86,11 @@ impl<'a, 'b, A: Allocator> Chart<'a, 'b, A> {
         self.soonest(start) == self.latest(start) && self.soonest(end) == self.latest(end)
     }
 
-    /// Where the axis ends, in milliseconds.
-    pub fn end_of_axis(&self) -> u64
-        ensures value { result ≡ is.end_of_axis (seen_chart self.now) }
-        ensures some { 1 ≤ result }
-        ensures small { result < 2 ^ 50 }
-    {
-        self.gap * self.ticks
-    }
-
     // Whether the event has a latest time, less than a twentieth of the axis from now.
     fn is_near(&self, now: Ms, event: usize) -> bool
         ensures { result ≡ is.is_near (seen_chart self.now) now event }
     {
-        !self.is_open(event)
-            && 20 * self.latest(event) < 20 * moment_of(Some(now)) + self.end_of_axis()
+        !self.is_open(event) && 20 * self.latest(event) < 20 * moment_of(Some(now)) + self.axis.long
     }
 
     /// Whether the latest start of a step that has not begun is so near, or the latest end of one that runs.
@@ -173,9 +163,9 @@ impl<'a, 'b, A: Allocator> Chart<'a, 'b, A> {
     pub fn place_of(&self, time: u64) -> u64
         requires { time < 2 ^ 50 }
         ensures value { result ≡ is.place_of (seen_chart self.now) time }
-        ensures small { result < 2 ^ 61 }
+        ensures small { result < 2 ^ 63 + 2 ^ 10 }
     {
-        place_on(self.end_of_axis(), time)
+        self.axis.place_of(time)
     }
 
     /// Where the row of a step begins.

@@ -1,6 +1,6 @@
 //! Where things stand in the picture of a plan, in pixels from the left and from the top.
 ghost use Rattle.std.specs.Prelude.{◌≡◌, ◌<◌, ◌≤◌, ◌^◌};
-ghost use Rattle.stn_chart.specs.Places.{place_on, row_top, height_of};
+ghost use Rattle.stn_chart.specs.Places.{row_top, height_of};
 
 /// Where the axis ends.
 pub const LINE_RIGHT: u64 = LINE_LEFT + LINE_WIDTH;
@@ -30,16 +30,6 @@ pub const LEGEND_LEFT: u64 = 32;
 
 /// How far each further one is from the one before.
 pub const LEGEND_APART: u64 = 120;
-
-/// Where a time stands on an axis that ends at the other.
-pub fn place_on(end: u64, time: u64) -> u64
-    requires end { 1 ≤ end }
-    requires time { time < 2 ^ 50 }
-    ensures value { result ≡ place_on end time }
-    ensures small { result < 2 ^ 61 }
-{
-    LINE_LEFT + LINE_WIDTH * time / end
-}
 
 /// Where a row begins.
 pub fn row_top(row: u64) -> u64

@@ -1,6 +1,6 @@
 -- An axis of time with its ticks.
-use Rattle.std.specs.{Prelude.{ℕ, ◌+◌, ◌-◌, ◌*◌, ◌/◌, ◌==◌, nat_lt, List, [], ◌++◌, codes, decimal, if◌then◌else◌}, List.{flat_map, range_with_len}}
-use Rattle.stn_drawing.specs.Axis.{unit_of, unit_text}
+use Rattle.std.specs.{Prelude.{ℕ, ◌+◌, ◌-◌, ◌*◌, ◌/◌, ◌==◌, nat_lt, max, List, [], ◌++◌, codes, decimal, if◌then◌else◌}, List.{flat_map, range_with_len}}
+use Rattle.stn_drawing.specs.Axis.{gap_of, gaps_in, unit_of, unit_text}
 
 -- an axis as it is drawn: where it begins, and how wide it is, in pixels; how long it is, and the gap between two ticks, in milliseconds; how
 -- many ticks stand before that of the time 0, and how many there are; where their lines end
@@ -13,9 +13,25 @@ pub record Axis : Type 0 where
   pub ticks : ℕ
   pub bottom : ℕ
 
--- where a tick stands: in proportion, rounded down
+-- the axis of such a place and width that reaches so far before the time 0 and so far after it
+abbrev pub axis_reaching : ℕ → ℕ → ℕ → ℕ → ℕ → Axis
+axis_reaching left width before after bottom = record {
+  left = left;
+  width = width;
+  long = max (gap_of before after * (gaps_in (gap_of before after) before + gaps_in (gap_of before after) after)) 1;
+  gap = gap_of before after;
+  before = gaps_in (gap_of before after) before;
+  ticks = gaps_in (gap_of before after) before + gaps_in (gap_of before after) after + 1;
+  bottom = bottom;
+}
+
+-- where a time stands that is so far behind the beginning: in proportion, rounded down
+abbrev pub place_on : Axis → ℕ → ℕ
+place_on axis far = axis.left + axis.width * far / axis.long
+
+-- where a tick stands
 abbrev pub tick_place : Axis → ℕ → ℕ
-tick_place axis tick = axis.left + axis.width * (axis.gap * tick) / axis.long
+tick_place axis tick = place_on axis (axis.gap * tick)
 
 abbrev pub tick_line : Axis → ℕ → List ℕ
 tick_line axis tick = codes "M" ++ decimal (tick_place axis tick) ++ codes " 50V" ++ decimal axis.bottom

@@ -53,6 +53,7 @@ pub struct Axis {
     ghost near: { left < 2 ^ 10 },
     ghost narrow: { width < 2 ^ 10 },
     ghost some: { 1 ≤ long },
+    ghost short: { long ≤ 2 ^ 50 },
     ghost small_gap: { gap < 2 ^ 36 },
     ghost few_before: { before < 2 ^ 14 },
     ghost few_ticks: { ticks ≤ 2 ^ 15 },

@@ -2,7 +2,7 @@
 //! with. After an error of a call that appends, a part of what it appends may stand in the output.
 #![tactic(auto)]
 
-pub use axis::{Axis, gap_of, gaps_in};
+pub use axis::Axis;
 pub use escape::{append_cut, append_shown};
 pub use laws::texts_are_escaped;
 pub use memory::in_memory;

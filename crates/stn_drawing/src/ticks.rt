@@ -1,15 +1,45 @@
-//! The ticks of an axis.
-ghost use Rattle.std.specs.{Prelude.{◌≡◌, ◌+◌, ◌++◌, ◌<◌, OnOk}, List.{flat_map, range_with_len}};
+//! An axis with its ticks.
+ghost use Rattle.std.specs.{Prelude.{◌≡◌, ◌+◌, ◌++◌, ◌<◌, ◌^◌, OnOk}, List.{flat_map, range_with_len}};
 ghost use Rattle.stn_drawing.specs.Ticks as is;
 ghost use Rattle.stn_drawing.specs.Seen.{seen_axis};
 
-use crate::axis::{Axis, unit_of, unit_text};
+use crate::axis::{Axis, gap_of, gaps_in, unit_of, unit_text};
 use crate::memory::in_memory;
 use std::alloc::Allocator;
 use std::io::Write;
 use stn_time::Memory;
 
 impl Axis {
+    /// The axis of such a place and width that reaches so far before the time 0 and so far after it.
+    pub fn reaching(left: u64, width: u64, before: u64, after: u64, bottom: u64) -> Axis
+        requires left { left < 2 ^ 10 }
+        requires width { width < 2 ^ 10 }
+        requires before { before < 2 ^ 45 }
+        requires after { after < 2 ^ 45 }
+        ensures { seen_axis result ≡ is.axis_reaching left width before after bottom }
+    {
+        let gap = gap_of(before, after);
+        let (early, late) = (gaps_in(gap, before), gaps_in(gap, after));
+        Axis {
+            left,
+            width,
+            long: (gap * (early + late)).max(1),
+            gap,
+            before: early,
+            ticks: early + late + 1,
+            bottom,
+        }
+    }
+
+    /// Where a time stands that is so far after the beginning.
+    pub fn place_of(&self, far: u64) -> u64
+        requires { far < 2 ^ 53 }
+        ensures value { result ≡ is.place_on (seen_axis self.now) far }
+        ensures small { result < 2 ^ 63 + 2 ^ 10 }
+    {
+        self.left + self.width * far / self.long
+    }
+
     /// Appends the lines of the ticks, and the words above them.
     pub fn append<A: Allocator>(&self, out: &mut Vec<u8, A>) -> Result<(), Memory>
         ensures { OnOk result (out.new.items ≡ out.old.items ++ is.axis_text (seen_axis self.now)) }
@@ -25,25 +55,18 @@ impl Axis {
         ensures { OnOk result (out.new.items ≡ out.old.items ++ flat_map (is.tick_line (seen_axis self.now)) (range_with_len 0 self.now.ticks)) }
     {
         for tick in 0..self.ticks {
-            self.append_line(out, tick)?;
+            let (left, bottom) = (self.tick_place(tick), self.bottom);
+            in_memory(write!(out, "M{left} 50V{bottom}"))?;
         }
         Ok(())
     }
 
-    fn append_line<A: Allocator>(&self, out: &mut Vec<u8, A>, tick: u64) -> Result<(), Memory>
-        requires { tick < self.now.ticks }
-        ensures { OnOk result (out.new.items ≡ out.old.items ++ is.tick_line (seen_axis self.now) tick) }
-    {
-        let (left, bottom) = (self.place_of(tick), self.bottom);
-        in_memory(write!(out, "M{left} 50V{bottom}"))
-    }
-
     // Where a tick stands.
-    fn place_of(&self, tick: u64) -> u64
+    fn tick_place(&self, tick: u64) -> u64
         requires { tick < self.now.ticks }
         ensures { result ≡ is.tick_place (seen_axis self.now) tick }
     {
-        self.left + self.width * (self.gap * tick) / self.long
+        self.place_of(self.gap * tick)
     }
 
     fn append_words<A: Allocator>(&self, out: &mut Vec<u8, A>) -> Result<(), Memory>
@@ -59,7 +82,7 @@ impl Axis {
         requires { tick < self.now.ticks }
         ensures { OnOk result (out.new.items ≡ out.old.items ++ is.tick_words (seen_axis self.now) tick) }
     {
-        let left = self.place_of(tick);
+        let left = self.tick_place(tick);
         in_memory(write!(out, "<tspan x='{left}'>"))?;
         self.append_count(out, tick)?;
         out.extend_from_slice(b"</tspan>")

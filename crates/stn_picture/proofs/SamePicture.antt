@@ -6,8 +6,7 @@ use Rattle.stn_records.specs.{Id.SiteCounter, declared.record.Record.Record, Con
 use Rattle.stn_conflict.specs.{Arcs.IsNegativeCycle, Named.IsNamedCycle}
 use Rattle.stn_site.specs.{Bounds.{all_bounds, bounds_of}, Report.{is_done, says_done}, Windows.{window_at, AreWindows}}
 use Rattle.stn_repairs.specs.Repairs.{AreRepairs}
-use Rattle.stn_drawing.specs.Axis.{gap_of, gaps_in}
-use Rattle.stn_chart.specs.{Chart.{Look, floor, floors, overdue_from, overdue_event, AreDrawn, chart_of, row_in, holder_in, axis_reach}, Frame.plan_text, Drawn.IsPlanPicture}
+use Rattle.stn_chart.specs.{Chart.{Look, floor, floors, overdue_from, overdue_event, AreDrawn, chart_of, row_in, holder_in, axis_for}, Frame.plan_text, Drawn.IsPlanPicture}
 use Rattle.stn_walk.specs.{Walk.{walk_of, walk_text}, Conflict.IsWalkPicture}
 use Rattle.stn_picture.specs.Picture.{IsPicture}
 
@@ -60,8 +59,7 @@ module _ (source : PlanSource) (s t : Content) (live : live_of s ≡ live_of t) 
     rows = map (row_in windows (steps_of source)) (range_with_len 0 (steps_of source + 1));
     holders = map (λ step. holder_in windows step (same_bounds i)) (range_with_len 0 (steps_of source + 1));
     overdue = late;
-    gap = gap_of 0 (axis_reach windows (events_of source) look.present);
-    ticks = gaps_in (gap_of 0 (axis_reach windows (events_of source) look.present)) (axis_reach windows (events_of source) look.present);
+    axis = axis_for windows (events_of source) look.present (steps_of source);
   }
 
   pub counted_picture : (look : Look) (names : List (List ℕ)) (text : List ℕ) → IsPicture look names source s text → IsPicture look names source t text

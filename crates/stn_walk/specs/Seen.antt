@@ -1,5 +1,6 @@
 -- The walk that the code has.
 use Rattle.std.specs.Prelude.{map}
+use Rattle.stn_drawing.specs.Seen.{seen_axis}
 use Rattle.stn_walk.specs.{declared.walk.Walk.Walk as WalkOfCode, Walk.Walk}
 
 abbrev pub seen_walk : {A : Type 0} → WalkOfCode A → Walk
@@ -12,7 +13,5 @@ seen_walk walk = record {
   links = walk.links.now;
   sums = walk.sums.now;
   repairs = walk.repairs.now;
-  gap = walk.gap;
-  before = walk.before;
-  after = walk.after;
+  axis = seen_axis walk.axis;
 }

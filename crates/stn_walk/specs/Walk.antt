@@ -1,6 +1,6 @@
 -- The picture of a conflict: a walk along its links. The first event stands at 0, and each link moves on by what it allows, so that each
 -- row ends at the latest time that the rows above leave its event.
-use Rattle.std.specs.{Prelude.{ℕ, ℤ, pos, neg_ℤ, ◌+◌, ◌-◌, ◌*◌, ◌/◌, ◌%◌, ◌+ℤ◌, ◌==◌, ◌&&◌, nat_lt, Bool, max, List, [], ◌∷◌, ◌++◌, length, take, map, slice_index_or, unsigned_abs, if◌then◌else◌, codes, decimal}, List.{flat_map, range_with_len}, Int.{is_negative, abs_diff}}
+use Rattle.std.specs.{Prelude.{ℕ, ℤ, pos, neg_ℤ, ◌+◌, ◌-◌, ◌*◌, ◌%◌, ◌+ℤ◌, ◌==◌, ◌&&◌, nat_lt, Bool, max, List, [], ◌∷◌, ◌++◌, length, take, map, slice_index_or, unsigned_abs, if◌then◌else◌, codes, decimal}, List.{flat_map, range_with_len}, Int.{is_negative, abs_diff}}
 use Rattle.stn_time.specs.Text.{printed}
 use Rattle.stn_net.specs.{Difference.Difference, Event.event_text}
 use Rattle.stn_lift.specs.BaseBounds.{step_of}
@@ -8,11 +8,11 @@ use Rattle.stn_records.specs.Id.{SiteCounter, same_ids}
 use Rattle.stn_conflict.specs.{declared.links.{Link.Link, Side.{Side, TheVariants.{Upper, Lower}}}, Arcs.{bound_at, arc_of, weight_of}}
 use Rattle.stn_site.specs.{declared.names.BoundName.{BoundName, TheVariants.{Plan, Record}}, Names.{name_in, name_text}, Lines.side_text}
 use Rattle.stn_repairs.specs.declared.repair.Repair.{Repair}
-use Rattle.stn_drawing.specs.{Axis.{gap_of, gaps_in}, Escape.cut, Sheet.{open_text, paper_text, heading_text}, Ticks.{Axis, axis_text}}
+use Rattle.stn_drawing.specs.{Escape.cut, Sheet.{open_text, paper_text, heading_text}, Ticks.{Axis, axis_reaching, axis_text, place_on}}
 use Rattle.stn_walk.specs.Style.{walk_style}
 
 -- what is drawn of a conflict: the title, the names of the steps, the plan's bounds, the ids and the bounds of the live records, the links,
--- the sums of the links above each row, the repairs, the gap of the axis, and how many gaps it has before 0 and after it
+-- the sums of the links above each row, the repairs, and the axis
 pub record Walk : Type 0 where
   pub title : List ℕ
   pub names : List (List ℕ)
@@ -22,9 +22,7 @@ pub record Walk : Type 0 where
   pub links : List Link
   pub sums : List ℤ
   pub repairs : List Repair
-  pub gap : ℕ
-  pub before : ℕ
-  pub after : ℕ
+  pub axis : Axis
 
 abbrev pub bounds_in : Walk → List Difference
 bounds_in walk = walk.base ++ walk.others
@@ -53,9 +51,20 @@ abbrev pub greatest : (ℤ → ℕ) → List ℤ → ℕ
 greatest far [] = 0
 greatest far (time ∷ times) = max (far time) (greatest far times)
 
--- the gap of an axis for these times
-abbrev pub gap_for : List ℤ → ℕ
-gap_for times = gap_of (greatest early times) (greatest late times)
+-- where the axis begins, and how wide it is
+abbrev pub axis_left : ℕ
+axis_left = 500
+
+abbrev pub axis_width : ℕ
+axis_width = 440
+
+-- where a row begins; rows are counted from 0
+abbrev pub walk_top : ℕ → ℕ
+walk_top row = 54 + 34 * row
+
+-- the axis for these times, down to below the rows of so many links
+abbrev pub axis_for : List ℤ → ℕ → Axis
+axis_for times links = axis_reaching axis_left axis_width (greatest early times) (greatest late times) (walk_top (links + 1))
 
 -- the walk along links, with these names, ids and repairs
 abbrev pub walk_of : List ℕ → List (List ℕ) → List Difference → List SiteCounter → List Difference → List Link → List Repair → Walk
@@ -68,35 +77,16 @@ walk_of title names base ids others links repairs = record {
   links = links;
   sums = sums_of (base ++ others) links;
   repairs = repairs;
-  gap = gap_for (sums_of (base ++ others) links);
-  before = gaps_in (gap_for (sums_of (base ++ others) links)) (greatest early (sums_of (base ++ others) links));
-  after = gaps_in (gap_for (sums_of (base ++ others) links)) (greatest late (sums_of (base ++ others) links));
+  axis = axis_for (sums_of (base ++ others) links) (length links);
 }
 
--- how far behind the beginning of the axis a time stands, and how long the axis is
+-- how far behind the beginning of the axis a time stands
 abbrev pub along : Walk → ℤ → ℕ
-along walk time = unsigned_abs (time +ℤ pos (walk.gap * walk.before))
+along walk time = unsigned_abs (time +ℤ pos (walk.axis.gap * walk.axis.before))
 
-abbrev pub length_of_axis : Walk → ℕ
-length_of_axis walk = max (walk.gap * (walk.before + walk.after)) 1
-
--- where the axis begins, and how wide it is
-abbrev pub axis_left : ℕ
-axis_left = 500
-
-abbrev pub axis_width : ℕ
-axis_width = 440
-
--- where a time stands: in proportion, rounded down
-abbrev pub place_among : ℕ → ℕ → ℕ
-place_among end far = axis_left + axis_width * far / end
-
+-- where a time stands
 abbrev pub walk_place : Walk → ℤ → ℕ
-walk_place walk time = place_among (length_of_axis walk) (along walk time)
-
--- where a row begins; rows are counted from 0
-abbrev pub walk_top : ℕ → ℕ
-walk_top row = 54 + 34 * row
+walk_place walk time = place_on walk.axis (along walk time)
 
 abbrev pub walk_height : ℕ → ℕ
 walk_height links = walk_top (links + 1) + 36
@@ -209,18 +199,6 @@ walk_row walk row = codes "<g>" ++ walk_title walk row ++ walk_words walk row ++
 abbrev pub walk_drops : Walk → List ℕ
 walk_drops walk = codes "<path class='o' d='" ++ flat_map (row_drop walk) (range_with_len 0 (length walk.links)) ++ codes "'/>\n"
 
--- the axis
-abbrev pub walk_axis : Walk → Axis
-walk_axis walk = record {
-  left = axis_left;
-  width = axis_width;
-  long = length_of_axis walk;
-  gap = walk.gap;
-  before = walk.before;
-  ticks = walk.before + walk.after + 1;
-  bottom = walk_top (length walk.links + 1);
-}
-
 -- the event at which the walk begins
 abbrev pub first_event : Walk → ℕ
 first_event walk = (arc_of (bounds_in walk) (row_link walk 0)).from
@@ -267,4 +245,4 @@ walk_foot walk = codes "<text class='s' x='8' y='" ++ decimal (walk_top (length 
 
 -- the picture of a conflict
 abbrev pub walk_text : Walk → List ℕ
-walk_text walk = walk_head walk ++ axis_text (walk_axis walk) ++ walk_drops walk ++ flat_map (walk_row walk) (range_with_len 0 (length walk.links)) ++ last_row walk ++ walk_foot walk ++ codes "</svg>\n"
+walk_text walk = walk_head walk ++ axis_text walk.axis ++ walk_drops walk ++ flat_map (walk_row walk) (range_with_len 0 (length walk.links)) ++ last_row walk ++ walk_foot walk ++ codes "</svg>\n"

@@ -6,11 +6,11 @@ ghost use Rattle.stn_conflict.specs.{Arcs.{arc_of, IsNegativeCycle}, Named.IsNam
 ghost use Rattle.stn_site.specs.Bounds.{all_bounds, live_bounds};
 ghost use Rattle.stn_walk.specs.{Conflict.IsWalkPicture, Walk.{early, late, greatest, sums_of}};
 
-use crate::parts::sum_in;
+use crate::parts::{AXIS_LEFT, AXIS_WIDTH, sum_in, top_of};
 use crate::walk::Walk;
 use std::alloc::{AllocError, Allocator};
 use stn_conflict::{Link, Side, cycle};
-use stn_drawing::{gap_of, gaps_in};
+use stn_drawing::Axis;
 use stn_net::Bound;
 use stn_repairs::repairs_of;
 use stn_site::{SitePlan, bound_at};
@@ -54,7 +54,7 @@ fn text_along<'x, A: Allocator + Copy>(
     let sums = sums_of(plan.alloc(), base, live, links)?;
     let repairs = repairs_of(plan, links)?;
     let (before, after) = reach_of(&sums);
-    let gap = gap_of(before, after);
+    let bottom = top_of(links.len() + 1);
     let walk = Walk {
         title,
         names,
@@ -64,9 +64,7 @@ fn text_along<'x, A: Allocator + Copy>(
         links,
         sums: &sums,
         repairs: &repairs,
-        gap,
-        before: gaps_in(gap, before),
-        after: gaps_in(gap, after),
+        axis: Axis::reaching(AXIS_LEFT, AXIS_WIDTH, before, after, bottom),
     };
     let mut text = Vec::new(plan.alloc());
     walk.append(&mut text)?;

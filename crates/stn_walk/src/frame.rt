@@ -2,15 +2,14 @@
 ghost use Rattle.std.specs.{Prelude.{◌≡◌, ◌+◌, ◌++◌, ◌<◌, ◌≤◌, ◌^◌, length, unsigned_abs, OnOk, neg_ℤ}, List.{flat_map, range_with_len}};
 ghost use Rattle.stn_time.specs.Text.{printed};
 ghost use Rattle.stn_walk.specs.Walk as is;
-ghost use Rattle.stn_drawing.specs.Seen.{seen_axis};
 ghost use Rattle.stn_walk.specs.Seen.{seen_walk};
 
-use crate::parts::{AXIS_LEFT, AXIS_WIDTH, top_of};
+use crate::parts::top_of;
 use crate::style::WALK;
 use crate::walk::Walk;
 use std::alloc::Allocator;
 use std::io::Write;
-use stn_drawing::{Axis, append_heading, append_opening, append_paper, in_memory};
+use stn_drawing::{append_heading, append_opening, append_paper, in_memory};
 use stn_text::print_event;
 use stn_time::{Memory, print_millis};
 
@@ -23,27 +22,12 @@ impl<'a, 'b, A: Allocator> Walk<'a, 'b, A> {
         ensures { OnOk result (out.new.items ≡ out.old.items ++ is.walk_text (seen_walk self.now)) }
     {
         self.append_head(out)?;
-        self.axis().append(out)?;
+        self.axis.append(out)?;
         self.append_drops(out)?;
         self.append_rows(out)?;
         self.append_last_row(out)?;
         self.append_foot(out)?;
         out.extend_from_slice(b"</svg>\n")
-    }
-
-    // Its axis.
-    fn axis(&self) -> Axis
-        ensures { seen_axis result ≡ is.walk_axis (seen_walk self.now) }
-    {
-        Axis {
-            left: AXIS_LEFT,
-            width: AXIS_WIDTH,
-            long: self.length_of_axis(),
-            gap: self.gap,
-            before: self.before,
-            ticks: self.before + self.after + 1,
-            bottom: top_of(self.links.len() + 1),
-        }
     }
 
     // Appends the last row: the first event again, before itself.
@@ -87,7 +71,7 @@ impl<'a, 'b, A: Allocator> Walk<'a, 'b, A> {
         requires { 1 ≤ length self.now.links.now }
         ensures { OnOk result (out.new.items ≡ out.old.items ++ is.again_text (seen_walk self.now)) }
     {
-        let left = self.left_of(self.links.len()) - 8;
+        let left = self.left_of(self.links.len()).saturating_sub(8);
         let base = top_of(self.links.len()) + 21;
         in_memory(write!(out, "<text class='e' x='{left}' y='{base}'>"))?;
         print_event(self.begins_at(0), out)?;

@@ -1,5 +1,5 @@
 //! What is true of the rows of a conflict.
-ghost use Rattle.std.specs.Prelude.{◌≡◌, ◌<◌, ◌≤◌, ◌^◌, length, pos, slice_index_or, unsigned_abs, All};
+ghost use Rattle.std.specs.Prelude.{◌≡◌, ◌+◌, ◌<◌, ◌^◌, length, pos, slice_index_or, unsigned_abs, All};
 ghost use Rattle.stn_conflict.specs.Arcs.{arc_of};
 ghost use Rattle.stn_walk.specs.Walk as is;
 ghost use Rattle.stn_walk.specs.Seen.{seen_walk};
@@ -30,26 +30,17 @@ impl<'a, 'b, A: Allocator> Walk<'a, 'b, A> {
         ensures value { result ≡ is.along (seen_walk self.now) time }
         ensures small { result < 2 ^ 53 }
     {
-        let shift = (self.gap * self.before) as i64;
+        let shift = (self.axis.gap * self.axis.before) as i64;
         (time + shift).unsigned_abs()
-    }
-
-    /// How long the axis is.
-    pub fn length_of_axis(&self) -> u64
-        ensures value { result ≡ is.length_of_axis (seen_walk self.now) }
-        ensures some { 1 ≤ result }
-    {
-        (self.gap * (self.before + self.after)).max(1)
     }
 
     /// Where a time stands.
     pub fn place_of(&self, time: i64) -> u64
         requires { unsigned_abs time < 2 ^ 52 }
         ensures value { result ≡ is.walk_place (seen_walk self.now) time }
-        ensures small { result < 2 ^ 63 }
-        ensures right { 500 ≤ result }
+        ensures small { result < 2 ^ 63 + 2 ^ 10 }
     {
-        place_among(self.length_of_axis(), self.along(time))
+        self.axis.place_of(self.along(time))
     }
 
     /// The link of a row.
@@ -98,17 +89,6 @@ pub fn sum_in(sums: &[i64], place: usize) -> i64
     ensures small { unsigned_abs result < 2 ^ 45 }
 {
     sums.get(place).copied().unwrap_or(0)
-}
-
-// Where a time stands, so far along an axis.
-fn place_among(end: u64, along: u64) -> u64
-    requires end { 1 ≤ end }
-    requires along { along < 2 ^ 53 }
-    ensures value { result ≡ is.place_among end along }
-    ensures small { result < 2 ^ 63 }
-    ensures right { 500 ≤ result }
-{
-    AXIS_LEFT + AXIS_WIDTH * along / end
 }
 
 /// Where a row begins, in pixels from the top.

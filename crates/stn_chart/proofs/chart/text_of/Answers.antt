@@ -1,16 +1,8 @@
 use Rattle.std.{proofs.Common.{◌≡◌, ◌+◌, ◌++◌, ℕ, List, map, ap, ◌∙◌, arith}, specs.List.range_with_len}
 use Rattle.stn_lift.specs.PlanSource.{base_bounds, steps_of, events_of}
-use Rattle.stn_drawing.specs.Axis.{gap_of, gaps_in}
-use Rattle.stn_chart.specs.{Chart.{Chart, seen_look, row_in, holder_in, axis_reach, chart_of}, Frame.plan_text, Seen.overdue_of}
+use Rattle.stn_drawing.specs.Ticks.{axis_reaching}
+use Rattle.stn_chart.specs.{Chart.{Chart, seen_look, row_in, holder_in, axis_reach, chart_of}, Frame.plan_text, Places.{line_left, line_width, row_top}, Seen.overdue_of}
 use Rattle.stn_chart.proofs.chart.text_of.Goals as goal
-
-pub invariant_of-chart : goal.invariant_of-chart
-invariant_of-chart g c = record {
-  some_gap = omega (arith, c.gap_of-gap.ensures.least);
-  some_ticks = c.gaps_in.ensures.some c.axis_reach-far.ensures.some;
-  small_gap = c.gap_of-gap.ensures.most;
-  few_ticks = omega (arith, c.gap_of-gap.ensures.few, c.gaps_in.ensures.value);
-}
 
 pub returns : goal.returns
 returns g c =
@@ -30,8 +22,8 @@ returns g c =
     let holders = c.deref-8.ensures.value ∙ c.in_ok-holders.ensures
     ∙ (λ i. map (λ step. holder_in (c.deref-2.ensures.value i) step (base i ++ live i)) (range_with_len 0 (steps i + 1))) in
     let far = c.axis_reach-far.ensures.value ∙ (λ i. axis_reach (c.deref-4.ensures.value i) (events i) present) in
-    let gap = c.gap_of-gap.ensures.gap ∙ ap (gap_of 0) far in
-    let ticks = c.gaps_in.ensures.value ∙ (λ i. gaps_in (gap i) (far i)) in
+    let bottom = c.row_top-bottom.ensures.value ∙ ap row_top (c.from.ensures ∙ steps) in
+    let axis = c.reaching.ensures ∙ (λ i. axis_reaching line_left line_width 0 (far i) (bottom i)) in
     let chart : Chart = chart_of look names source state windows overdue in
     c.in_ok-append.ensures
     ∙ (λ i. c.new-text.ensures.items i ++ plan_text (record {
@@ -43,6 +35,5 @@ returns g c =
       rows = rows i;
       holders = holders i;
       overdue = c.overdue_of.ensures i;
-      gap = gap i;
-      ticks = ticks i;
+      axis = axis i;
     }))

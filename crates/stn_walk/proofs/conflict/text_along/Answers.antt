@@ -2,8 +2,8 @@ use Rattle.std.{proofs.{Common.{◌++◌, ◌<◌, ◌^◌, ℕ, ℤ, List, map,
 use Rattle.stn_lift.specs.PlanSource.{base_bounds}
 use Rattle.stn_records.specs.{Id.SiteCounter, declared.record.Record.Record, Content.live_of}
 use Rattle.stn_site.specs.{Bounds.{live_bounds}}
-use Rattle.stn_drawing.specs.Axis.{gap_of, gaps_in}
-use Rattle.stn_walk.specs.Walk.{early, late, greatest, sums_of, walk_text}
+use Rattle.stn_drawing.specs.Ticks.{axis_reaching}
+use Rattle.stn_walk.specs.Walk.{axis_left, axis_width, early, late, greatest, sums_of, walk_text}
 use Rattle.stn_walk.proofs.conflict.text_along.Goals as goal
 
 pub invariant_of-walk : goal.invariant_of-walk
@@ -14,10 +14,6 @@ invariant_of-walk g c =
     let live = c.requires.live in
     let ids = c.deref-2.ensures.value ∙ c.in_ok-ids.ensures in
     record {
-      some_gap = omega (arith, c.gap_of-gap.ensures.least);
-      small_gap = c.gap_of-gap.ensures.most;
-      few_before = omega (arith, c.gap_of-gap.ensures.few, c.gaps_in.ensures.value);
-      few_after = omega (arith, c.gap_of-gap.ensures.few, c.gaps_in-2.ensures.value);
       few_links = omega (arith, c.requires.short);
       places = λ k d within. omega (arith, c.requires.places k d within, length-append (base_bounds source) (live_bounds state), ap length base, ap length live);
       named = omega (arith, ap length ids, ap length live, length-map (live_of state) (λ (entry : SiteCounter × Record). entry.0), length-map (live_of state) (λ (entry : SiteCounter × Record). entry.1.bound));
@@ -37,9 +33,7 @@ returns g c =
     let sums = c.in_ok-sums.ensures.sums ∙ (λ i. sums_of (base i ++ live i) links) in
     let before = c.reach_of-before.ensures.before ∙ ap (greatest early) (c.deref.ensures.value ∙ sums) in
     let after = c.reach_of-before.ensures.after ∙ ap (greatest late) (c.deref.ensures.value ∙ sums) in
-    let gap = c.gap_of-gap.ensures.gap ∙ (λ i. gap_of (before i) (after i)) in
-    let first = c.gaps_in.ensures.value ∙ (λ i. gaps_in (gap i) (before i)) in
-    let last = c.gaps_in-2.ensures.value ∙ (λ i. gaps_in (gap i) (after i)) in
+    let axis = c.reaching.ensures ∙ (λ i. axis_reaching axis_left axis_width (before i) (after i) (c.top_of-bottom.ensures.value i)) in
     record {
       links = links;
       named = c.requires.named;
@@ -56,8 +50,6 @@ returns g c =
             links = links;
             sums = (c.deref-3.ensures.value ∙ sums) i;
             repairs = c.deref-4.ensures.value i;
-            gap = gap i;
-            before = first i;
-            after = last i;
+            axis = axis i;
           }));
     }

@@ -1,11 +1,11 @@
-use Rattle.std.proofs.Common.{◌++◌, append_assoc, ap, ◌∙◌}
-use Rattle.stn_drawing.{specs.Ticks.axis_text, proofs.Grown.{then, last}}
+use Rattle.std.proofs.Common.{append_assoc}
+use Rattle.stn_drawing.proofs.Grown.{then, last}
 use Rattle.stn_chart.proofs.look.Chart.append.Goals as goal
 
 pub returns : goal.returns
 returns g c =
     let out = c.args.out.now.items in
-    let axis = then out _ _ c.in_ok-append_head.ensures (c.in_ok-append.ensures ∙ ap (λ axis. c.append_head.new.out.items ++ axis_text axis) c.axis.ensures) in
+    let axis = then out _ _ c.in_ok-append_head.ensures c.in_ok-append.ensures in
     let rows = then out _ _ axis c.in_ok-append_rows.ensures in
     let present = then out _ _ rows c.in_ok-append_present.ensures in
     let legend = then out _ _ present c.in_ok-append_legend.ensures in

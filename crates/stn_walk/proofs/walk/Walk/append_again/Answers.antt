@@ -7,4 +7,4 @@ returns g c =
     let out = c.args.out.now.items in
     let first = on_ok _ c.write.result c.in_ok-in_memory.ensures c.write.ensures.bytes in
     let second = then out _ _ first c.in_ok-print_event.ensures.printed in
-    last c.extend_from_slice.result out _ _ _ second c.extend_from_slice.ensures.items (simp (append_assoc, c.left_of.ensures.value, c.top_of.ensures.value, c.begins_at.ensures))
+    last c.extend_from_slice.result out _ _ _ second c.extend_from_slice.ensures.items (simp (append_assoc, c.saturating_sub-left.ensures, c.left_of.ensures.value, c.top_of.ensures.value, c.begins_at.ensures))
