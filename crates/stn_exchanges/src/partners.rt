@@ -2,8 +2,8 @@
 
 ghost use Rattle.std.specs.Prelude.{◌≡◌, ◌++◌, ◌-◌, ◌^◌, ◌<◌, OnOk};
 ghost use Rattle.stn_device.specs.{Counted.failure_count, Partner.partner_state};
-ghost use Rattle.stn_effects.specs.{Effects.seen, Printing.{Device, device_of, Writes}};
-ghost use Rattle.stn_exchanges.specs.{Connections.{ended_text, fault_word, session_text, meeting, PartsAfter, ServesSite, Asks, Hears, SendsTo}, Joining.{KeepsIn, shared}};
+ghost use Rattle.stn_effects.specs.{Effects.{seen, Then}, Printing.{Device, device_of, Writes}};
+ghost use Rattle.stn_exchanges.specs.{Connections.{ended_text, fault_word, session_text, meeting, OnPrinted, LetsGo, PartsAfter, ServesSite, Asks, Hears, SendsTo}, Joining.{KeepsIn, Shared, shared}};
 ghost use Rattle.stn_session.specs.Serving.{Serves, talk, session_answer};
 ghost use Rattle.stn_store.specs.Steps.{Entries};
 
@@ -51,9 +51,7 @@ pub fn serve_partner<
     take_log(store, log, None, copy)?;
     let session = serve_session(alloc, store, partner, log, copy)?;
     save_join(store, log, copy)?;
-    print_session(alloc, session, out)?;
-    part_after(session, partner);
-    Ok(session)
+    end_session(alloc, session, partner, out)
 }
 
 // Serves a session, and saves in the log each state before the other site is told of it. A fault that ends a session is told in its
@@ -94,6 +92,22 @@ fn answer_of(session: Result<Served, KeepingFault>) -> Result<Result<Served, Ser
         Err(KeepingFault::Serve(fault)) => Ok(Err(fault)),
         Err(KeepingFault::Keep(failure)) => Err(failure),
     }
+}
+
+// Prints how a session ended, and parts from another site that was told why.
+fn end_session<R: Read, W: Finish, O: Write, A: Allocator>(
+    alloc: A,
+    session: Result<Served, ServeFault>,
+    partner: &mut Partner<R, W>,
+    out: &mut Counted<O>,
+) -> Result<Result<Served, ServeFault>, Failure>
+    ensures { (state : Shared) → Then (OnPrinted (Writes (session_text session))) (λ _. LetsGo session)
+        (meeting (partner_state R.remaining W.contents W.ended partner.old) state (device_of O.contents out.old))
+        (meeting (partner_state R.remaining W.contents W.ended partner.new) state (device_of O.contents out.new)) result }
+{
+    print_session(alloc, session, out)?;
+    part_after(session, partner);
+    Ok(session)
 }
 
 // Parts from another site that was told why its session ended.

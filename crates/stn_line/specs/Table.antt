@@ -10,12 +10,9 @@ read_rule (word.Text name help) = word_rule name.now
 read_rule (word.Number name help least most) = number_rule name.now least most
 read_rule (word.MaybeText name help) = maybe_rule name.now
 read_rule (word.Texts name help) = many_rule name.now
-read_rule (word.Time name help) = option_rule name.now
+read_rule (word.Value name value help) = option_rule name.now
 read_rule (word.Seconds name help) = number_option_rule name.now 1 most_seconds
 read_rule (word.Flag name help) = flag_rule name.now
-read_rule (word.Steps name help) = option_rule name.now
-read_rule (word.Plan name help) = option_rule name.now
-read_rule (word.YesNo name help) = option_rule name.now
 read_rule (word.Owned name help) = options_rule name.now
 
 abbrev pub read_shape : Row → Shape

@@ -27,18 +27,12 @@ enum Word {
     MaybeText(&'static str, &'static str),
     // Any number of words.
     Texts(&'static str, &'static str),
-    // An option that is a time, `--name=T`.
-    Time(&'static str, &'static str),
+    // An option with a value, `--name=VALUE`; the help calls the value by the second text.
+    Value(&'static str, &'static str, &'static str),
     // An option that is a number of seconds, `--name=N`.
     Seconds(&'static str, &'static str),
     // A flag, `--name`.
     Flag(&'static str, &'static str),
-    // An option that names steps, `--name=STEPS`.
-    Steps(&'static str, &'static str),
-    // An option that names a plan's file, `--name=PLAN`.
-    Plan(&'static str, &'static str),
-    // An option that is `yes` or `no`, `--name=yes`.
-    YesNo(&'static str, &'static str),
     // An option that names steps of a site, `--name=SITE:STEPS`. It may be given any number of times.
     Owned(&'static str, &'static str),
 }
@@ -70,25 +64,21 @@ const FROM: Word = Word::Text("FROM", "The event to count from: `z`, `s1`, `e1`"
 
 const TO: Word = Word::Text("TO", "The event to count to");
 
-const LO: Word = Word::Time(
+const LO: Word = Word::Value(
     "lo",
+    "T",
     "TO comes at least T seconds after FROM; open if not given",
 );
 
-const HI: Word = Word::Time(
+const HI: Word = Word::Value(
     "hi",
+    "T",
     "TO comes at most T seconds after FROM; open if not given",
 );
 
-const NOW: Word = Word::Text("NOW", "The time now, in seconds after the origin");
-
-const STEPS: Word = Word::Steps(
-    "steps",
-    "Only events of these steps, as `2,4-6`, count as left; all, if not given",
-);
-
-const NAMES: Word = Word::Plan(
+const NAMES: Word = Word::Value(
     "plan",
+    "PLAN",
     "The file of a plan whose actions name the steps; for a bare or loosened plan",
 );
 
@@ -97,7 +87,20 @@ const OWN_NAMES: Word = Word::Flag(
     "The log's own plan names the steps; for a log of `init`",
 );
 
-const STARTS: Word = Word::Flag("starts", "Only starts count as left");
+// The words of what is asked of the events that are left.
+const OUTLOOK: [Word; 7] = [
+    LOG,
+    SITE,
+    Word::Text("NOW", "The time now, in seconds after the origin"),
+    Word::Value(
+        "steps",
+        "STEPS",
+        "Only events of these steps, as `2,4-6`, count as left; all, if not given",
+    ),
+    Word::Flag("starts", "Only starts count as left"),
+    NAMES,
+    OWN_NAMES,
+];
 
 // What runs scripts, makes logs and changes them. The commands stand in two tables: one of all would exceed the prover's steps.
 const CHANGES: [Row; 10] = [
@@ -133,12 +136,14 @@ const CHANGES: [Row; 10] = [
             SITE,
             DOMAIN,
             PLAN,
-            Word::Time(
+            Word::Value(
                 "early",
+                "T",
                 "How many seconds less than planned a step may take; 0 if not given",
             ),
-            Word::Time(
+            Word::Value(
                 "late",
+                "T",
                 "How many seconds more than planned a step may take; 0 if not given",
             ),
             Word::Flag(
@@ -220,12 +225,12 @@ const QUESTIONS: [Row; 15] = [
     Row {
         name: "next",
         about: "Says which event to run next, and when",
-        words: &[LOG, SITE, NOW, STEPS, STARTS, NAMES, OWN_NAMES],
+        words: &OUTLOOK,
     },
     Row {
         name: "ready",
         about: "Says which events may run from NOW on, and until when",
-        words: &[LOG, SITE, NOW, STEPS, STARTS, NAMES, OWN_NAMES],
+        words: &OUTLOOK,
     },
     Row {
         name: "why",
@@ -274,7 +279,7 @@ const QUESTIONS: [Row; 15] = [
     Row {
         name: "rehearse",
         about: "Prints the rest of the plan as `next` would run it from NOW on",
-        words: &[LOG, SITE, NOW, STEPS, STARTS, NAMES, OWN_NAMES],
+        words: &OUTLOOK,
     },
     Row {
         name: "draw",
@@ -282,12 +287,14 @@ const QUESTIONS: [Row; 15] = [
         words: &[
             LOG,
             SITE,
-            Word::Time(
+            Word::Value(
                 "now",
+                "T",
                 "The time now: all that is left comes at T or later; not shown, if not given",
             ),
-            Word::YesNo(
+            Word::Value(
                 "arrows",
+                "WORD",
                 "Whether arrows lead to each start from what holds it back: `yes`, if not given, or `no`",
             ),
             NAMES,
@@ -401,7 +408,10 @@ fn argument<'a>(alloc: Global, word: &Word) -> Arg<'a>
             .help(help),
         Word::MaybeText(name, help) => Arg::new(alloc, name).help(help),
         Word::Texts(name, help) => Arg::new(alloc, name).num_args(..).help(help),
-        Word::Time(name, help) => Arg::new(alloc, name).long(name).value_name("T").help(help),
+        Word::Value(name, value, help) => Arg::new(alloc, name)
+            .long(name)
+            .value_name(value)
+            .help(help),
         Word::Seconds(name, help) => Arg::new(alloc, name)
             .long(name)
             .value_name("N")
@@ -410,18 +420,6 @@ fn argument<'a>(alloc: Global, word: &Word) -> Arg<'a>
         Word::Flag(name, help) => Arg::new(alloc, name)
             .long(name)
             .action(ArgAction::SetTrue)
-            .help(help),
-        Word::Steps(name, help) => Arg::new(alloc, name)
-            .long(name)
-            .value_name("STEPS")
-            .help(help),
-        Word::Plan(name, help) => Arg::new(alloc, name)
-            .long(name)
-            .value_name("PLAN")
-            .help(help),
-        Word::YesNo(name, help) => Arg::new(alloc, name)
-            .long(name)
-            .value_name("WORD")
             .help(help),
         Word::Owned(name, help) => Arg::new(alloc, name)
             .long(name)

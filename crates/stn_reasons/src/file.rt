@@ -1,9 +1,9 @@
 //! The log of a command, and the file that a refusal is about.
 
-ghost use Rattle.std.specs.Prelude.{◌≡◌, ◌++◌, OnOk, decimal, option_map};
+ghost use Rattle.std.specs.Prelude.{◌≡◌, ◌++◌, OnOk, option_map};
 ghost use Rattle.stn_reasons.specs.Reasons as spec;
 
-use itoa::Buffer;
+use crate::telling::append_number;
 use std::alloc::Allocator;
 use stn_line::{Line, LogChange, NewLog, SiteLog};
 use stn_refusal::{Code, Place, Refusal};
@@ -97,7 +97,7 @@ fn append_place<A: Allocator>(refusal: Refusal, out: &mut Vec<u8, A>) -> Result<
     match refusal.place {
         Place::Number(number) => {
             out.extend_from_slice(place_word(refusal.code))?;
-            append_digits(number, out)
+            append_number(number as usize, out)
         }
         Place::Nowhere | Place::Event(_) | Place::Id { .. } => Ok(()),
     }
@@ -112,12 +112,4 @@ fn place_word(number: u8) -> &'static [u8]
     } else {
         b", line "
     }
-}
-
-// Appends the decimal digits of a number.
-fn append_digits<A: Allocator>(number: u32, out: &mut Vec<u8, A>) -> Result<(), Memory>
-    ensures { OnOk result (out.new.items ≡ out.old.items ++ decimal number) }
-{
-    let mut buffer = Buffer::new();
-    out.extend_from_slice(buffer.format(number).as_bytes())
 }

@@ -36,23 +36,17 @@ pub fn reason_of<S: Store<A>, A: Allocator + Copy>(
     ensures { IfOk result (λ reason. IsReason (S.entries store.now) line.now failure reason.items) }
 {
     match failure {
-        Failure::Refused(refusal) => reason_of_refusal(alloc, store, line, refusal),
+        Failure::Refused(refusal) => {
+            let command = RefusedCommand {
+                alloc,
+                store,
+                line,
+                refusal,
+            };
+            command.reason()
+        }
         Failure::Failed(fault) => reason_of_fault(alloc, store.trouble(), line, fault),
     }
-}
-
-// What a refusal means, and what it is about.
-fn reason_of_refusal<S: Store<A>, A: Allocator + Copy>(
-    alloc: A,
-    store: &S,
-    line: &Line<'_>,
-    refusal: Refusal,
-) -> Result<Vec<u8, A>, Memory>
-    ensures { IfOk result (λ reason. IsRefusalReason (S.entries store.now) line.now refusal reason.items) }
-{
-    let meaning = meaning_of_refusal(alloc, refusal)?;
-    let about = about(alloc, store, line, refusal)?;
-    joined(meaning, &about)
 }
 
 /// What a refusal means and what it is about, on one line.
@@ -64,18 +58,233 @@ pub fn reason_in_line<S: Store<A>, A: Allocator + Copy>(
 ) -> Result<Vec<u8, A>, Memory>
     ensures { IfOk result (λ reason. IsReasonInLine (S.entries store.now) line.now refusal reason.items) }
 {
-    let meaning = meaning_of_refusal(alloc, refusal)?;
-    let about = about(alloc, store, line, refusal)?;
-    joined_in_line(meaning, &about)
+    let command = RefusedCommand {
+        alloc,
+        store,
+        line,
+        refusal,
+    };
+    command.reason_in_line()
 }
 
-// What a refusal means; nothing, where its number has no meaning.
-fn meaning_of_refusal<A: Allocator + Copy>(alloc: A, refusal: Refusal) -> Result<Vec<u8, A>, Memory>
-    ensures { IfOk result (λ text. IsMeant (decimal refusal.code) text.items) }
-{
-    let mut digits = Buffer::new();
-    let word = digits.format(refusal.code);
-    meaning_of(alloc, word)
+// A command that was refused, and the store of its log, where more can be found out.
+#[derive(Drop)]
+struct RefusedCommand<'c, 'l, S, A> {
+    alloc: A,
+    store: &'c S,
+    line: &'c Line<'l>,
+    refusal: Refusal,
+}
+
+impl<'c, 'l, S: Store<A>, A: Allocator + Copy> RefusedCommand<'c, 'l, S, A> {
+    // What the refusal means, and what it is about.
+    fn reason(&self) -> Result<Vec<u8, A>, Memory>
+        ensures { IfOk result (λ reason. IsRefusalReason (S.entries self.now.store.now) self.now.line.now self.now.refusal reason.items) }
+    {
+        let meaning = self.meaning()?;
+        let about = self.about()?;
+        joined(meaning, &about)
+    }
+
+    // The same, on one line.
+    fn reason_in_line(&self) -> Result<Vec<u8, A>, Memory>
+        ensures { IfOk result (λ reason. IsReasonInLine (S.entries self.now.store.now) self.now.line.now self.now.refusal reason.items) }
+    {
+        let meaning = self.meaning()?;
+        let about = self.about()?;
+        joined_in_line(meaning, &about)
+    }
+
+    // What the refusal means; nothing, where its number has no meaning.
+    fn meaning(&self) -> Result<Vec<u8, A>, Memory>
+        ensures { IfOk result (λ text. IsMeant (decimal self.now.refusal.code) text.items) }
+    {
+        let mut digits = Buffer::new();
+        let word = digits.format(self.refusal.code);
+        meaning_of(self.alloc, word)
+    }
+
+    // What the refusal is about.
+    fn about(&self) -> Result<Vec<u8, A>, Memory>
+        ensures { IfOk result (λ text. TellsAbout (word_refused self.now.line.now) (S.entries self.now.store.now)
+            self.now.line.now self.now.refusal text.items) }
+    {
+        match refused_word(self.alloc, self.line)? {
+            Some(refused) => self.about_word(&refused),
+            None => self.about_file(),
+        }
+    }
+
+    // The line for a word that refuses the command.
+    fn about_word(&self, refused: &RefusedWord<'_>) -> Result<Vec<u8, A>, Memory>
+        ensures { IfOk result (λ text. TellsWord (S.entries self.now.store.now) self.now.line.now refused.now text.items) }
+    {
+        let steps = self.steps();
+        let mut text = Vec::new(self.alloc);
+        append_refused_word(self.alloc, refused, steps, &mut text)?;
+        Ok(text)
+    }
+
+    // How many steps the plan of the command's log has, where that can be found out.
+    fn steps(&self) -> Option<u16>
+        ensures { HasSteps (S.entries self.now.store.now) self.now.line.now result }
+    {
+        match log_of(self.line) {
+            Some(log) => self.steps_in(log),
+            None => None,
+        }
+    }
+
+    // How many steps the plan of a log has, where it can be opened.
+    fn steps_in(&self, log: &SiteLog<'_>) -> Option<u16>
+        ensures { IfSome result (λ steps. (held : Held) × Opens (S.entries self.now.store.now) log.now.name.now log.now.site held
+            × (plan_steps held.source ≡ steps)) }
+    {
+        match self.store.load(log.name, log.site) {
+            Ok(plan) => Some(plan.base().steps()),
+            Err(_) => None,
+        }
+    }
+
+    // The file that the refusal is about, or what else it is about where the words are well.
+    fn about_file(&self) -> Result<Vec<u8, A>, Memory>
+        ensures { IfOk result (λ text. TellsFile (spec.file_refused self.now.line.now self.now.refusal.code) (S.entries self.now.store.now)
+            self.now.line.now self.now.refusal text.items) }
+    {
+        match refused_file(self.line, self.refusal.code) {
+            Some(name) => self.file_text(name),
+            None => self.about_log(),
+        }
+    }
+
+    // The line that names a file and the place in it.
+    fn file_text(&self, name: &str) -> Result<Vec<u8, A>, Memory>
+        ensures { IfOk result (λ text. text.items ≡ spec.file_text name.now self.now.refusal) }
+    {
+        let mut text = Vec::new(self.alloc);
+        append_file(name, self.refusal, &mut text)?;
+        Ok(text)
+    }
+
+    // What is not robust, or the log that is refused, or what a refusal by the log's plan is about.
+    fn about_log(&self) -> Result<Vec<u8, A>, Memory>
+        ensures { IfOk result (λ text. TellsLog (S.entries self.now.store.now) self.now.line.now self.now.refusal text.items
+            ⊎ (text.items ≡ [])) }
+    {
+        if self.refusal.code == Code::NotRobust.number() {
+            return self.about_promise();
+        }
+        match log_of(self.line) {
+            Some(log) => self.about_opened(log),
+            None => Ok(Vec::new(self.alloc)),
+        }
+    }
+
+    // What is not robust of the plan that the command loosens, where that can be found out.
+    fn about_promise(&self) -> Result<Vec<u8, A>, Memory>
+        ensures { IfOk result (λ text. TellsPromise (S.entries self.now.store.now) self.now.line.now text.items ⊎ (text.items ≡ [])) }
+    {
+        if let Line::Make(
+            _,
+            NewLog::Loosen {
+                domain,
+                plan,
+                early,
+                late,
+                ..
+            },
+        ) = self.line
+            && let Ok(text) = fragile_text(self.alloc, self.store, *domain, *plan, *early, *late)
+        {
+            Ok(text)
+        } else {
+            Ok(Vec::new(self.alloc))
+        }
+    }
+
+    // The log of the command, where this refuses to open it, or what a refusal by its plan is about.
+    fn about_opened(&self, log: &SiteLog<'_>) -> Result<Vec<u8, A>, Memory>
+        requires { spec.log_of self.now.line.now ≡ Some log.now }
+        ensures { IfOk result (λ text. TellsLog (S.entries self.now.store.now) self.now.line.now self.now.refusal text.items
+            ⊎ (text.items ≡ [])) }
+    {
+        match self.store.load(log.name, log.site) {
+            Ok(plan) => {
+                let steps = plan.base().steps();
+                drop(plan);
+                self.about_plan(log.site, steps)
+            }
+            Err(failure) => self.unopened_text(log.name, failure),
+        }
+    }
+
+    // The line that names a log, where the refusal is to open it; else nothing.
+    fn unopened_text(&self, name: &str, failure: Failure) -> Result<Vec<u8, A>, Memory>
+        ensures { IfOk result (λ text. ((failure ≡ Refused self.now.refusal) × (text.items ≡ spec.file_text name.now self.now.refusal))
+            ⊎ (text.items ≡ [])) }
+    {
+        if failure == Failure::Refused(self.refusal) {
+            self.file_text(name)
+        } else {
+            Ok(Vec::new(self.alloc))
+        }
+    }
+
+    // What a refusal by a plan of so many steps is about.
+    fn about_plan(&self, site: Site, steps: u16) -> Result<Vec<u8, A>, Memory>
+        requires { HasSteps (S.entries self.now.store.now) self.now.line.now (Some steps) }
+        ensures { IfOk result (λ text. TellsLog (S.entries self.now.store.now) self.now.line.now self.now.refusal text.items
+            ⊎ (text.items ≡ [])) }
+    {
+        match other_of(self.line) {
+            Some(other) => self.about_other(other, site),
+            None => match times_given(self.line) {
+                Some(times) => self.counts_text(times, steps),
+                None => self.event_text(steps),
+            },
+        }
+    }
+
+    // The other log of `merge`, where the refusal is to open it; else nothing.
+    fn about_other(&self, other: &str, site: Site) -> Result<Vec<u8, A>, Memory>
+        ensures { IfOk result (λ text. (IsUnopened (S.entries self.now.store.now) other.now (Refused self.now.refusal)
+            × (text.items ≡ spec.file_text other.now self.now.refusal)) ⊎ (text.items ≡ [])) }
+    {
+        match self.store.load(other, site) {
+            Ok(plan) => {
+                drop(plan);
+                Ok(Vec::new(self.alloc))
+            }
+            Err(failure) => self.unopened_text(other, failure),
+        }
+    }
+
+    // The line for times of which there are too many or too few, where these are refused; else nothing.
+    fn counts_text(&self, times: usize, steps: u16) -> Result<Vec<u8, A>, Memory>
+        ensures { IfOk result (λ text. ((self.now.refusal.code ≡ number_of code.Line) × (text.items ≡ told.times_count_text times (2 * steps)))
+            ⊎ (text.items ≡ [])) }
+    {
+        if self.refusal.code == Code::Line.number() {
+            let mut text = Vec::new(self.alloc);
+            append_counts(self.alloc, times, 2 * usize::from(steps), &mut text)?;
+            Ok(text)
+        } else {
+            Ok(Vec::new(self.alloc))
+        }
+    }
+
+    // The line for an event that the plan lacks, or that never takes place, where that is refused; else nothing.
+    fn event_text(&self, steps: u16) -> Result<Vec<u8, A>, Memory>
+        ensures { IfOk result (λ text. TellsEvent steps self.now.line.now self.now.refusal text.items ⊎ (text.items ≡ [])) }
+    {
+        let mut text = Vec::new(self.alloc);
+        if self.refusal.code == Code::NoEvent.number()
+            && let Some(word) = absent_event(self.line, steps)
+        {
+            append_absent(word, steps, &mut text)?;
+        }
+        Ok(text)
+    }
 }
 
 // A line, and another one after a semicolon, if there is one.
@@ -110,183 +319,6 @@ fn joined<A: Allocator>(one: Vec<u8, A>, other: &[u8]) -> Result<Vec<u8, A>, Mem
     Ok(text)
 }
 
-// What a refusal is about.
-fn about<S: Store<A>, A: Allocator + Copy>(
-    alloc: A,
-    store: &S,
-    line: &Line<'_>,
-    refusal: Refusal,
-) -> Result<Vec<u8, A>, Memory>
-    ensures { IfOk result (λ text. TellsAbout (word_refused line.now) (S.entries store.now) line.now refusal text.items) }
-{
-    let refused = refused_word(alloc, line)?;
-    match refused {
-        Some(refused) => about_word(alloc, store, line, &refused),
-        None => about_file(alloc, store, line, refusal),
-    }
-}
-
-// The line for a word that refuses a command.
-fn about_word<S: Store<A>, A: Allocator + Copy>(
-    alloc: A,
-    store: &S,
-    line: &Line<'_>,
-    refused: &RefusedWord<'_>,
-) -> Result<Vec<u8, A>, Memory>
-    ensures { IfOk result (λ text. TellsWord (S.entries store.now) line.now refused.now text.items) }
-{
-    let steps = steps_of(store, line);
-    let mut text = Vec::new(alloc);
-    append_refused_word(alloc, refused, steps, &mut text)?;
-    Ok(text)
-}
-
-// How many steps the plan of a command's log has, where that can be found out.
-fn steps_of<S: Store<A>, A: Allocator + Copy>(store: &S, line: &Line<'_>) -> Option<u16>
-    ensures { HasSteps (S.entries store.now) line.now result }
-{
-    match log_of(line) {
-        Some(log) => steps_in(store, log),
-        None => None,
-    }
-}
-
-// How many steps the plan of a log has, where it can be opened.
-fn steps_in<S: Store<A>, A: Allocator + Copy>(store: &S, log: &SiteLog<'_>) -> Option<u16>
-    ensures { IfSome result (λ steps. (held : Held) × Opens (S.entries store.now) log.now.name.now log.now.site held × (plan_steps held.source ≡ steps)) }
-{
-    match store.load(log.name, log.site) {
-        Ok(plan) => Some(plan.base().steps()),
-        Err(_) => None,
-    }
-}
-
-// The file that a refusal is about, or what else it is about where the words are well.
-fn about_file<S: Store<A>, A: Allocator + Copy>(
-    alloc: A,
-    store: &S,
-    line: &Line<'_>,
-    refusal: Refusal,
-) -> Result<Vec<u8, A>, Memory>
-    ensures { IfOk result (λ text. TellsFile (spec.file_refused line.now refusal.code) (S.entries store.now) line.now refusal text.items) }
-{
-    match refused_file(line, refusal.code) {
-        Some(name) => file_text(alloc, name, refusal),
-        None => about_log(alloc, store, line, refusal),
-    }
-}
-
-// The line that names a file and the place in it.
-fn file_text<A: Allocator>(alloc: A, name: &str, refusal: Refusal) -> Result<Vec<u8, A>, Memory>
-    ensures { IfOk result (λ text. text.items ≡ spec.file_text name.now refusal) }
-{
-    let mut text = Vec::new(alloc);
-    append_file(name, refusal, &mut text)?;
-    Ok(text)
-}
-
-// What is not robust, or the log that is refused, or what a refusal by the log's plan is about.
-fn about_log<S: Store<A>, A: Allocator + Copy>(
-    alloc: A,
-    store: &S,
-    line: &Line<'_>,
-    refusal: Refusal,
-) -> Result<Vec<u8, A>, Memory>
-    ensures { IfOk result (λ text. TellsLog (S.entries store.now) line.now refusal text.items ⊎ (text.items ≡ [])) }
-{
-    if refusal.code == Code::NotRobust.number() {
-        return about_promise(alloc, store, line);
-    }
-    match log_of(line) {
-        Some(log) => about_opened(alloc, store, line, log, refusal),
-        None => Ok(Vec::new(alloc)),
-    }
-}
-
-// What is not robust of the plan that a command loosens, where that can be found out.
-fn about_promise<S: Store<A>, A: Allocator + Copy>(
-    alloc: A,
-    store: &S,
-    line: &Line<'_>,
-) -> Result<Vec<u8, A>, Memory>
-    ensures { IfOk result (λ text. TellsPromise (S.entries store.now) line.now text.items ⊎ (text.items ≡ [])) }
-{
-    if let Line::Make(
-        _,
-        NewLog::Loosen {
-            domain,
-            plan,
-            early,
-            late,
-            ..
-        },
-    ) = line
-        && let Ok(text) = fragile_text(alloc, store, *domain, *plan, *early, *late)
-    {
-        Ok(text)
-    } else {
-        Ok(Vec::new(alloc))
-    }
-}
-
-// The same of a command on this log.
-fn about_opened<S: Store<A>, A: Allocator + Copy>(
-    alloc: A,
-    store: &S,
-    line: &Line<'_>,
-    log: &SiteLog<'_>,
-    refusal: Refusal,
-) -> Result<Vec<u8, A>, Memory>
-    requires { spec.log_of line.now ≡ Some log.now }
-    ensures { IfOk result (λ text. TellsLog (S.entries store.now) line.now refusal text.items ⊎ (text.items ≡ [])) }
-{
-    match store.load(log.name, log.site) {
-        Ok(plan) => {
-            let steps = plan.base().steps();
-            drop(plan);
-            about_plan(alloc, store, line, log.site, steps, refusal)
-        }
-        Err(failure) => unopened_text(alloc, log.name, failure, refusal),
-    }
-}
-
-// The line that names a log, where this refuses to open it; else nothing.
-fn unopened_text<A: Allocator>(
-    alloc: A,
-    name: &str,
-    failure: Failure,
-    refusal: Refusal,
-) -> Result<Vec<u8, A>, Memory>
-    ensures { IfOk result (λ text. ((failure ≡ Refused refusal) × (text.items ≡ spec.file_text name.now refusal)) ⊎ (text.items ≡ [])) }
-{
-    if failure == Failure::Refused(refusal) {
-        file_text(alloc, name, refusal)
-    } else {
-        Ok(Vec::new(alloc))
-    }
-}
-
-// What a refusal by a plan of so many steps is about.
-fn about_plan<S: Store<A>, A: Allocator + Copy>(
-    alloc: A,
-    store: &S,
-    line: &Line<'_>,
-    site: Site,
-    steps: u16,
-    refusal: Refusal,
-) -> Result<Vec<u8, A>, Memory>
-    requires { HasSteps (S.entries store.now) line.now (Some steps) }
-    ensures { IfOk result (λ text. TellsLog (S.entries store.now) line.now refusal text.items ⊎ (text.items ≡ [])) }
-{
-    match other_of(line) {
-        Some(other) => about_other(alloc, store, other, site, refusal),
-        None => match times_given(line) {
-            Some(times) => counts_text(alloc, times, steps, refusal),
-            None => event_text(alloc, line, steps, refusal),
-        },
-    }
-}
-
 // The other log of `merge`.
 fn other_of<'a>(line: &Line<'a>) -> Option<&'a str>
     ensures { option_map (λ name. name.now) result ≡ spec.other_of line.now }
@@ -305,61 +337,6 @@ fn times_given(line: &Line<'_>) -> Option<usize>
         Line::Ask(_, LogQuestion::Check { times }, _) => Some(times.len()),
         _ => None,
     }
-}
-
-// The other log of `merge`, where this refuses to open it; else nothing.
-fn about_other<S: Store<A>, A: Allocator + Copy>(
-    alloc: A,
-    store: &S,
-    other: &str,
-    site: Site,
-    refusal: Refusal,
-) -> Result<Vec<u8, A>, Memory>
-    ensures { IfOk result (λ text. (IsUnopened (S.entries store.now) other.now (Refused refusal) × (text.items ≡ spec.file_text other.now refusal)) ⊎ (text.items ≡ [])) }
-{
-    match store.load(other, site) {
-        Ok(plan) => {
-            drop(plan);
-            Ok(Vec::new(alloc))
-        }
-        Err(failure) => unopened_text(alloc, other, failure, refusal),
-    }
-}
-
-// The line for times of which there are too many or too few, where these are refused; else nothing.
-fn counts_text<A: Allocator + Copy>(
-    alloc: A,
-    times: usize,
-    steps: u16,
-    refusal: Refusal,
-) -> Result<Vec<u8, A>, Memory>
-    ensures { IfOk result (λ text. ((refusal.code ≡ number_of code.Line) × (text.items ≡ told.times_count_text times (2 * steps))) ⊎ (text.items ≡ [])) }
-{
-    if refusal.code == Code::Line.number() {
-        let mut text = Vec::new(alloc);
-        append_counts(alloc, times, 2 * usize::from(steps), &mut text)?;
-        Ok(text)
-    } else {
-        Ok(Vec::new(alloc))
-    }
-}
-
-// The line for an event that the plan lacks, or that never takes place, where that is refused; else nothing.
-fn event_text<A: Allocator>(
-    alloc: A,
-    line: &Line<'_>,
-    steps: u16,
-    refusal: Refusal,
-) -> Result<Vec<u8, A>, Memory>
-    ensures { IfOk result (λ text. TellsEvent steps line.now refusal text.items ⊎ (text.items ≡ [])) }
-{
-    let mut text = Vec::new(alloc);
-    if refusal.code == Code::NoEvent.number()
-        && let Some(word) = absent_event(line, steps)
-    {
-        append_absent(word, steps, &mut text)?;
-    }
-    Ok(text)
 }
 
 // What can't be used, and why. Of memory nothing is told.

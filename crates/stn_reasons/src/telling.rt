@@ -138,8 +138,8 @@ fn append_events<A: Allocator>(steps: Option<u16>, out: &mut Vec<u8, A>) -> Resu
     }
 }
 
-// Appends the decimal digits of a number.
-fn append_number<A: Allocator>(number: usize, out: &mut Vec<u8, A>) -> Result<(), Memory>
+/// Appends the decimal digits of a number.
+pub fn append_number<A: Allocator>(number: usize, out: &mut Vec<u8, A>) -> Result<(), Memory>
     ensures { OnOk result (out.new.items ≡ out.old.items ++ decimal number) }
 {
     let mut buffer = Buffer::new();

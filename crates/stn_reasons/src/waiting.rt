@@ -32,18 +32,12 @@ fn changed_log<'a, A: Allocator + Copy>(
 ) -> Result<Option<&'a str>, Memory>
     ensures { IfOk result (λ log. option_map (λ name. name.now) log ≡ spec.changed_log line.now) }
 {
-    match line {
-        Line::Change(log, _) => match refused_word(alloc, line)? {
-            Some(_) => Ok(None),
-            None => Ok(Some(log.name)),
-        },
-        Line::Run
-        | Line::Make(..)
-        | Line::Ask(..)
-        | Line::Explain { .. }
-        | Line::Shell { .. }
-        | Line::Serve { .. }
-        | Line::Send { .. } => Ok(None),
+    let Line::Change(log, _) = line else {
+        return Ok(None);
+    };
+    match refused_word(alloc, line)? {
+        Some(_) => Ok(None),
+        None => Ok(Some(log.name)),
     }
 }
 

@@ -34,20 +34,6 @@ returns-in_err-save_join g c =
       site = is.site ∙ session.site ∙ took.site;
     })
 
-pub returns-in_err-print_session : goal.returns-in_err-print_session
-returns-in_err-print_session g c =
-    let took = c.in_ok-take_log.ensures in
-    let session = c.in_ok-session.ensures in
-    let is = c.in_ok-save_join.ensures in
-    rw (passed_on _ _ c.from_residual-in_err-print_session.ensures.1) (record {
-      served = went tt (meeting (partner_state g.R.Read.remaining g.W.Write.contents g.W.Finish.ended c.args.partner.now) (shared (g.C.SiteCopy.held c.take_log.new.copy).state (g.S.Store.entries c.args.store.now)) (device_of g.O.Write.contents c.args.out.now)) (took.taken, refl, refl)
-          (went c.in_ok-session.session (meeting (partner_state g.R.Read.remaining g.W.Write.contents g.W.Finish.ended c.serve_session.new.partner) (shared (g.C.SiteCopy.held c.serve_session.new.copy).state (g.S.Store.entries c.serve_session.new.store)) (device_of g.O.Write.contents c.args.out.now))
-          (rw took.source at session.session, refl) (went tt (meeting (partner_state g.R.Read.remaining g.W.Write.contents g.W.Finish.ended c.serve_session.new.partner) (shared (g.C.SiteCopy.held c.save_join.new.copy).state (g.S.Store.entries c.save_join.new.store)) (device_of g.O.Write.contents c.args.out.now))
-          (rw (session.source ∙ took.source) at is.saved, refl, refl) (stopped _ (c.in_err-print_session.ensures, refl, refl) refl)));
-      source = is.source ∙ session.source ∙ took.source;
-      site = is.site ∙ session.site ∙ took.site;
-    })
-
 pub returns : goal.returns
 returns g c =
     let took = c.in_ok-take_log.ensures in
@@ -57,8 +43,7 @@ returns g c =
       served = went tt (meeting (partner_state g.R.Read.remaining g.W.Write.contents g.W.Finish.ended c.args.partner.now) (shared (g.C.SiteCopy.held c.take_log.new.copy).state (g.S.Store.entries c.args.store.now)) (device_of g.O.Write.contents c.args.out.now)) (took.taken, refl, refl)
           (went c.in_ok-session.session (meeting (partner_state g.R.Read.remaining g.W.Write.contents g.W.Finish.ended c.serve_session.new.partner) (shared (g.C.SiteCopy.held c.serve_session.new.copy).state (g.S.Store.entries c.serve_session.new.store)) (device_of g.O.Write.contents c.args.out.now))
           (rw took.source at session.session, refl) (went tt (meeting (partner_state g.R.Read.remaining g.W.Write.contents g.W.Finish.ended c.serve_session.new.partner) (shared (g.C.SiteCopy.held c.save_join.new.copy).state (g.S.Store.entries c.save_join.new.store)) (device_of g.O.Write.contents c.args.out.now))
-          (rw (session.source ∙ took.source) at is.saved, refl, refl) (went tt (meeting (partner_state g.R.Read.remaining g.W.Write.contents g.W.Finish.ended c.serve_session.new.partner) (shared (g.C.SiteCopy.held c.save_join.new.copy).state (g.S.Store.entries c.save_join.new.store)) (device_of g.O.Write.contents c.print_session.new.out))
-          (c.in_ok-print_session.ensures, refl, refl) (c.part_after.ensures, refl, refl, refl))));
+          (rw (session.source ∙ took.source) at is.saved, refl, refl) (c.end_session.ensures _)));
       source = is.source ∙ session.source ∙ took.source;
       site = is.site ∙ session.site ∙ took.site;
     }

@@ -1,5 +1,5 @@
 use Rattle.std.proofs.Common.{arith, inl}
-use Rattle.stn_reasons.proofs.reason.counts_text.Goals as goal
+use Rattle.stn_reasons.proofs.reason.RefusedCommand.counts_text.Goals as goal
 
 pub returns-in_ok-append_counts : goal.returns-in_ok-append_counts
 returns-in_ok-append_counts g c =

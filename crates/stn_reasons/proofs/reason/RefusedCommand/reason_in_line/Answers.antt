@@ -1,5 +1,5 @@
 use Rattle.std.proofs.lemmas.Result.{IfOk-weaker}
-use Rattle.stn_reasons.proofs.reason.reason_in_line.Goals as goal
+use Rattle.stn_reasons.proofs.reason.RefusedCommand.reason_in_line.Goals as goal
 
 pub returns : goal.returns
 returns g c =

@@ -1,4 +1,4 @@
-use Rattle.stn_reasons.proofs.reason.meaning_of_refusal.Goals as goal
+use Rattle.stn_reasons.proofs.reason.RefusedCommand.meaning.Goals as goal
 
 pub returns : goal.returns
 returns g c = rw c.format-word.ensures.text at c.meaning_of.ensures
