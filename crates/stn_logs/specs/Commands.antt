@@ -5,10 +5,11 @@ use Rattle.stn_net.specs.Schedule.{HasSchedule}
 use Rattle.stn_lift.specs.{PlanSource.{PlanSource, bare, files, base_of, steps_of}, Failures.base_failure}
 use Rattle.stn_records.specs.{Content.{Content, no_content}, Id.SiteCounter}
 use Rattle.stn_site.specs.{Bounds.all_bounds, Calls.{Accepted, Leaves, took}, Change.{change_call, change_refusal}, Failures.replica_failure, Held.Held, declared.{faults.ReplicaFault.ReplicaFault, change.Change.Change as ChangeAsked, own.OwnedSteps.OwnedSteps}}
+use Rattle.stn_loosen.specs.Asked.{IsLoosened, IsLooseningRefusal}
 use Rattle.stn_command.specs.{Change.{made_by, made_text}, Query.Query, Guarding.guard_text, Named.{IsSaidBy, IsRefusedBy}, Words.no_such_word}
 use Rattle.stn_guard.specs.Adding.{AddsGuard, IsGuardRefusal}
 use Rattle.stn_store.specs.{Log.log_held, Merging.IsMergeRefusal, Steps.{Entries, FindsFree, FindsText, LoadsLog, Saves, SavesNew}}
-use Rattle.stn_logs.specs.{Words.{Update, change, merge, guard, slack_read, update_read, question_read}, declared.{changes.Outcome.Outcome, words.RefusedWord.RefusedWord}, Loosening.{HoldsLoosened, IsLooseningRefusal}}
+use Rattle.stn_logs.specs.{Words.{Update, change, merge, guard, slack_read, update_read, question_read}, declared.{changes.Outcome.Outcome, words.RefusedWord.RefusedWord}}
 use Rattle.stn_logs.specs.declared.changes.Outcome.TheVariants as came
 use Rattle.stn_line.specs.{Explanations.Explained.{IsExplained, NamesNothing}, declared.words.{SiteLog.SiteLog, NameWords.NameWords, NewLog.TheVariants.{Bare, Init, Loosen}, Line.{Line, TheVariants.{Run, Make, Change, Ask, Explain, Shell, Serve, Send}}}}
 use Rattle.stn_refusal.specs.declared.failure.{Failure.Failure, Fault.Fault}
@@ -142,7 +143,7 @@ DoesLine Fails (Make log (Loosen domain plan early late robust)) =
     Then (Reads Fails (slack_read early late)) (λ slack.
     Then (FindsFree Fails log.name.now) (λ _.
     Then (FindsSource Fails domain.now plan.now) (λ source.
-    Then (Makes Fails (HoldsLoosened robust source slack log.site) (IsLooseningRefusal robust source slack)) (λ state.
+    Then (Makes Fails (IsLoosened robust source slack log.site) (IsLooseningRefusal robust source slack)) (λ state.
     SavesMade Fails log.name.now (bare (steps_of source)) state))))
 DoesLine Fails (Change log words) =
     Then (Reads Fails (update_read words)) (λ asked.

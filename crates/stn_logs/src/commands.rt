@@ -6,7 +6,7 @@ ghost use Rattle.stn_logs.specs.Commands as named;
 ghost use Rattle.stn_effects.specs.Effects.{seen};
 ghost use Rattle.stn_lift.specs.PlanSource.{plan_source};
 ghost use Rattle.stn_command.specs.Query.{seen_query};
-ghost use Rattle.stn_line.specs.declared.words.Line.TheVariants.{Make, Change, Ask};
+ghost use Rattle.stn_line.specs.declared.words.Line.TheVariants.{Make};
 ghost use Rattle.stn_logs.specs.{Words.seen_update, Commands.{FindsSource, FindsNames, MakesLog, SavesMade, AnswersAsked, UpdatesLog, DoesLine}};
 ghost use Rattle.stn_store.specs.{Log.log_held, Store.{IsMissing, IsLack}, Steps.{FindsFree, LoadsLog, SavesNew}};
 
@@ -14,12 +14,12 @@ use crate::asked::{Update, read_question, read_update};
 use crate::changes::{Outcome, copied, make_update, opened};
 use crate::explaining::explain;
 use crate::keeping::Kept;
-use crate::loosening::loosen;
 use crate::words::read_tolerance;
 use std::alloc::Allocator;
 use stn_command::{Query, no_such_word, say_named};
 use stn_lift::Source;
-use stn_line::{Line, LogChange, LogQuestion, NameWords, NewLog, SiteLog};
+use stn_line::{Line, NameWords, NewLog, SiteLog};
+use stn_loosen::loosen;
 use stn_refusal::{Code, Failure, Fault};
 use stn_site::SitePlan;
 use stn_store::Store;
@@ -57,8 +57,14 @@ pub fn answer_with<S: Store<A>, A: Allocator + Copy>(
 {
     match line {
         Line::Make(log, new) => make_log(alloc, store, log, new),
-        Line::Change(log, change) => change_log(alloc, store, kept, log, change),
-        Line::Ask(log, question, names) => ask_log(alloc, store, kept, log, question, names),
+        Line::Change(log, change) => {
+            let asked = read_update(alloc, change)?;
+            update_log(alloc, store, kept, log, &asked)
+        }
+        Line::Ask(log, question, names) => {
+            let asked = read_question(alloc, log, question)?;
+            say_of(store, kept, log, names, &asked.query())
+        }
         Line::Explain { code } => explain(alloc, *code),
         Line::Run | Line::Shell { .. } | Line::Serve { .. } | Line::Send { .. } => {
             Err(no_such_word())
@@ -192,20 +198,6 @@ fn open_log<S: Store<A>, A: Allocator + Copy>(
     Ok(OpenLog { held, plan })
 }
 
-// Changes a log that is there.
-fn change_log<S: Store<A>, A: Allocator + Copy>(
-    alloc: A,
-    store: &mut S,
-    kept: &mut Kept<A>,
-    log: &SiteLog<'_>,
-    change: &LogChange<'_>,
-) -> Result<Vec<u8, A>, Failure>
-    ensures { DoesLine S.fails (Change log.now change.now) (S.entries store.old) (S.entries store.new) (seen (λ text. text.items) result) }
-{
-    let asked = read_update(alloc, change)?;
-    update_log(alloc, store, kept, log, &asked)
-}
-
 // Updates a log that is there, and saves it, if the update says so.
 fn update_log<S: Store<A>, A: Allocator + Copy>(
     alloc: A,
@@ -225,21 +217,6 @@ fn update_log<S: Store<A>, A: Allocator + Copy>(
         }
         Outcome::Unchanged(text) => Ok(text),
     }
-}
-
-// Answers a question of a log that is there, by such names of steps.
-fn ask_log<S: Store<A>, A: Allocator + Copy>(
-    alloc: A,
-    store: &mut S,
-    kept: &mut Kept<A>,
-    log: &SiteLog<'_>,
-    question: &LogQuestion<'_>,
-    names: &NameWords<'_>,
-) -> Result<Vec<u8, A>, Failure>
-    ensures { DoesLine S.fails (Ask log.now question.now names.now) (S.entries store.old) (S.entries store.new) (seen (λ text. text.items) result) }
-{
-    let asked = read_question(alloc, log, question)?;
-    say_of(store, kept, log, names, &asked.query())
 }
 
 // What is said of a log, by such names of steps. Only an answer without names is kept.

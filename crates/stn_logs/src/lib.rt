@@ -14,5 +14,4 @@ mod commands;
 mod explaining;
 mod fragile;
 mod keeping;
-mod loosening;
 mod words;

@@ -1,5 +1,5 @@
 -- Which bounds a matrix shows to be implied, and the matrix with one bound more.
-use Rattle.std.proofs.{Common.{rules, ◌≡◌, ◌≢◌, ◌↔◌, Bool, IsTrue, List, [], ◌∷◌, ◌++◌, length, sym, ap, subst, ◌∙◌, append_assoc, length-append, arith}, lemmas.Int.ints}
+use Rattle.std.proofs.{Common.{rules, ◌≡◌, ◌<◌, ◌↔◌, Bool, IsTrue, List, [], ◌∷◌, ◌++◌, length, sym, ap, subst, ◌∙◌, append_assoc, length-append, arith}, lemmas.Int.ints}
 use Rattle.stn_net.{specs.{Difference.{Difference, NamesEvents}, Horizon.horizon_bounds, Schedule.{IsSchedule, HasSchedule}, Matrix.{Table.Table, Tightest.IsExact}}, proofs.Closure.schedule_before}
 use Rattle.stn_conflict.specs.Listing.{ListedBounds}
 use Rattle.stn_records.specs.Content.{most_known}
@@ -44,7 +44,7 @@ searched_more records more bound table old new h made pushed =
     }
 
 -- the matrix takes one record more
-pub taken_more : (records more : List Difference) (bound : Difference) (old new : Table) (fits : Bool) → more ≡ records ++ bound ∷ [] → length records ≢ most_known → AreTaken records old
+pub taken_more : (records more : List Difference) (bound : Difference) (old new : Table) (fits : Bool) → more ≡ records ++ bound ∷ [] → length records < most_known → AreTaken records old
     → HasSchedule (made_bounds (with_more (loosening_of old records) (bound ∷ [])))
     → ((bounds : List Difference) → IsExact bounds old → (IsTrue fits ↔ HasSchedule (bounds ++ bound ∷ [])))
     → ((bounds : List Difference) → IsExact bounds old → IsTrue fits → IsExact (bounds ++ bound ∷ []) new)
@@ -55,5 +55,5 @@ taken_more records more bound old new fits is left taken there possible exact sa
     let fit : IsTrue fits = (possible front taken.exact).1 (subst HasSchedule (sym whole) there) in
     record {
       exact = subst (λ l. IsExact l new) (whole ∙ ap (λ l. made_bounds (loosening_of old l)) (sym is) ∙ ap (λ n. horizon_bounds n ++ more) (sym same)) (exact front taken.exact fit);
-      few = omega (arith, taken.few, left, ap length is, length-append records (bound ∷ []));
+      few = omega (arith, left, ap length is, length-append records (bound ∷ []));
     }

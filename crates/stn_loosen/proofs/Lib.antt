@@ -1,3 +1,4 @@
+pub mod Refused
 pub mod Lists
 pub mod Kept
 pub mod ThreeParts

@@ -3,7 +3,7 @@ use Rattle.std.{specs.List.AllByRecursion, proofs.{Common.{rules, zero, suc, [],
 use Rattle.stn_net.{proofs.{Widest.{horizon_each, horizon_times}, Schedules.schedule_permuted}, specs.{Difference.{Difference, NamesEvents}, Horizon.horizon_bounds, Schedule.{Meets, IsSchedule, times_of}}}
 use Rattle.stn_time.specs.Time.{horizon}
 use Rattle.stn_lift.{specs.{Activities.Activity, Timelines.IsTimed, BaseBounds.{order_bound, events_interfere, event_times, duration_of, KeepsOrder}, PlanSource.{PlanSource, bare, files, events_of, activities_of, base_bounds, planned_of, interfere_in_plan, IsSoundSource}}, proofs.{SoundBounds.{each_order, orders_keep}, FewBounds.{length-duration_bounds, duration_at}, SoundSource.activities_timed}}
-use Rattle.stn_loosen.{specs.{Slack.{Slack, IsSlack, loose}, Loosened.{durations_of, orders_of, Imply, bounds_with, loose_durations, AreLoosened}, Robust.loose_bounds}, proofs.{Lists.{in_first, in_second, in_third}, Kept.{kept_hold, whole_schedule}, ThreeParts.{parted, few_durations}, Settings.IsBetween, Steps.source_steps}}
+use Rattle.stn_loosen.{specs.{Slack.{Slack, IsSlack, loose}, Loosened.{durations_of, orders_of, Imply, bounds_with, loose_durations, AreLoosened}, Robust.loose_bounds, Asked.KeepPlan}, proofs.{Lists.{in_first, in_second, in_third}, Kept.{kept_hold, whole_schedule}, ThreeParts.{parted, few_durations}, Settings.IsBetween, Steps.source_steps}}
 
 -- no duration of a plan is negative
 lasts_at : (steps : List Activity) → AllByRecursion IsTimed steps → (place : ℕ) → pos 0 ≤ℤ duration_of steps place
@@ -138,3 +138,10 @@ order_kept (bare steps) records implied = search rules
 order_kept (files domain plan) records implied =
     let steps = activities_of domain plan in
     orders_keep (events_interfere steps) (times_of (event_times steps)) (duration_of steps) (length steps) (bounds_with (files domain plan) records) (λ time schedule k d below. implied k d below time schedule)
+
+-- the loosened plan keeps the plan
+pub keeps_plan : (source : PlanSource) (slack : Slack) (records : List Difference) → AreLoosened source slack records → IsSoundSource source → IsSlack slack
+    → KeepPlan source (bounds_with source records)
+keeps_plan source slack records are sound is =
+    let implied = orders_implied source slack records are in
+    record { looser = looser source slack records are sound is; implied = implied; ordered = order_kept source records implied }

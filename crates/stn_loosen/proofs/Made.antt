@@ -1,7 +1,9 @@
 -- Records that are made one after the other.
-use Rattle.std.proofs.{Common.{rules, ◌≡◌, ℕ, ◌+◌, ◌<◌, inr, List, [], ◌∷◌, ◌++◌, map, length, take, drop, get_or, refl, sym, ap, subst, ◌∙◌, arith, append_assoc, append-nil, length-append}, lemmas.List.{map_more, map-append, take_more, take-append-drop}}
+use Rattle.std.proofs.{Common.{rules, ◌≡◌, ℕ, ◌+◌, ◌<◌, ◌≤◌, inr, List, [], ◌∷◌, ◌++◌, map, length, take, drop, get_or, refl, sym, ap, subst, ◌∙◌, arith, append_assoc, append-nil, length-append}, lemmas.List.{length-map, length-take-le, map_more, map-append, take_more, take-append-drop}}
+use Rattle.stn_refusal.specs.declared.{code.Code.TheVariants.{Full, NotRobust}, failure.Failure.Failure}
 use Rattle.stn_net.{specs.{Difference.Difference, Horizon.horizon_bounds, Schedule.{Meets, IsSchedule, HasSchedule}}, proofs.{Closure.schedule_before, Schedules.{met_behind, schedule_with}}}
-use Rattle.stn_loosen.{specs.{Slack.{Slack, loose}, Making.{Loosening, made_bounds, with_more, AreMadeBehind, IsCauseOf, IsCauseWith}, Stepped.{IsCauseBehind, IsCauseIn}, declared.fault.LoosenFault.{LoosenFault, TheVariants.{Full, NotRobust, Memory}}}, proofs.{Lists.{in_first, in_second}, Kept.{AreKept-join, kept_schedule}}}
+use Rattle.stn_records.specs.Content.{most_known}
+use Rattle.stn_loosen.{specs.{Slack.{Slack, loose}, Making.{Loosening, made_bounds, with_more, AreMadeBehind, IsCauseOf, IsCauseWith}, Stepped.{IsCauseBehind, IsCauseIn}}, proofs.{Refused.refused_for, Lists.{in_first, in_second}, Kept.{AreKept-join, kept_schedule}}}
 
 -- all bounds, where there are more
 pub bounds_more : (made : Loosening) (more : List Difference) → made_bounds (with_more made more) ≡ made_bounds made ++ more
@@ -30,6 +32,12 @@ module _ (slack : Slack) (old now : Loosening) (durations : List Difference) (pl
       in
       front_schedule (with_more now (bound ∷ [])) rest (subst (λ m. HasSchedule (made_bounds m)) whole possible)
 
+  pub duration_room : length old.records + length durations ≤ most_known → length now.records < most_known
+  duration_room few =
+      let first = map (loose slack) (take place durations) in
+      let many : length first ≡ place = length-map (take place durations) (loose slack) ∙ length-take-le place durations (omega (arith, within)) in
+      omega (arith, few, within, many, ap (λ (m : Loosening). length m.records) made, length-append old.records first)
+
 pub nothing_more : (made : Loosening) → made ≡ with_more made []
 nothing_more made = ap (λ l. record made { records = l }) (sym (append-nil made.records))
 
@@ -51,21 +59,17 @@ module _ (old middle : Loosening) (first second : List Difference) (made : AreMa
       let there : IsSchedule (made_bounds middle) s.0 = subst (λ l. IsSchedule l s.0) (sym (ap made_bounds made.1 ∙ bounds_more old made.0)) here in
       (s.0, subst (λ l. IsSchedule l s.0) (sym (bounds_more middle second)) (schedule_with (made_bounds middle) second s.0 there (in_second first second others (Meets s.0) met)))
 
-  pub cause_behind : (others : List Difference) (fault : LoosenFault) → IsCauseBehind middle second fault → IsCauseBehind old (first ++ (second ++ others)) fault
-  cause_behind others Full p = p
-  cause_behind others NotRobust p = λ s. p (possible_behind others s)
-  cause_behind others Memory p = tt
+  pub cause_behind : (others : List Difference) (failure : Failure) → IsCauseBehind middle second failure → IsCauseBehind old (first ++ (second ++ others)) failure
+  cause_behind others = refused_for NotRobust (λ none s. none (possible_behind others s))
 
 -- where all bounds have no schedule, they have none with more
-pub cause_now : (made : Loosening) (others : List Difference) (fault : LoosenFault) → IsCauseIn (made_bounds made) fault → IsCauseBehind made others fault
-cause_now made others Full p = p
-cause_now made others NotRobust p = λ s. p (front_schedule made others s)
-cause_now made others Memory p = tt
+pub cause_now : (made : Loosening) (others : List Difference) (failure : Failure) → IsCauseIn (made_bounds made) failure → IsCauseBehind made others failure
+cause_now made others = refused_for NotRobust (λ none s. none (front_schedule made others s))
 
 -- so no more can be made of these
-pub cause_in : (old new : Loosening) (bounds : List Difference) → AreMadeBehind old bounds new → (fault : LoosenFault) → IsCauseIn (made_bounds new) fault → IsCauseBehind old bounds fault
-cause_in old new bounds made fault cause =
-    subst (λ l. IsCauseBehind old l fault) (append-nil bounds) (cause_behind old new bounds [] made [] fault (cause_now new [] fault cause))
+pub cause_in : (old new : Loosening) (bounds : List Difference) → AreMadeBehind old bounds new → (failure : Failure) → IsCauseIn (made_bounds new) failure → IsCauseBehind old bounds failure
+cause_in old new bounds made failure cause =
+    subst (λ l. IsCauseBehind old l failure) (append-nil bounds) (cause_behind old new bounds [] made [] failure (cause_now new [] failure cause))
 
 -- the first of some bounds were looked at, and what they stand for was made; then the next one is
 module _ (stand_for : List Difference → List Difference) (join : (some others : List Difference) → stand_for (some ++ others) ≡ stand_for some ++ stand_for others)
@@ -85,19 +89,19 @@ module _ (stand_for : List Difference → List Difference) (join : (some others 
       possible_behind old now (stand_for (take place bounds)) (stand_for (bound ∷ [])) sofar (stand_for (drop (place + 1) bounds))
       (subst (λ l. HasSchedule (made_bounds (with_more old l))) all s)
 
-  pub refused_next : (fault : LoosenFault) → IsCauseBehind now (stand_for (bound ∷ [])) fault → IsCauseBehind old (stand_for bounds) fault
-  refused_next fault cause = search (rules, all, cause_behind)
+  pub refused_next : (failure : Failure) → IsCauseBehind now (stand_for (bound ∷ [])) failure → IsCauseBehind old (stand_for bounds) failure
+  refused_next failure cause =
+      subst (λ l. IsCauseBehind old l failure) (sym all)
+      (cause_behind old now (stand_for (take place bounds)) (stand_for (bound ∷ [])) sofar (stand_for (drop (place + 1) bounds)) failure cause)
 
 -- the next order is needed, and there are as many records as may be
 pub order_refused : (old now : Loosening) (orders : List Difference) (place : ℕ) → AreMadeBehind old (take place orders) now → (order : Difference) → place < length orders
-    → order ≡ get_or orders place order → (fault : LoosenFault) → IsCauseOf now order fault → IsCauseWith old orders fault
-order_refused old now orders place sofar order within here Full p = record {
+    → order ≡ get_or orders place order → (failure : Failure) → IsCauseOf now order failure → IsCauseWith old orders failure
+order_refused old now orders place sofar order within here = refused_for Full (λ p. record {
   first = take (place + 1) orders;
   others = drop (place + 1) orders;
   parts = sym (take-append-drop (place + 1) orders);
   made = with_more now (order ∷ []);
   behind = made_next (λ l. l) (λ _ _. refl) old now orders place sofar order within here (with_more now (order ∷ [])) (order ∷ [], refl, inr (p.0, ([], refl, refl)));
   many = omega (arith, p.1, length-append now.records (order ∷ []));
-}
-order_refused old now orders place sofar order within here NotRobust none = none
-order_refused old now orders place sofar order within here Memory p = tt
+})

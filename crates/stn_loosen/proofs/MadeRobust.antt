@@ -1,13 +1,20 @@
 -- The records of the robust plan, made behind those of the loosened plan.
-use Rattle.std.{proofs.{lemmas.{Grind.common_steps, List.{take_at, drop_at, length-map, Elements.All-append}}, Common.{rules, arith, ◌≡◌, ℕ, List, ◌++◌, length, take, drop, refl, sym, ap, subst, ◌∙◌, append_assoc}}, specs.Prelude.{All, IfOk, OnOk, Result, Ok, Err}}
+use Rattle.std.{proofs.{lemmas.{Grind.common_steps, List.{take_at, drop_at, length-map, Elements.All-append}}, Common.{rules, arith, ◌≡◌, ◌≤◌, ℕ, true, Some, inl, inr, List, ◌++◌, length, take, drop, refl, sym, ap, subst, ◌∙◌, append_assoc}}, specs.Prelude.All}
 use Rattle.stn_net.{proofs.Widest.horizon_named, specs.{Difference.{Difference, NamesEvents}, Horizon.horizon_bounds, Schedule.HasSchedule}}
+use Rattle.stn_refusal.specs.declared.failure.Failure.{Failure}
 use Rattle.stn_lift.specs.PlanSource.{PlanSource, events_of, IsSoundSource}
-use Rattle.stn_loosen.{specs.{declared.fault.LoosenFault.{LoosenFault, TheVariants.{Full, NotRobust, Memory}}, Slack.{Slack, IsSlack, loose}, Moved.moved_bounds, Robust.{HasPromise, AreRobust}, Making.{Loosening, made_bounds, AreMadeBehind, IsMadeRobust, IsCauseAfter}, Stepped.{AreSteps, IsCauseBehind}, Loosened.{durations_of, AreKept, AreLoosened, bounds_with, loose_durations}}, proofs.{Kept.kept_hold, Looser.{kept_of, orders_named}, Sides.sides_named, Steps.source_steps, Robustness.{moved_possible, records_promise}}}
+use Rattle.stn_records.specs.Content.{most_known}
+use Rattle.stn_loosen.{specs.{Slack.{Slack, IsSlack, loose}, Moved.moved_bounds, Robust.{HasPromise, AreRobust}, Asked.IsAskedFailure, Making.{Loosening, made_bounds, with_more, AreMadeBehind}, Stepped.{AreSteps, IsCauseBehind}, Loosened.{durations_of, AreKept, AreLoosened, bounds_with, loose_durations}}, proofs.{Kept.kept_hold, Looser.{kept_of, orders_named}, Sides.sides_named, Steps.source_steps, Robustness.{moved_possible, records_promise}}}
 
 -- the bounds of which the moved ones are made name events
 sources_named : (source : PlanSource) → IsSoundSource source → (slack : Slack) (loosened : List Difference) (are : AreLoosened source slack loosened)
     → All (NamesEvents (events_of source)) (are.made.kept ++ horizon_bounds (events_of source))
 sources_named source sound slack loosened are = search (rules, All-append, kept_of, orders_named, horizon_named)
+
+-- these are the records of the robust plan after those of the loosened one
+pub record IsMadeRobust (source : PlanSource) (slack : Slack) (loosened records : List Difference) : Type 0 where
+  pub are_robust : AreRobust source slack records
+  pub behind : are_robust.loosened ≡ loosened
 
 -- the durations and the other bounds of the loosened plan, as robust loosening takes them
 pub record AreParted (source : PlanSource) (slack : Slack) (old : Loosening) (durations bounds : List Difference) : Type 0 where
@@ -58,14 +65,16 @@ module _ {source : PlanSource} {slack : Slack} {old : Loosening} {durations boun
       (records_promise source p.sound slack p.slack_is new.records (made_robust new made).are_robust).1
       (subst (λ n. HasSchedule (horizon_bounds n ++ new.records)) (ap (λ (m : Loosening). m.events) made.1 ∙ p.same) possible)
 
-  pub cause_after : (fault : LoosenFault) → IsCauseBehind old (moved_bounds durations bounds) fault → IsCauseAfter source slack fault
-  cause_after Full none = none
-  cause_after NotRobust none = λ promise.
+  no_promise : ¬ HasSchedule (made_bounds (with_more old (moved_bounds durations bounds))) → ¬ HasPromise source slack
+  no_promise none promise =
       let s = moved_possible source p.sound slack p.slack_is old.records p.are promise in
       none (subst (λ n. HasSchedule (horizon_bounds n ++ (old.records ++ moved_bounds durations bounds))) (sym p.same)
       (subst (λ l. HasSchedule (bounds_with source (old.records ++ l))) (sym sides)
       (subst (λ l. HasSchedule l) (append_assoc (horizon_bounds (events_of source)) old.records (moved_bounds (loose_durations slack source) (p.are.made.kept ++ horizon_bounds (events_of source)))) s)))
-  cause_after Memory none = tt
+
+  pub cause_after : length old.records ≤ most_known → (failure : Failure) → IsCauseBehind old (moved_bounds durations bounds) failure → IsAskedFailure true source slack failure
+  cause_after few failure (inl cause) = inr (inr (inl ((old.records, (p.are, few)), no_promise cause.0, ap Some cause.1)))
+  cause_after few failure (inr memory) = inl memory
 
 -- the records of the robust plan name its events, where those of the loosened one do
 pub records_named : (source : PlanSource) (slack : Slack) → IsSoundSource source → (loosened records : List Difference) (are : AreRobust source slack records)
@@ -76,8 +85,3 @@ records_named source slack sound loosened records are behind before =
     let sides = sides_named (loose_durations slack source) (source_steps slack source) events sources (sources_named source sound slack are.loosened are.are_loosened) in
     let moved = kept_hold (NamesEvents events) (bounds_with source are.loosened) (moved_bounds (loose_durations slack source) sources) are.moved are.chosen sides in
     grind (arith, common_steps)
-
--- what two clauses say where there is a result
-pub on_both : {T E : Type 0} (result : Result T E) {P Q : T → Type 0} {R : Type 0} → ((done : T) → P done → Q done → R) → IfOk result P → IfOk result Q → OnOk result R
-on_both (Ok done) both p q = both done p q
-on_both (Err fault) both p q = tt

@@ -3,7 +3,7 @@ use Rattle.std.{proofs.{Common.{◌≡◌, ℕ, ℤ, pos, List, ◌++◌, sym, a
 use Rattle.stn_net.{proofs.{Closure.schedule_before, Schedules.{met_behind, schedule_with}}, specs.{Difference.Difference, Horizon.horizon_bounds, Schedule.{Meets, IsSchedule, HasSchedule}}}
 use Rattle.stn_time.proofs.Each.{All-left, All-right}
 use Rattle.stn_lift.specs.PlanSource.{PlanSource, events_of, planned_of, IsSoundSource}
-use Rattle.stn_loosen.{specs.{Slack.{Slack, IsSlack}, Promise.Promises, Moved.moved_bounds, Fragile.start_bounds, Robust.{loose_bounds, HasPromise, AreRobust}, Loosened.{orders_of, bounds_with, loose_durations, AreLoosened}}, proofs.{Lists.{in_first, in_second, in_third}, Kept.{kept_schedule, whole_schedule}, Looser.{all_between, loose_durations_met, kept_of, fewer, all_of}, Steps.{source_steps, steps_apart}, Settings.{AreApart, BothSides, moved_all, moved_each, sides_alike, start_kept, durations_kept, moved_promise, latest_at, latest_keeps, latest_schedule, sides_met, promise_origin}}}
+use Rattle.stn_loosen.{specs.{Slack.{Slack, IsSlack}, Promise.Promises, Moved.moved_bounds, Fragile.start_bounds, Robust.{loose_bounds, HasPromise, AreRobust}, Asked.KeepPromise, Loosened.{orders_of, bounds_with, loose_durations, AreLoosened}}, proofs.{Lists.{in_first, in_second, in_third}, Kept.{kept_schedule, whole_schedule}, Looser.{all_between, loose_durations_met, kept_of, fewer, all_of}, Steps.{source_steps, steps_apart}, Settings.{AreApart, BothSides, moved_all, moved_each, sides_alike, start_kept, durations_kept, moved_promise, latest_at, latest_keeps, latest_schedule, sides_met, promise_origin}}}
 
 -- each schedule of the bounds meets the durations, and is a promise
 pub record IsRobust (durations bounds : List Difference) : Type 0 where
@@ -131,3 +131,7 @@ module _ (source : PlanSource) (sound : IsSoundSource source) (slack : Slack) (i
       λ promise. let s = moved_possible are.loosened are.are_loosened promise in (s.0, from_sides s.0 s.1),
       λ s. (s.0, λ time keeps. records_loosened time (promised_by s.0 s.1 time keeps)),
     )
+
+    -- with a promise they keep it
+    pub keeps_promise : HasPromise source slack → KeepPromise source slack (bounds_with source records)
+    keeps_promise promise = record { promise = promise; promised = promised_by; loosened = records_loosened }

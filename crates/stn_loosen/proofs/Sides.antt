@@ -1,5 +1,5 @@
 -- Sides of moved bounds.
-use Rattle.std.proofs.{Common.{rules, ◌≡◌, ◌≢◌, ◌⊎◌, inl, inr, ⊎_elim, ℕ, ℤ, ◌≤◌, get_or, neg_ℤ, ◌+ℤ◌, ◌-ℤ◌, ◌≤ℤ◌, ◌↔◌, Bool, IsTrue, List, [], ◌∷◌, subst, arith, All}, lemmas.{Int.ints, List.Elements.All-head}}
+use Rattle.std.proofs.{Common.{rules, ◌≡◌, ◌≢◌, ◌⊎◌, inl, inr, ⊎_elim, ℕ, ℤ, get_or, neg_ℤ, ◌+ℤ◌, ◌-ℤ◌, ◌≤ℤ◌, ◌↔◌, Bool, IsTrue, List, [], ◌∷◌, subst, arith, All}, lemmas.{Int.ints, List.Elements.All-head}}
 use Rattle.stn_time.specs.Time.{horizon, IsWithinHorizon}
 use Rattle.stn_net.{specs.{Difference.{Difference, NamesEvents}, Horizon.horizon_bounds, Schedule.{Meets, IsSchedule}}, proofs.{Closure.schedule_before, Schedules.met_behind, Widest.horizon_times}}
 use Rattle.stn_conflict.specs.Distances.{TellsWithin}

@@ -1,5 +1,5 @@
 -- The bounds on starts, one after the other, and the lines of their links.
-use Rattle.std.proofs.{lemmas.{Grind.common_steps, List.{get_or_read, take_at, get_or-map, Elements.All-append}}, Common.{rules, ◌≡◌, inl, inr, ℕ, ◌+◌, ◌*◌, ◌-◌, ◌<◌, ◌≤◌, List, [], ◌∷◌, ◌++◌, length, map, take, get_or, codes, refl, sym, ap, ◌∙◌, arith, append_assoc, length-append, All}}
+use Rattle.std.proofs.{lemmas.{Grind.common_steps, List.{get_or_read, take_at, get_or-map, Elements.All-append}}, Common.{rules, ◌≡◌, inl, inr, ℕ, ◌+◌, ◌*◌, ◌<◌, ◌≤◌, List, [], ◌∷◌, ◌++◌, length, map, take, get_or, codes, refl, sym, ap, ◌∙◌, arith, append_assoc, length-append, All}}
 use Rattle.stn_net.{specs.{Difference.{Difference, NamesEvents}, Horizon.horizon_bounds, Schedule.{Meets, HasSchedule}}, proofs.{Horizons.length-horizon_bounds, Schedules.met_behind, Widest.{horizon_each, horizon_named}}}
 use Rattle.stn_lift.specs.PlanSource.{PlanSource, events_of, IsSoundSource}
 use Rattle.stn_conflict.specs.{declared.links.{Link.Link}, Arcs.bound_at}

@@ -1,8 +1,9 @@
 -- The records of a whole plan.
 use Rattle.std.{proofs.{Common.{rules, ◌≡◌, List, [], ◌++◌, subst, append-nil}, lemmas.List.{Sorted.All-permutation, Elements.All-nil}}, specs.List.Sorted.IsPermutation}
 use Rattle.stn_net.specs.{Difference.Difference, Schedule.{Meets, HasSchedule}}
+use Rattle.stn_refusal.specs.declared.{code.Code.TheVariants.Full, failure.Failure.Failure}
 use Rattle.stn_lift.specs.PlanSource.{PlanSource, events_of, planned_of, IsSoundSource}
-use Rattle.stn_loosen.{specs.{declared.fault.LoosenFault.{LoosenFault, TheVariants.{Full, NotRobust, Memory}}, Slack.{Slack, IsSlack}, Faults.IsCause, Making.{Loosening, AreMadeBehind, IsCauseWith}, Loosened.{orders_of, AreNearestFirst, bounds_with, loose_durations, AreMadeOf}}, proofs.Looser.{loose_schedule, orders_hold}}
+use Rattle.stn_loosen.{specs.{Slack.{Slack, IsSlack}, Faults.IsRefusedFor, Making.{Loosening, AreMadeBehind, IsCauseWith}, Loosened.{orders_of, AreNearestFirst, bounds_with, loose_durations, AreMadeOf, AreTooMany}}, proofs.{Refused.refused_for, Looser.{loose_schedule, orders_hold}}}
 
 module _ (source : PlanSource) (sound : IsSoundSource source) (slack : Slack) (is : IsSlack slack) where
   -- all durations have a schedule
@@ -23,7 +24,5 @@ module _ (source : PlanSource) (slack : Slack) (before : Loosening) (is : before
   pub made_of : (orders : List Difference) (now : Loosening) → AreMadeBehind before orders now → AreMadeOf source slack orders now.records
   made_of orders now made = search rules
 
-  pub cause_of : (orders : List Difference) → AreNearestFirst (planned_of source) (orders_of source) orders → (fault : LoosenFault) → IsCauseWith before orders fault → IsCause source slack fault
-  cause_of orders sorted Full p = search rules
-  cause_of orders sorted NotRobust none = none
-  cause_of orders sorted Memory p = tt
+  pub cause_of : (orders : List Difference) → AreNearestFirst (planned_of source) (orders_of source) orders → (failure : Failure) → IsCauseWith before orders failure → IsRefusedFor Full (AreTooMany source slack) failure
+  cause_of orders sorted = refused_for Full (λ p. search rules)

@@ -7,6 +7,6 @@ pub mod Fragile
 pub mod Starting
 pub mod Faults
 pub mod Numbered
+pub mod Asked
 pub mod Making
 pub mod Stepped
-pub mod Failures

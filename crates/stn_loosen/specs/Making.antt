@@ -2,9 +2,9 @@
 use Rattle.std.specs.Prelude.{◌≡◌, ℕ, ℤ, ◌<◌, ◌≤◌, ◌-ℤ◌, ◌≤ℤ◌, neg_ℤ, List, ◌++◌, length}
 use Rattle.stn_net.specs.{Difference.Difference, Horizon.horizon_bounds, Schedule.IsSchedule, Matrix.{Table.{Table, far_of}, Tightest.IsExact}}
 use Rattle.stn_conflict.specs.Listing.{ListedBounds}
-use Rattle.stn_lift.specs.PlanSource.{PlanSource}
 use Rattle.stn_records.specs.Content.{most_known}
-use Rattle.stn_loosen.specs.{declared.fault.LoosenFault.LoosenFault, Loosened.{Imply, AreKept}, Slack.Slack, Robust.{HasPromise, AreRobust}, Faults.Causes}
+use Rattle.stn_refusal.specs.declared.{code.Code.TheVariants.Full, failure.Failure.Failure}
+use Rattle.stn_loosen.specs.{Loosened.{Imply, AreKept}, Faults.IsRefusedFor}
 
 -- what was made so far over a bare plan with so many events: the bounds of its records
 pub record Loosening : Type 0 where
@@ -38,17 +38,13 @@ pub record IsSearched (records : List Difference) (table : Table) (network : Lis
   pub apart : (time : ℕ → ℤ) → IsSchedule (made_bounds (loosening_of table records)) time → (x y : ℕ) → x ≤ table.events → y ≤ table.events
       → (time y -ℤ time x) ≤ℤ far_of table x y
 
--- why no more is made than so many records
-abbrev pub IsCauseAt : ℕ → LoosenFault → Type 0
-IsCauseAt made = Causes (made ≡ most_known) ⊥
-
 -- what was made of more bounds: those that were not implied by then
 abbrev pub AreMadeBehind : Loosening → List Difference → Loosening → Type 0
 AreMadeBehind old bounds new = (kept : List Difference) × (new ≡ with_more old kept) × AreKept (made_bounds old) bounds kept
 
 -- why an order can't be made: it is needed, and there are as many records as may be
-abbrev pub IsCauseOf : Loosening → Difference → LoosenFault → Type 0
-IsCauseOf old order = Causes (¬ Imply (made_bounds old) order × (length old.records ≡ most_known)) ⊥
+abbrev pub IsCauseOf : Loosening → Difference → Failure → Type 0
+IsCauseOf old order = IsRefusedFor Full (¬ Imply (made_bounds old) order × (length old.records ≡ most_known))
 
 -- what is made of the first orders is too many records
 pub record AreTooManyWith (before : Loosening) (orders : List Difference) : Type 0 where
@@ -59,14 +55,5 @@ pub record AreTooManyWith (before : Loosening) (orders : List Difference) : Type
   pub behind : AreMadeBehind before first made
   pub many : most_known < length made.records
 
-abbrev pub IsCauseWith : Loosening → List Difference → LoosenFault → Type 0
-IsCauseWith before orders = Causes (AreTooManyWith before orders) ⊥
-
--- these are the records of the robust plan after those of the loosened one
-pub record IsMadeRobust (source : PlanSource) (slack : Slack) (loosened records : List Difference) : Type 0 where
-  pub are_robust : AreRobust source slack records
-  pub behind : are_robust.loosened ≡ loosened
-
--- why the bounds on starts can't be made
-abbrev pub IsCauseAfter : PlanSource → Slack → LoosenFault → Type 0
-IsCauseAfter source slack = Causes ⊥ (¬ HasPromise source slack)
+abbrev pub IsCauseWith : Loosening → List Difference → Failure → Type 0
+IsCauseWith before orders = IsRefusedFor Full (AreTooManyWith before orders)

@@ -2,7 +2,8 @@
 use Rattle.std.specs.Prelude.{◌≡◌, ◌⊎◌, ℕ, ◌+◌, ◌*◌, pos, neg_ℤ, ◌≤ℤ◌, ◌<◌, List, length, slice_index_or}
 use Rattle.stn_time.specs.Time.{horizon, IsWithinHorizon}
 use Rattle.stn_net.specs.{Difference.{Difference, IsBoundWithin}, Schedule.HasSchedule}
-use Rattle.stn_loosen.specs.{declared.{span.Span.Span, fault.LoosenFault.LoosenFault}, Faults.Causes, Making.{Loosening, made_bounds, with_more}}
+use Rattle.stn_refusal.specs.declared.{code.Code.TheVariants.NotRobust, failure.Failure.Failure}
+use Rattle.stn_loosen.specs.{declared.span.Span.Span, Faults.IsRefusedFor, Making.{Loosening, made_bounds, with_more}}
 
 -- the durations of steps one after the other
 pub record AreSteps (durations : List Difference) : Type 0 where
@@ -31,9 +32,9 @@ pub record IsBoundOf (events : ℕ) (bound : Difference) : Type 0 where
   pub hi : IsWithinHorizon bound.hi
 
 -- why the sides can't be made: with them there is no schedule
-abbrev pub IsCauseBehind : Loosening → List Difference → LoosenFault → Type 0
-IsCauseBehind old sides = Causes ⊥ (¬ HasSchedule (made_bounds (with_more old sides)))
+abbrev pub IsCauseBehind : Loosening → List Difference → Failure → Type 0
+IsCauseBehind old sides = IsRefusedFor NotRobust (¬ HasSchedule (made_bounds (with_more old sides)))
 
 -- why no more is asked of these bounds
-abbrev pub IsCauseIn : List Difference → LoosenFault → Type 0
-IsCauseIn bounds = Causes ⊥ (¬ HasSchedule bounds)
+abbrev pub IsCauseIn : List Difference → Failure → Type 0
+IsCauseIn bounds = IsRefusedFor NotRobust (¬ HasSchedule bounds)

@@ -1,78 +1,43 @@
-ghost use Rattle.std.specs.Prelude.{◌≡◌, ◌≤◌, ℕ, ℤ, None, length, All, IfOk, IfErr, OnOk};
-ghost use Rattle.stn_net.specs.{Difference.NamesEvents, Event.most_steps, Schedule.IsSchedule};
-ghost use Rattle.stn_lift.specs.{BaseBounds.KeepsOrder, PlanSource.{bare, steps_of, base_bounds, events_of, planned_of, interfere_in_plan}};
+ghost use Rattle.std.specs.Prelude.{◌≡◌, ◌≤◌, ◌⊎◌, Some, None, length, All, IfOk, IfErr, OnOk};
+ghost use Rattle.stn_refusal.specs.Refusals.{out_of_memory};
+ghost use Rattle.stn_net.specs.{Difference.NamesEvents, Event.most_steps};
+ghost use Rattle.stn_lift.specs.PlanSource.{bare, plan_source, steps_of, events_of};
 ghost use Rattle.stn_records.specs.Content.{most_known, no_content, with_record};
 ghost use Rattle.stn_site.specs.{Held.{next_id, plain}, Bounds.all_bounds, Refusals.next_refusal};
-ghost use Rattle.stn_loosen.specs.{Loosened.{orders_of, loose_durations, bounds_with, Imply, AreFewLoosened}, Promise.Promises, Robust.{loose_bounds, HasPromise, AreFewRobust}, Faults.{IsCause, IsRobustCause}, Numbered.{HoldsNumbered, HoldsSome}};
+ghost use Rattle.stn_loosen.specs.{Loosened.bounds_with, Asked.{IsLoosened, IsLooseningRefusal}, Numbered.HoldsNumbered};
 
-use crate::fault::LoosenFault;
 use crate::plan::loosened;
-use crate::promise::robust;
 use crate::tolerance::Tolerance;
 use std::alloc::Allocator;
 use std::rc::Rc;
-use stn_lift::{Base, BaseFault};
+use stn_lift::{Base, BaseFault, Source};
 use stn_net::Bound;
 use stn_records::Site;
+use stn_refusal::Failure;
 use stn_site::{ReplicaFault, SitePlan};
 use stn_time::Memory;
 
-/// A site's copy of a bare plan with as many steps, which holds the records of the loosened plan and nothing else: they are
-/// plain, with the site's ids from counter 1 on.
+/// A site's copy of a bare plan with as many steps as a source has, which holds the records of the loosened plan, or of the robust plan
+/// where it is to be robust, and nothing else: they are plain, with the site's ids from counter 1 on.
 ///
-/// Refused as `Full` where more than 4,096 records would be made. `Memory` may come in place of any answer.
-pub fn loosened_site_plan<A: Allocator + Copy>(
+/// Refused in this order: as the source has no base; as `loosened` refuses it. `Memory` may come in place of any answer.
+pub fn loosen<A: Allocator + Copy>(
     alloc: A,
     site: Site,
-    base: &Base<A>,
+    source: &Source<A>,
     tolerance: Tolerance,
-) -> Result<SitePlan<A>, LoosenFault>
+    robust: bool,
+) -> Result<SitePlan<A>, Failure>
     ensures site { IfOk result (λ plan. plan.site ≡ site) }
-    ensures source { IfOk result (λ plan. plan.source ≡ bare (steps_of base.now)) }
-    ensures records { IfOk result (λ plan. HoldsSome (AreFewLoosened base.now tolerance) site plan.state) }
-
-    // Each schedule of the plan is one of the loosened plan.
-    ensures looser { IfOk result (λ plan. (time : ℕ → ℤ) → IsSchedule (base_bounds base.now) time → IsSchedule (all_bounds plan.source plan.state) time) }
-
-    // The loosened plan implies each order of the plan.
-    ensures implied { IfOk result (λ plan. All (Imply (all_bounds plan.source plan.state)) (orders_of base.now)) }
-
-    // In every schedule of the loosened plan events that interfere keep the plan's order.
-    ensures ordered { IfOk result (λ plan. KeepsOrder (events_of base.now) (interfere_in_plan base.now) (planned_of base.now) (all_bounds plan.source plan.state)) }
-    ensures fault { IfErr result (IsCause base.now tolerance) }
+    ensures source { IfOk result (λ plan. plan.source ≡ bare (steps_of (plan_source source.now))) }
+    ensures loosened { IfOk result (λ plan. IsLoosened robust (plan_source source.now) tolerance site plan.state) }
+    ensures accepted { OnOk result (IsLooseningRefusal robust (plan_source source.now) tolerance None) }
+    ensures refused { IfErr result (λ failure. (failure ≡ out_of_memory)
+        ⊎ IsLooseningRefusal robust (plan_source source.now) tolerance (Some failure)) }
 {
-    let records = loosened(alloc, base, tolerance)?;
-    Ok(plan_with(alloc, site, base, &records)?)
-}
-
-/// The same with the records of the robust plan, under which it completes however long its steps take.
-///
-/// Refused in this order: `Full`, where the loosened plan would have more than 4,096 records; `NotRobust`, where no times of the starts
-/// are a promise; `Full`, where the robust plan would have more than 4,096 records. `Memory` may come in place of any answer.
-pub fn robust_site_plan<A: Allocator + Copy>(
-    alloc: A,
-    site: Site,
-    base: &Base<A>,
-    tolerance: Tolerance,
-) -> Result<SitePlan<A>, LoosenFault>
-    ensures site { IfOk result (λ plan. plan.site ≡ site) }
-    ensures source { IfOk result (λ plan. plan.source ≡ bare (steps_of base.now)) }
-    ensures records { IfOk result (λ plan. HoldsSome (AreFewRobust base.now tolerance) site plan.state) }
-
-    // There is a promise.
-    ensures promise { OnOk result (HasPromise base.now tolerance) }
-
-    // Each schedule of what the site holds is a promise of it: its starts hold, however long the steps take.
-    ensures promised { IfOk result (λ plan. (time : ℕ → ℤ) → IsSchedule (all_bounds plan.source plan.state) time
-        → Promises (loose_durations tolerance base.now) (all_bounds plan.source plan.state) time) }
-
-    // Each schedule of what the site holds is one of the loosened plan.
-    ensures loosened { IfOk result (λ plan. (time : ℕ → ℤ) → IsSchedule (all_bounds plan.source plan.state) time
-        → IsSchedule (loose_bounds base.now tolerance) time) }
-    ensures fault { IfErr result (IsRobustCause base.now tolerance) }
-{
-    let records = robust(alloc, base, tolerance)?;
-    Ok(plan_with(alloc, site, base, &records)?)
+    let base = Base::from_source(alloc, source)?;
+    let records = loosened(alloc, &base, tolerance, robust)?;
+    Ok(plan_with(alloc, site, &base, &records)?)
 }
 
 // A site's copy of a bare plan with as many steps, which holds plain records of these bounds and nothing else.

@@ -1,16 +1,13 @@
 //! Plans for real clocks: a planner's plan with durations that give, over a bare plan with as many steps.
 #![tactic(auto)]
 
-pub use adding::{loosened_site_plan, robust_site_plan};
-pub use fault::LoosenFault;
+pub use adding::loosen;
 pub use fragile::fragile_lines;
 pub use plan::loosened;
-pub use promise::robust;
 pub use tolerance::Tolerance;
 
 mod adding;
 mod crossed;
-mod fault;
 mod fragile;
 mod making;
 mod nearest;

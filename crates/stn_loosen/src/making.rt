@@ -1,13 +1,12 @@
 //! The records of a loosened plan, one after the other, with the matrix of all bounds; and those of the robust plan after them, with a
 //! network of all bounds, since each bound on starts would move most entries of the matrix.
 
-ghost use Rattle.std.specs.Prelude.{◌≡◌, ◌+◌, ◌≤◌, ◌↔◌, ◌∷◌, [], pos, ◌≤ℤ◌, length, map, All, IsTrue, IfOk, IfErr, OnOk};
+ghost use Rattle.std.specs.Prelude.{◌≡◌, ◌+◌, ◌<◌, ◌≤◌, ◌↔◌, ◌∷◌, [], pos, ◌≤ℤ◌, length, map, All, IsTrue, IfOk, IfErr, OnOk};
 ghost use Rattle.stn_net.specs.{Event.most_events, Difference.NamesEvents, Horizon.horizon_bounds, Schedule.HasSchedule};
 ghost use Rattle.stn_conflict.specs.Distances.{TellsWithin};
 ghost use Rattle.stn_records.specs.Content.{most_known};
-ghost use Rattle.stn_loosen.specs.{Slack.loose, Loosened.Imply, Moved.moved_bounds, Stepped.{AreSteps, as_bound, IsWithinReach, IsHalfOpen, IsCauseBehind, IsCauseIn}, Making.{made_bounds, with_more, AreMadeBehind, IsShown, IsCauseAt, IsCauseOf, IsCauseWith}};
+ghost use Rattle.stn_loosen.specs.{Slack.loose, Loosened.Imply, Moved.moved_bounds, Stepped.{AreSteps, as_bound, IsWithinReach, IsHalfOpen, IsCauseBehind, IsCauseIn}, Making.{made_bounds, with_more, AreMadeBehind, IsShown, IsCauseOf, IsCauseWith}};
 
-use crate::fault::LoosenFault;
 use crate::span::{Span, moved_sides};
 use crate::tolerance::Tolerance;
 use std::alloc::Allocator;
@@ -15,6 +14,7 @@ use std::marker::Model;
 use stn_conflict::Network;
 use stn_net::{Bound, Event, Matrix};
 use stn_records::MOST_KNOWN;
+use stn_refusal::{Code, Failure};
 use stn_time::{HORIZON, Memory};
 
 /// The records that were made so far over a bare plan, no more than a site may know, and the matrix of all bounds.
@@ -87,13 +87,12 @@ impl<A: Allocator + Copy> Making<A> {
         &mut self,
         durations: &[Bound],
         tolerance: Tolerance,
-    ) -> Result<(), LoosenFault>
+    ) -> Result<(), Memory>
         requires named { All (NamesEvents self.old.events) durations.now }
         requires lasting { All (λ duration. pos 0 ≤ℤ duration.lo) durations.now }
         requires possible { HasSchedule (made_bounds (with_more self.old (map (loose tolerance) durations.now))) }
         requires few { length self.old.records + length durations.now ≤ most_known }
-        ensures made { OnOk result (self.new ≡ with_more self.old (map (loose tolerance) durations.now)) }
-        ensures fault { IfErr result (λ fault. fault ≡ LoosenFault.Memory) }
+        ensures { OnOk result (self.new ≡ with_more self.old (map (loose tolerance) durations.now)) }
     {
         for duration in durations {
             self.make(tolerance.loose(duration))?;
@@ -102,7 +101,7 @@ impl<A: Allocator + Copy> Making<A> {
     }
 
     /// Makes each of the orders that is not implied by then.
-    pub fn make_orders(&mut self, orders: &[Bound]) -> Result<(), LoosenFault>
+    pub fn make_orders(&mut self, orders: &[Bound]) -> Result<(), Failure>
         requires named { All (NamesEvents self.old.events) orders.now }
         requires possible { HasSchedule (made_bounds (with_more self.old orders.now)) }
         ensures made { OnOk result (AreMadeBehind self.old orders.now self.new) }
@@ -115,7 +114,7 @@ impl<A: Allocator + Copy> Making<A> {
     }
 
     // Makes an order, where it is not implied.
-    fn make_order(&mut self, order: Bound) -> Result<(), LoosenFault>
+    fn make_order(&mut self, order: Bound) -> Result<(), Failure>
         requires named { NamesEvents self.old.events order }
         requires possible { HasSchedule (made_bounds (with_more self.old (order ∷ []))) }
         ensures made { OnOk result (AreMadeBehind self.old (order ∷ []) self.new) }
@@ -124,7 +123,11 @@ impl<A: Allocator + Copy> Making<A> {
         if self.implies(&Span::of(&order)) {
             return Ok(());
         }
-        self.make(order)
+        if self.records().len() == MOST_KNOWN {
+            return Err(Failure::refused(Code::Full));
+        }
+        self.make(order)?;
+        Ok(())
     }
 
     // Whether all bounds imply another.
@@ -137,15 +140,12 @@ impl<A: Allocator + Copy> Making<A> {
     }
 
     // Makes one more record.
-    fn make(&mut self, bound: Bound) -> Result<(), LoosenFault>
+    fn make(&mut self, bound: Bound) -> Result<(), Memory>
         requires named { NamesEvents self.old.events bound }
         requires possible { HasSchedule (made_bounds (with_more self.old (bound ∷ []))) }
-        ensures made { OnOk result (self.new ≡ with_more self.old (bound ∷ [])) }
-        ensures fault { IfErr result (IsCauseAt (length self.old.records)) }
+        requires room { length self.old.records < most_known }
+        ensures { OnOk result (self.new ≡ with_more self.old (bound ∷ [])) }
     {
-        if self.records.len() == MOST_KNOWN {
-            return Err(LoosenFault::Full);
-        }
         self.records.push(bound)?;
         let _fits = self.matrix.tighten(bound);
         Ok(())
@@ -169,11 +169,7 @@ impl<A: Allocator + Copy> Moving<A> {
 
     /// Makes each side of the bounds, moved from the ends of these durations to their starts, that is not implied by then, however many
     /// there are, and returns all records. Refused as `NotRobust` where there is no schedule with all of them.
-    pub fn with_moved(
-        self,
-        durations: &[Bound],
-        bounds: &[Bound],
-    ) -> Result<Vec<Bound, A>, LoosenFault>
+    pub fn with_moved(self, durations: &[Bound], bounds: &[Bound]) -> Result<Vec<Bound, A>, Failure>
         requires steps { AreSteps durations.now }
         requires named { All (NamesEvents self.events) bounds.now }
         ensures made { IfOk result (λ records. AreMadeBehind self (moved_bounds durations.now bounds.now) (record self { records = records.items })) }
@@ -188,7 +184,7 @@ impl<A: Allocator + Copy> Moving<A> {
     }
 
     // The records, where all bounds have a schedule: there may be none with the bounds that were made last.
-    fn possible_records(self) -> Result<Vec<Bound, A>, LoosenFault>
+    fn possible_records(self) -> Result<Vec<Bound, A>, Failure>
         ensures value { IfOk result (λ records. records.items ≡ self.records) }
         ensures possible { IfOk result (λ records. HasSchedule (made_bounds (record self { records = records.items }))) }
         ensures fault { IfErr result (IsCauseIn (made_bounds self)) }
@@ -205,7 +201,7 @@ impl<A: Allocator + Copy> Moving<A> {
     }
 
     // The same with each side of one bound, moved to starts.
-    fn with_sides(self, durations: &[Bound], bound: &Bound) -> Result<Moving<A>, LoosenFault>
+    fn with_sides(self, durations: &[Bound], bound: &Bound) -> Result<Moving<A>, Failure>
         requires steps { AreSteps durations.now }
         requires named { NamesEvents self.events bound.now }
         ensures made { IfOk result (AreMadeBehind self (moved_bounds durations.now (bound.now ∷ []))) }
@@ -216,7 +212,7 @@ impl<A: Allocator + Copy> Moving<A> {
     }
 
     // The same with the side of a bound, where it is not implied.
-    fn with_side(self, side: &Span) -> Result<Moving<A>, LoosenFault>
+    fn with_side(self, side: &Span) -> Result<Moving<A>, Failure>
         requires named { NamesEvents self.events (as_bound side.now) }
         requires open { IsHalfOpen (as_bound side.now) }
         requires reach { IsWithinReach (as_bound side.now) }
@@ -228,16 +224,15 @@ impl<A: Allocator + Copy> Moving<A> {
             return Ok(moving);
         }
         let Some(bound) = side.bound(moving.events()) else {
-            return Err(LoosenFault::NotRobust);
+            return Err(Failure::refused(Code::NotRobust));
         };
-        moving.with(bound)
+        Ok(moving.with(bound)?)
     }
 
     // The same with one record more.
-    fn with(self, bound: Bound) -> Result<Moving<A>, LoosenFault>
+    fn with(self, bound: Bound) -> Result<Moving<A>, Memory>
         requires { NamesEvents self.events bound }
-        ensures made { IfOk result (λ moving. moving ≡ with_more self (bound ∷ [])) }
-        ensures fault { IfErr result (λ fault. fault ≡ LoosenFault.Memory) }
+        ensures { IfOk result (λ moving. moving ≡ with_more self (bound ∷ [])) }
     {
         let Moving {
             mut records,
@@ -255,7 +250,7 @@ impl<A: Allocator + Copy> Moving<A> {
 
     // Whether all bounds imply another with an open side, which the horizon implies: where those of the matrix imply it, all do; else the
     // network tells of the other side.
-    fn implies(&mut self, side: &Span) -> Result<bool, LoosenFault>
+    fn implies(&mut self, side: &Span) -> Result<bool, Failure>
         requires named { NamesEvents self.old.events (as_bound side.now) }
         requires open { IsHalfOpen (as_bound side.now) }
         requires reach { IsWithinReach (as_bound side.now) }
@@ -291,7 +286,7 @@ fn is_within<A: Allocator + Copy>(
     from: Event,
     to: Event,
     most: i64,
-) -> Result<bool, LoosenFault>
+) -> Result<bool, Failure>
     requires from { from ≤ network.old.events }
     requires to { to ≤ network.old.events }
     ensures told { IfOk result (TellsWithin network.old.bounds from to most) }
@@ -300,6 +295,6 @@ fn is_within<A: Allocator + Copy>(
 {
     match network.is_within(from, to, most)? {
         Some(within) => Ok(within),
-        None => Err(LoosenFault::NotRobust),
+        None => Err(Failure::refused(Code::NotRobust)),
     }
 }

@@ -6,7 +6,7 @@ use std::rc::Rc;
 use stn_chart::Look;
 use stn_command::{Choice, Query, say};
 use stn_lift::{Base, Source};
-use stn_loosen::{LoosenFault, Tolerance, loosened_site_plan, robust_site_plan};
+use stn_loosen::{Tolerance, loosen};
 use stn_net::Event;
 use stn_questions::{Outlook, Question};
 use stn_records::Site;
@@ -184,52 +184,45 @@ pub const DOMAIN: &[u8] =
 pub const PLAN: &[u8] = b"0: (a)\n6: (a)\n";
 
 // The plan whose steps are loosened.
-fn loose_base(heap: &Refusing<Global>) -> Option<Base<&Refusing<Global>>> {
+fn loose_source(heap: &Refusing<Global>) -> Option<Source<&Refusing<Global>>> {
     let domain = DOMAIN.to_vec(heap).ok()?;
     let plan = PLAN.to_vec(heap).ok()?;
-    let source = Source::Files(domain, plan);
-    let base = Base::from_source(heap, &source);
-    drop(source);
-    base.ok()
+    Some(Source::Files(domain, plan))
 }
 
 // The loosened plan, or the robust one.
 fn made<'a>(
     heap: &'a Refusing<Global>,
-    base: &Base<&'a Refusing<Global>>,
+    source: &Source<&'a Refusing<Global>>,
     robust: bool,
-) -> Result<SitePlan<&'a Refusing<Global>>, LoosenFault> {
+) -> Result<SitePlan<&'a Refusing<Global>>, Failure> {
     let site = Site::new(1).unwrap();
     let second = Ms::new(1_000).unwrap();
     let tolerance = Tolerance::new(second, second).unwrap();
-    if robust {
-        robust_site_plan(heap, site, base, tolerance)
-    } else {
-        loosened_site_plan(heap, site, base, tolerance)
-    }
+    loosen(heap, site, source, tolerance, robust)
 }
 
 // Whether a site's copy holds so many records, or memory was lacking.
-fn is_made(made: Result<SitePlan<&Refusing<Global>>, LoosenFault>, known: usize) -> (bool, bool) {
+fn is_made(made: Result<SitePlan<&Refusing<Global>>, Failure>, known: usize) -> (bool, bool) {
     match made {
         Ok(copy) => {
             let right = copy.records().known() == known;
             drop(copy);
             (right, false)
         }
-        Err(fault) => (false, fault == LoosenFault::Memory),
+        Err(failure) => (false, failure == Failure::Failed(Fault::Memory)),
     }
 }
 
 /// What a plan is loosened to while a request is refused: the durations of both steps; in the robust plan also when each may start at
 /// the latest.
 pub fn loosen_refused(heap: &Refusing<Global>, number: u64, robust: bool) -> Outcome {
-    let Some(base) = loose_base(heap) else {
+    let Some(source) = loose_source(heap) else {
         return Outcome::Wrong;
     };
     heap.refuse(number);
-    let made = made(heap, &base, robust);
-    drop(base);
+    let made = made(heap, &source, robust);
+    drop(source);
     let (right, memory) = is_made(made, if robust { 4 } else { 2 });
     judged(heap, right, memory)
 }

@@ -1,5 +1,5 @@
 -- Bytes are whole frames, and a rest that begins with none.
-use Rattle.std.{proofs.{lemmas.Grind.common_steps, Common.{rules, ◌≡◌, ℕ, zero, suc, ◌+◌, ◌<◌, ◌≤◌, ◌^◌, List, [], ◌∷◌, ◌++◌, length, take, drop, refl, sym, ◌∙◌, arith, append_assoc, length-drop, take-append-drop}}, specs.{Prelude.flat_map, List.AllByRecursion}}
+use Rattle.std.{proofs.{lemmas.Grind.common_steps, Common.{rules, ◌≡◌, ℕ, zero, suc, ◌<◌, ◌≤◌, ◌^◌, List, [], ◌∷◌, ◌++◌, length, take, drop, refl, sym, ◌∙◌, arith, append_assoc, length-drop, take-append-drop}}, specs.{Prelude.flat_map, List.AllByRecursion}}
 use Rattle.stn_wire.{specs.Frame.{FrameContent, spelling, IsFrame}, proofs.Fronts.shown}
 use Rattle.stn_laws.proofs.frames.Fronts.{ShowsNone, some_front_lem}
 

@@ -1,19 +1,19 @@
 -- A command has one ending, but for lacks.
-use Rattle.std.{proofs.{Common.{rules, ◌≡◌, inl, inr, ℕ, ◌+◌, Bool, true, false, List, length, take, Option, Some, None, is_some, option_map, Result, Ok, Err, refl, sym, ap, subst, ◌∙◌, arith, length-append}, lemmas.{Bool.false≢true, Option.same_Some}}, specs.{Borrow.Bor, Prelude.{⊤}}}
+use Rattle.std.{proofs.{Common.{rules, ◌≡◌, inl, inr, ℕ, Bool, true, false, List, length, Option, Some, None, is_some, option_map, Result, Ok, Err, refl, sym, ap, subst, ◌∙◌, arith, length-append}, lemmas.{Bool.false≢true, Option.same_Some}}, specs.{Borrow.Bor, Prelude.{⊤}}}
 use Rattle.stn_device.proofs.Known.{not_err}
 use Rattle.stn_net.specs.{Difference.Difference, Schedule.HasSchedule}
 use Rattle.stn_lift.specs.PlanSource.{PlanSource, events_of}
-use Rattle.stn_site.specs.{Held.Held, Change.change_refusal, Failures.replica_failure, Bounds.all_bounds, declared.{faults.ReplicaFault.ReplicaFault, change.Change.{Change as ChangeAsked, TheVariants.Add}, own.OwnedSteps.OwnedSteps}}
+use Rattle.stn_site.specs.{Held.Held, Change.change_refusal, Bounds.all_bounds, declared.{faults.ReplicaFault.ReplicaFault, change.Change.{Change as ChangeAsked}, own.OwnedSteps.OwnedSteps}}
 use Rattle.stn_laws.proofs.{One.IsOne, logs.Unsaved.{source_same, names_same, update_same, saved_lacks}}
 use Rattle.stn_store.specs.{Log.{Log, log_held, IsLog, Failures.load_failure}, declared.log.fault.LoadFault.LoadFault, Store.{Entry, Holds, IsThere, Spells, Means, Opens, IsUnopened}, Steps.{Entries, FindsFree, FindsText, LoadsLog, SavesNew}, Merging.IsMergeRefusal}
 use Rattle.stn_command.specs.{Named.IsRefusedBy, Words.no_such_word, Query.{Query, IsQueryRefusal}}
-use Rattle.stn_guard.specs.{Adding.{IsGuardRefusal, no_step, conflict, guarded, records_refusal, owner_by}, Making.IsGuardOf}
-use Rattle.stn_loosen.specs.{Slack.Slack, Loosened.{AreFewLoosened, AreTooMany}, Robust.{AreRobust, AreFewRobust, AreTooManyRobust}}
+use Rattle.stn_guard.specs.{Adding.{IsGuardRefusal, no_step, conflict, guarded, owner_by}, Making.IsGuardOf}
+use Rattle.stn_loosen.specs.{Slack.Slack, Asked.{IsLoosenedRefusal, IsRobustRefusal, WithBase, IsLooseningRefusal}, Loosened.{AreFewLoosened, AreTooMany}, Robust.{AreRobust, AreFewRobust, AreTooManyRobust}}
 use Rattle.stn_refusal.specs.declared.failure.{Failure.Failure, Fault.Fault}
 use Rattle.stn_effects.{specs.Effects.{Effect, Then, Finds, Settles, EndAlike}, proofs.Endings.{ChangesNothing, EndSo, makes_same, reads_same, then_alike, then_done_alike, gives_alike, gives_lacks, lacks_alike, finds_alike, makes_alike, reads_alike, as_alike}}
 use Rattle.stn_records.specs.Content.{Content}
 use Rattle.stn_line.specs.declared.words.{SiteLog.SiteLog, NameWords.NameWords, NewLog.TheVariants.{Bare, Init, Loosen}, Line.{Line, TheVariants.{Make, Change, Ask, Explain}}}
-use Rattle.stn_logs.specs.{Words.{Update, change, merge, guard}, Loosening.{IsLoosenedRefusal, IsRobustRefusal, WithBase, IsLooseningRefusal}, Commands.{SavesUpdated, SavesMade, MakesLog, FindsSource, IsUnguarded, Updates, UpdatesLog, own_plan_text, FindsNames, SaysAsked, AnswersAsked, IsExplainRefusal, DoesLine}}
+use Rattle.stn_logs.specs.{Words.{Update, change, merge, guard}, Commands.{SavesUpdated, SavesMade, MakesLog, FindsSource, IsUnguarded, Updates, UpdatesLog, own_plan_text, FindsNames, SaysAsked, AnswersAsked, IsExplainRefusal, DoesLine}}
 
 one_error : {X E : Type 0} (f g : E) → (let none : Result X E = Err f in none) ≡ Err g → f ≡ g
 one_error f g e = cc

@@ -1,8 +1,8 @@
 -- Bytes have one meaning as a log.
-use Rattle.std.{proofs.{Common.{rules, ◌≡◌, ℕ, Bool, List, [], ◌∷◌, ◌++◌, length, Option, Some, Result, Ok, Err, inl, refl, sym, ap, subst, ◌∙◌, ⊎_elim, arith, append_assoc}, lemmas.{Bool.false≢true, Option.{same_Some, none-some}}}, specs.{Prelude.option_map, List.{flat_map, AllByRecursion}}}
+use Rattle.std.{proofs.{Common.{rules, ◌≡◌, ℕ, Bool, List, [], ◌∷◌, ◌++◌, length, Option, Some, Result, Ok, Err, sym, subst, append_assoc}}, specs.{List.{flat_map, AllByRecursion}}}
 use Rattle.stn_wire.specs.{Frame.{FrameContent, spelling, IsFrame}, Front.{Front, whole, faulty, unfinished, IsFront}, declared.fault.WireFault.WireFault}
 use Rattle.stn_laws.proofs.frames.Fronts.{one_front_lem, one_spelling_lem, whole_spelled}
-use Rattle.stn_store.specs.{Log.{Log, LogSoFar, taken, all_taken, all_taken_by, IsEnding, IsLogAnswer, IsRest}, declared.log.fault.LoadFault.{LoadFault, TheVariants.{Read, Bound, Frame, LogForm, Base, Take, Memory}}}
+use Rattle.stn_store.specs.{Log.{Log, LogSoFar, taken, all_taken, all_taken_by, IsEnding, IsLogAnswer, IsRest}, declared.log.fault.LoadFault.{LoadFault, TheVariants.{Bound, Frame, LogForm}}}
 
 apart : (fault : WireFault) → faulty fault ≡ unfinished → ⊥
 apart fault e = absurd cc

@@ -1,5 +1,5 @@
 -- What a word refuses ends so.
-use Rattle.std.{proofs.{Common.{rules, ◌≡◌, ◌⊎◌, ℕ, List, Some, Result}, lemmas.Option.{none-some, same_Some}}, specs.Prelude.IsErrAnd}
+use Rattle.std.{proofs.{Common.{rules, ◌≡◌, ◌⊎◌, ℕ, List, Some, Result}, lemmas.Option.{none-some}}, specs.Prelude.IsErrAnd}
 use Rattle.stn_device.proofs.Known.{not_err}
 use Rattle.stn_effects.specs.Effects.{Effect, Then}
 use Rattle.stn_line.specs.declared.words.{NewLog.TheVariants.Loosen, Line.{Line, TheVariants.{Make, Change, Ask}}}

@@ -1,11 +1,11 @@
 -- What a step of a command leaves; a command that gives no answer saves nothing.
-use Rattle.std.{proofs.Common.{rules, ℕ, Bool, true, false, List, Option, Some, None}, specs.Prelude.{codes, [], ◌∷◌, ◌++◌}}
-use Rattle.stn_effects.proofs.Endings.{ChangesNothing, KeepsIfStopped, StopsForLack, makes_same, gives_same, gives_lacks, gives_never_stops, then_same, then_keeps, then_done, then_lacks}
+use Rattle.std.proofs.Common.{rules, ℕ, Bool, true, false, List, Option, Some, None}
+use Rattle.stn_effects.proofs.Endings.{ChangesNothing, KeepsIfStopped, StopsForLack, gives_lacks, then_same}
 use Rattle.stn_lift.specs.PlanSource.{PlanSource}
 use Rattle.stn_records.specs.Content.{Content}
 use Rattle.stn_line.specs.declared.words.{NewLog.TheVariants.{Bare, Init, Loosen}, Line.{Line, TheVariants.{Make, Change, Ask, Explain}}}
 use Rattle.stn_site.specs.{Held.Held}
-use Rattle.stn_logs.specs.{Words.{Update, change, guard, merge}, Commands.{Updated, updated, unchanged, SavesUpdated, SavesMade, FindsSource, IsUnguarded, Updates, FindsNames, DoesLine}}
+use Rattle.stn_logs.specs.{Words.{Update, change, guard, merge}, Commands.{Updated, updated, unchanged, SavesUpdated, SavesMade, FindsSource, Updates, FindsNames, DoesLine}}
 use Rattle.stn_refusal.specs.declared.failure.{Fault.Fault}
 
 module _ (Fails : Fault → Type 0) where

@@ -1,5 +1,5 @@
 -- There is one loosened plan for a plan and a tolerance.
-use Rattle.std.{proofs.{Common.{rules, ◌≡◌, inl, inr, ℕ, ◌+◌, ◌<◌, ◌≤◌, ℤ, ◌≤ℤ◌, ◌<ℤ◌, suc, Bool, true, false, not, ◌&&◌, cond, filter, Ordering, Less, Equal, Greater, List, [], ◌∷◌, ◌++◌, length, get_or, refl, sym, ap, subst, ◌∙◌, arith, length-append}, lemmas.{Int.ints, Cmp.int_cmp_total, List.{Sorted.{sorted_far, ranks_by}, Elements.{All-head, All-tail}}}}, specs.{List.{All, Sorted.{ties, IsSortedBy}}, Ordering.{int_cmp, MatchOrdering, is_lt}, Cmp.int_ranks}}
+use Rattle.std.{proofs.{Common.{rules, ◌≡◌, inl, inr, ℕ, ◌+◌, ◌≤◌, ℤ, ◌≤ℤ◌, ◌<ℤ◌, suc, Bool, true, false, filter, Ordering, Less, Equal, Greater, List, [], ◌∷◌, ◌++◌, length, get_or, refl, sym, ap, subst, ◌∙◌, arith, length-append}, lemmas.{Int.ints, Cmp.int_cmp_total, List.{Sorted.{sorted_far, ranks_by}, Elements.{All-head, All-tail}}}}, specs.{List.{All, Sorted.{ties, IsSortedBy}}, Ordering.{int_cmp, MatchOrdering, is_lt}, Cmp.int_ranks}}
 use Rattle.stn_net.specs.{Difference.Difference, Horizon.horizon_bounds}
 use Rattle.stn_lift.specs.PlanSource.{PlanSource, events_of}
 use Rattle.stn_loosen.specs.{Slack.Slack, Moved.moved_bounds, Robust.AreRobust, Loosened.{gap, AreKept, AreNearestFirst, AreLoosened, AreFewLoosened, AreTooMany, bounds_with, loose_durations}}

@@ -1,7 +1,7 @@
 -- Runs of bounds each of whose schedules is a promise.
-use Rattle.std.{proofs.{Common.{rules, ◌≡◌, ◌≢◌, ℕ, ℤ, ◌-ℤ◌, ◌≤ℤ◌, cond, eqb, find, List, [], ◌∷◌, ◌++◌, get_or, Option, Some, None, refl, sym, ap, subst, ◌∙◌, arith, All}, lemmas.{Bool.{cond_both, eqb-true, eq-eqb, ne_eqb}, Int.ints, List.{get_or-map, length-map, Elements.{All-nil, All-cons, All-map, All-contains}}}}, specs.Prelude.{◌↔◌, unwrap_or, Contains}}
+use Rattle.std.{proofs.{Common.{rules, ◌≡◌, ◌≢◌, ℕ, ℤ, ◌-ℤ◌, ◌≤ℤ◌, cond, eqb, find, List, [], ◌∷◌, ◌++◌, get_or, Option, Some, None, refl, sym, ap, subst, ◌∙◌, arith, All}, lemmas.{Bool.{cond_both, eqb-true, eq-eqb, ne_eqb}, Int.ints, List.{get_or-map, length-map, Elements.{All-cons, All-map, All-contains}}}}, specs.Prelude.{◌↔◌, unwrap_or, Contains}}
 use Rattle.stn_net.{proofs.{Closure.schedule_before, Schedules.{schedule_with, met_behind}}, specs.{Difference.Difference, Schedule.{Meets, IsSchedule, HasSchedule}, Windows.{Window.IsInWindow, Rehearsal.fixed_at}}}
-use Rattle.stn_loosen.{specs.Promise.{still, setting_of, Follows, Promises}, proofs.{Robustness.IsRobust, Settings.keeps_itself}}
+use Rattle.stn_loosen.{specs.Promise.{still, setting_of, Follows}, proofs.{Robustness.IsRobust, Settings.keeps_itself}}
 use Rattle.stn_laws.specs.Executions.{Execution, executed_bounds, MayCome, IsExecution}
 
 -- in these times the executions came when they did

@@ -3,13 +3,12 @@ use Rattle.std.proofs.{lemmas.Grind.common_steps, Common.{arith, rules, ℕ, ℤ
 use Rattle.stn_lift.specs.{Plan.Steps.PlannedStep, PlanSource.PlanSource}
 use Rattle.stn_records.specs.Content.{Content}
 use Rattle.stn_site.specs.{Held.Held}
-use Rattle.stn_questions.specs.{declared.{asked.Question.Question, words.Outlook.Outlook}, Answer.IsAnswer, Steps.source_names}
+use Rattle.stn_questions.specs.{declared.{asked.Question.Question, words.Outlook.Outlook}, Answer.IsAnswer}
 use Rattle.stn_repairs.specs.Text.{IsRepairsText}
 use Rattle.stn_laws.proofs.{One.IsOne, questions.OneAnswer.{OneReport, one_ready_text}}
 use Rattle.stn_chart.specs.Chart.{Look}
 use Rattle.stn_picture.specs.Picture.{IsPicture}
 use Rattle.stn_command.specs.{Query.{Query, report, check, foresee, ask, repairs, draw, IsSaid, IsForeseen}, Dispatch.{IsNextText, IsRestText}, Named.IsNamed}
-use Rattle.stn_questions.specs.declared.words.Outlook.TheVariants as outlook
 use Rattle.stn_net.proofs.OneAnswer.{one_next, one_rehearsal}
 
 one_next_text : (source : PlanSource) (state : Content) (done : List Bool) (now : ℤ) → IsOne (IsNextText source state done now)

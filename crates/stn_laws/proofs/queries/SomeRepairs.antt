@@ -1,5 +1,5 @@
 -- Each plan and each state have a text of what mends a conflict.
-use Rattle.std.{proofs.{lemmas.{Grind.common_steps, List.Elements.{All-append, All-filter, All-head, All-push, All-tail, All-weaker}}, Common.{rules, ◌≡◌, ◌⊎◌, inl, inr, ℕ, ℤ, ◌+◌, List, [], ◌∷◌, ◌++◌, not, filter, map, codes, take, neg_ℤ, refl, arith}}, specs.{Prelude.All, List.flat_map, Set.is_member}}
+use Rattle.std.{proofs.{lemmas.{Grind.common_steps, List.Elements.{All-append, All-filter, All-head, All-tail, All-weaker}}, Common.{rules, ◌≡◌, ◌⊎◌, inl, inr, ℕ, ℤ, List, [], ◌∷◌, ◌++◌, not, filter, map, codes, take, neg_ℤ, refl, arith}}, specs.{Prelude.All, List.flat_map, Set.is_member}}
 use Rattle.stn_net.{specs.{Difference.{Difference, IsBoundWithin}, Horizon.horizon_bounds, Schedule.HasSchedule}, proofs.Ranges.range_of_ends}
 use Rattle.stn_lift.specs.PlanSource.{PlanSource, events_of, base_bounds, IsSoundSource}
 use Rattle.stn_records.specs.{Id.{SiteCounter, same_ids}, Record.same_marks, declared.record.{Record.Record, Mark.TheVariants.{Plain, Done}}, Content.{Content, live_of}}

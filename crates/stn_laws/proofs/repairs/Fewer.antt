@@ -1,5 +1,5 @@
 -- What parts and images of lists have, and schedules of fewer bounds.
-use Rattle.std.{proofs.{Common.{rules, ◌≡◌, Bool, true, List, [], ◌∷◌, ◌++◌, map, filter, refl, All, ⊎_elim}, lemmas.List.Elements.{Contains-append_cases, Contains-append_left, Contains-append_right, All-contains, All-contains_itself, All-filter, All-map, All-weaker, filter_passes}}, specs.List.Contains}
+use Rattle.std.{proofs.{Common.{rules, ◌≡◌, Bool, true, List, [], ◌∷◌, ◌++◌, map, filter, refl, All, ⊎_elim}, lemmas.List.Elements.{Contains-append_cases, Contains-append_left, Contains-append_right, All-contains, All-contains_itself, All-filter, All-map, filter_passes}}, specs.List.Contains}
 use Rattle.stn_net.specs.{Difference.Difference, Schedule.{Meets, HasSchedule}}
 
 module _ {X : Type 0} where

@@ -5,7 +5,7 @@ use Rattle.stn_text.specs.Numbers.{number_of}
 use Rattle.stn_records.specs.Content.{Content}
 use Rattle.stn_site.specs.{declared.{faults.ReplicaFault.ReplicaFault, change.Change.Change}, Failures.replica_failure, Held.Held, Change.change_refusal, Refusals.take_refusal}
 use Rattle.stn_questions.specs.declared.words.Outlook.{Outlook}
-use Rattle.stn_world.specs.{World.{World}, Steps.{Step, changed, merged, sent, delivered, step_refusal, send_refusal}}
+use Rattle.stn_world.specs.{World.{World}, Steps.{Step, step_refusal, send_refusal}}
 use Rattle.stn_command.specs.Words.{time_read, times_read, side_read, bound_between}
 use Rattle.stn_exec.specs.Command.{Action, change, query, sites_command, bound_asked, add_of, amend_of, done_of, send_of, check_read, check_of, why_of, outlook_or_alone, action_of, command_of}
 

@@ -2,7 +2,7 @@
 use Rattle.std.proofs.Common.{rules, inl, inr, List, [], ◌∷◌, sym, ◌∙◌}
 use Rattle.stn_site.specs.Held.{Held, holding_state}
 use Rattle.stn_command.specs.Query.{Query, IsSaid}
-use Rattle.stn_exec.{specs.{Effect.{CommandReply, said, declined, told}, Output.{IsAnswerText, IsReplyText, IsOutput, CountsRefusals}}, proofs.Outputs.{not_both, counted}}
+use Rattle.stn_exec.{specs.{Effect.{CommandReply, said, declined, told}, Output.{IsAnswerText, IsReplyText, IsOutput, CountsRefusals}}, proofs.Outputs.{not_both}}
 use Rattle.stn_laws.proofs.One.{IsOne}
 
 -- what another law says of answers to queries

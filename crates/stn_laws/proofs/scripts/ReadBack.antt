@@ -1,5 +1,5 @@
 -- The printed line of a bound is read by an addition as the bound.
-use Rattle.std.{proofs.{lemmas.{Grind.common_steps, Bool.{eqb-true, not-true, and_parts, and_from, Decides.Decides-int_eq}, Fmt.{digits_decimal, digits_value-decimal}, Int.ints, List.{Folds.list_all-append, Splits.{slice_split_at, slice_split_none}, Sums.AllPass-from_list_all}}, Common.{rules, ◌≡◌, ℕ, ◌+◌, ◌-◌, ◌*◌, ◌/◌, ◌%◌, ◌<◌, ◌≤◌, ◌^◌, Bool, true, false, ◌==◌, cond, not, List, [], ◌∷◌, ◌++◌, length, ℤ, neg_ℤ, Option, Some, None, Ok, Err, codes, decimal, refl, sym, ap, ◌∙◌, arith, append_assoc, append-nil, bytes_eq}}, specs.{Prelude.unsigned_abs, Fmt.sign_text, List.{All, list_all}, Ordering.int_eq, Str.{all_ascii_digits, Parse.digits_value}}}
+use Rattle.std.{proofs.{lemmas.{Grind.common_steps, Bool.{eqb-true, and_from}, Fmt.{digits_decimal, digits_value-decimal}, Int.ints, List.{Folds.list_all-append, Splits.{slice_split_at, slice_split_none}, Sums.AllPass-from_list_all}}, Common.{rules, ◌≡◌, ℕ, ◌+◌, ◌-◌, ◌*◌, ◌/◌, ◌%◌, ◌<◌, ◌≤◌, ◌^◌, Bool, true, false, ◌==◌, cond, not, List, [], ◌∷◌, ◌++◌, length, ℤ, neg_ℤ, Option, Some, Ok, Err, codes, decimal, refl, sym, ap, ◌∙◌, arith, append_assoc, append-nil, bytes_eq}}, specs.{Prelude.unsigned_abs, Fmt.sign_text, List.{All, list_all}, Ordering.int_eq, Str.{all_ascii_digits, Parse.digits_value}}}
 use Rattle.std.specs.FinMap as map
 use Rattle.stn_text.{specs.Lines.{is_gap, is_word, words_of}, proofs.Digits.own}
 use Rattle.stn_time.{specs.{Time.{horizon, IsWithinHorizon}, Text.{printed, whole_text, three_digits}, TimeOf.time_of, declared.reading.TimeFault.TheVariants.Malformed}, proofs.Prints.{time_of-printed, decimal-whole_text}}

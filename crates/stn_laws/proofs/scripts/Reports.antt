@@ -1,15 +1,15 @@
 -- The commands of a script are a run of the world's steps.
-use Rattle.std.{proofs.{Common.{rules, ◌≡◌, ◌↔◌, ℕ, ℤ, ◌+◌, Bool, true, false, cond, is_some, List, [], ◌∷◌, ◌++◌, length, Option, Some, None, Result, Ok, Err, inl, inr, option_map, option_to_list, refl, sym, ap, subst, ◌∙◌, arith, append_assoc}, lemmas.{Bool.false≢true, Option.none-some, List.Sums.fold-append}}, specs.{Prelude.option_and_then, Result.result_ok}}
+use Rattle.std.{proofs.{Common.{rules, ◌≡◌, ◌↔◌, ℕ, ℤ, ◌+◌, Bool, true, false, cond, List, [], ◌∷◌, ◌++◌, length, Option, Some, None, Result, Ok, inl, inr, option_map, option_to_list, refl, sym, ap, subst, ◌∙◌, append_assoc}, lemmas.{Bool.false≢true, Option.none-some, List.Sums.fold-append}}, specs.{Prelude.option_and_then, Result.result_ok}}
 use Rattle.stn_lift.specs.PlanSource.{PlanSource, events_of}
 use Rattle.stn_text.specs.Lines.{lines_of, words_of}
 use Rattle.stn_site.specs.{Bounds.all_bounds, Report.{IsReport, done_events}, Held.holding_state, declared.change.Change.Change}
 use Rattle.stn_laws.{specs.Reports.{line_steps, steps_of_lines, LineOf, first_world, steps_before, world_at, QueriesSite, ReportsSite, AsksSite, AsksReady, PrintsAt, PrintSame}, proofs.worlds.Runs.{run_stays, run_keeps, coherent_run}}
-use Rattle.stn_world.{specs.{World.{World, HasSite, has_site, opening_world, content_at}, Parts.holds_all, Whole.IsCoherent, Steps.{Step, changed, merged, sent, delivered, step_refusal, send_refusal, after, IsAccepted, stepped, run, TookAt, TookSameAt, TookSameItemsAt}}, proofs.{Accepted.{site_decides, no_site}, Sendings.{part_free, all_free}, Whole.coherent_at_first}}
-use Rattle.stn_records.specs.Content.{Content, CountsSame, Item, HasItem, part_of}
+use Rattle.stn_world.{specs.{World.{World, HasSite, opening_world, content_at}, Whole.IsCoherent, Steps.{Step, changed, sent, step_refusal, IsAccepted, run, TookAt}}, proofs.{Accepted.{no_site}, Sendings.{part_free, all_free}, Whole.coherent_at_first}}
+use Rattle.stn_records.specs.Content.{Content, Item, HasItem}
 use Rattle.stn_refusal.specs.declared.code.Code.TheVariants as code
 use Rattle.stn_refusal.specs.{declared.failure.Failure.{Failure, TheVariants.Refused}, Refusals.refused}
 use Rattle.stn_questions.specs.{declared.asked.Question.Question, Answer.IsAnswer, Ready.{IsReadyText, IsReadyWith}}
-use Rattle.stn_command.{specs.{Query.{Query, report, IsSaid, IsQueryRefusal}, Dispatch.{every_event, done_or_not_chosen}}, proofs.OneRefusal.one_refusal}
+use Rattle.stn_command.{specs.{Query.{Query, IsSaid, IsQueryRefusal}, Dispatch.{every_event, done_or_not_chosen}}, proofs.OneRefusal.one_refusal}
 use Rattle.stn_exec.{specs.{Command.{Action, query, Command, sites_command, command_of}, Effect.{CommandEffect, CommandReply, told, sending, sent_step, changing, action_effect, command_effect, action_step, command_step}, Script.{Outcome, Start, is_skipped, form_effect, line_outcome, lines_outcome, heading_of, last_line, script_outcome}, Output.{IsReplyText, IsOutput}}, proofs.{Effects.there_effect, Scripts.{line_outcome-skipped, line_outcome-run, line_effect-is, script_outcome-is}}}
 
 -- ---- what a command leaves is what its step leaves

@@ -1,7 +1,6 @@
 -- What a run leaves.
-use Rattle.std.{proofs.Common.{rules, ◌≡◌, ◌⊎◌, ◌+◌, ℕ, List, [], Option, Some, None, Result, Ok, Err, IfSome, inl, inr, sym, subst}, specs.Io.KnownBytes.{Consumes, IsAtEnd}}
-use Rattle.stn_device.{proofs.Known.not_err, specs.Bytes.{most_bytes, ConsumesAtMost}}
-use Rattle.stn_effects.specs.{Printing.Device}
+use Rattle.std.{proofs.Common.{rules, ◌≡◌, ◌⊎◌, ◌+◌, ℕ, List, Option, Result, Ok, Err, IfSome}, specs.Io.KnownBytes.{Consumes, IsAtEnd}}
+use Rattle.stn_device.{specs.Bytes.{most_bytes, ConsumesAtMost}}
 use Rattle.stn_refusal.specs.declared.failure.Failure.{Failure}
 use Rattle.stn_exec.specs.{declared.script.Ran.Ran, Effect.CommandReply, Output.WritesOutputPart, Runs.{Streams, OnInput, OnOutput, ReadsScript, PrintsReplies, RunsScript}, Script.script_outcome}
 

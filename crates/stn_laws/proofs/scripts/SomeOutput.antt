@@ -7,8 +7,8 @@ use Rattle.stn_lift.specs.PlanSource.{events_of, IsSoundSource}
 use Rattle.stn_records.specs.Content.{Content}
 use Rattle.stn_site.specs.{Held.{Held, holding_state}, SoundSite.IsSoundSite}
 use Rattle.stn_laws.{specs.Reports.line_steps, proofs.{scripts.{Reports.line_run, Causes.{HasRefusal, step_fits, send_fits, IsReadOrRefused, command_fits}, Headings.{IsFitOrRefused, IsSoundStart, heading_fits}}, worlds.Runs.{run_keeps, coherent_run, site_bounds, site_proper}}}
-use Rattle.stn_world.{specs.{Parts.holds_all, World.{World, has_site, opening_world, content_at, next_id_at}, Whole.IsCoherent, Steps.{Step, changed, merged, sent, delivered, step_refusal, send_refusal, after}}, proofs.Whole.coherent_at_first}
-use Rattle.stn_command.specs.{Change.made_by, Query.{Query, IsSaid, IsQueryRefusal}}
+use Rattle.stn_world.{specs.{World.{World, has_site, content_at}, Whole.IsCoherent, Steps.{Step, sent, step_refusal, send_refusal, after}}, proofs.Whole.coherent_at_first}
+use Rattle.stn_command.specs.{Query.{Query, IsSaid, IsQueryRefusal}}
 use Rattle.stn_exec.{specs.{declared.answer.Answer.Answer, Answer.answer_text, Command.{Action, Command, command_of, change, merge, send_all, send, deliver, query}, Effect.{CommandReply, CommandEffect, declined, told, refusing, answered, action_effect}, Output.{IsAnswerText, Declines, CountsRefusals, IsOutput}, Script.{Outcome, Start, is_skipped, form_effect, line_effect, line_outcome, lines_outcome, heading_of, started, last_line, script_outcome}}, proofs.{Outputs.{not_both, counts_join, count_one}, Scripts.{outputs_join, output_one, line_outcome-skipped, line_outcome-run, line_effect-is}}}
 use Rattle.stn_exec.specs.declared.answer.Answer.TheVariants as answer
 

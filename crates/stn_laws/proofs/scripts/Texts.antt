@@ -1,5 +1,5 @@
 -- Two texts or a number of steps have a base, or each fault of theirs is printed as a refusal.
-use Rattle.std.{proofs.Common.{rules, ℕ, ◌+◌, List, [], ◌∷◌, Option, Result, Ok, Err, IfErr, arith}, specs.List.AllByRecursion}
+use Rattle.std.{proofs.Common.{rules, ℕ, ◌+◌, List, [], ◌∷◌, Option, Result, IfErr, arith}, specs.List.AllByRecursion}
 use Rattle.stn_text.specs.Faults.{◌>>=◌}
 use Rattle.stn_pddl.{specs.{declared.{tree.scan.TreeFault.TreeFault, fault.DomainFault.DomainFault}, Tree.Trees.Trees, Failures.domain_failure, Schemas.ActionSchema, Sound.IsSound, Domains.{root, domain_of_tree, domain_of_bytes, domain_of}}, proofs.Forms.{OfForms, all_parts_given}}
 use Rattle.stn_lift.specs.{declared.{plan.{bytes.Mark.TheVariants.Close, fault.PlanFault.PlanFault}, fault.{LiftFault.LiftFault, BaseFault.BaseFault}}, Plan.{Failures.plan_failure, Tokens.{Lexeme, Word, Sign}, Steps.{PlannedStep, Form, args_of, duration_form, form_of, time_at, duration_of, step_at, timed_step, step_of, steps_of, limited, plan_of}}, Failures.{base_failure, lift_failure}, Activities.{Activity, with_action, with_found, activity_of, activities}, PlanSource.{PlanSource, of_lift, steps_in, lifted, source_with, base_of}}

@@ -1,11 +1,11 @@
 -- Bytes have one reception.
-use Rattle.std.{proofs.{Common.{rules, ◌≡◌, ◌⊎◌, ℕ, ◌+◌, ◌-◌, ◌<◌, ◌≤◌, List, [], ◌∷◌, ◌++◌, length, take, Option, Some, None, Result, Ok, Err, refl, sym, ap, subst, ◌∙◌, inl, inr, ⊎_elim, arith, append_assoc, append-nil, length-append}, lemmas.List.take_at, Math.Seq.{take-append-add, take-nil}}, specs.{Prelude.flat_map, List.AllByRecursion}}
+use Rattle.std.{proofs.{Common.{rules, ◌≡◌, ◌⊎◌, ℕ, ◌+◌, ◌-◌, ◌<◌, ◌≤◌, List, [], ◌∷◌, ◌++◌, length, take, Option, Some, None, Result, Ok, Err, refl, sym, ap, subst, ◌∙◌, inl, inr, ⊎_elim, arith, append_assoc, length-append}, lemmas.List.take_at, Math.Seq.{take-append-add, take-nil}}, specs.{Prelude.flat_map, List.AllByRecursion}}
 use Rattle.stn_device.specs.Bytes.{most_bytes}
 use Rattle.stn_lift.specs.PlanSource.{PlanSource}
 use Rattle.stn_records.specs.Content.{Content}
-use Rattle.stn_wire.{specs.{Frame.{FrameContent, spelling, IsFrame}, Front.{whole, faulty, unfinished, IsFront}, Stream.wire_fault}, proofs.{Fronts.fault_more, Streams.one_fault}}
+use Rattle.stn_wire.{specs.{Frame.{FrameContent, spelling, IsFrame}, Front.{whole, faulty, unfinished, IsFront}, Stream.wire_fault}, proofs.{Fronts.fault_more}}
 use Rattle.stn_laws.{specs.Reception.SaysReplies, proofs.frames.Fronts.{one_front_lem, one_spelling_lem, whole_in_front}}
-use Rattle.stn_session.specs.{Exchange.{Stage, greeting, told, failed, Reception, at_stage, expecting, staged, replied, IsWaiting, IsLost, IsReceived}, declared.exchange.ReplyFault.{ReplyFault, TheVariants.{Refused, Frame, Reply, Replica, Read, Bound, Memory}}}
+use Rattle.stn_session.specs.{Exchange.{Stage, greeting, told, failed, Reception, at_stage, expecting, staged, replied, IsWaiting, IsLost, IsReceived}, declared.exchange.ReplyFault.{ReplyFault, TheVariants.{Frame, Reply, Bound}}}
 
 -- what a stage answers, where no reply is waited for
 abbrev pub verdict : Stage → Option (Result (List ℕ) ReplyFault)

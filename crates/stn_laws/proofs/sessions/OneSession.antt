@@ -1,8 +1,8 @@
 -- Bytes have one session.
-use Rattle.std.{proofs.Common.{rules, ◌≡◌, ℕ, cond, List, [], ◌∷◌, ◌++◌, length, Option, Some, None, refl, sym, ap, subst, ◌∙◌, inl, ⊎_elim, arith, append_assoc, length-append}, specs.{Prelude.{flat_map, is_some}, List.AllByRecursion}}
-use Rattle.stn_wire.{specs.{Frame.{FrameContent, spelling, IsFrame}, Front.{whole, faulty, unfinished, IsFront}, Stream.{wire_fault, frame_code}}, proofs.Streams.{one_fault, spelling_some}}
+use Rattle.std.{proofs.Common.{rules, ◌≡◌, ℕ, cond, List, [], ◌∷◌, ◌++◌, length, Option, Some, None, refl, sym, ap, subst, ◌∙◌, inl, ⊎_elim, arith, append_assoc}, specs.{Prelude.{flat_map, is_some}, List.AllByRecursion}}
+use Rattle.stn_wire.{specs.{Frame.{FrameContent, spelling, IsFrame}, Front.{whole, faulty, unfinished, IsFront}, Stream.{wire_fault}}, proofs.Streams.{spelling_some}}
 use Rattle.stn_laws.proofs.frames.Fronts.{one_front_lem, one_spelling_lem, whole_in_front}
-use Rattle.stn_session.specs.{Session.{Session, answer, followed, advanced, talked, broken_off}, Serving.{EndsSession, IsSession}, declared.session.End.{End, TheVariants.{Closed, Cut, Refused}}}
+use Rattle.stn_session.specs.{Session.{Session, answer, followed, advanced, talked}, Serving.{EndsSession, IsSession}, declared.session.End.{End, TheVariants.{Closed, Cut, Refused}}}
 
 -- a session that has ended stays
 stays : (first : Session) (code : ℕ) → first.ended ≡ Some code → (frames : List FrameContent) → talked first frames ≡ first

@@ -1,10 +1,10 @@
 -- Bytes that are cut into frames and a rest have a reception.
-use Rattle.std.{proofs.Common.{rules, ◌≡◌, ℕ, ◌+◌, ◌≤◌, List, [], ◌∷◌, ◌++◌, length, take, drop, Option, Some, None, Result, Ok, Err, inl, inr, refl, sym, ap, subst, ◌∙◌, arith, append_assoc, length-append, length-drop, length-take, take-append-drop}, specs.Prelude.{⊤, flat_map}}
+use Rattle.std.{proofs.Common.{rules, ◌≡◌, ℕ, ◌+◌, ◌≤◌, List, [], ◌∷◌, ◌++◌, length, take, drop, Option, Some, Result, Ok, Err, inl, inr, refl, sym, ap, subst, ◌∙◌, arith, append_assoc, length-append, length-drop, length-take, take-append-drop}, specs.Prelude.{⊤, flat_map}}
 use Rattle.stn_device.specs.Bytes.{most_bytes}
 use Rattle.stn_lift.specs.PlanSource.{PlanSource}
 use Rattle.stn_records.specs.Content.{Content}
-use Rattle.stn_site.specs.{Refusals.take_refusal, declared.faults.ReplicaFault.ReplicaFault, Held.holding_state}
-use Rattle.stn_wire.specs.{Frame.{FrameContent, records, text, refused, same, spelling}, Front.{unfinished, IsFront}}
+use Rattle.stn_site.specs.{declared.faults.ReplicaFault.ReplicaFault}
+use Rattle.stn_wire.specs.{Frame.{FrameContent, same, spelling}, Front.{unfinished, IsFront}}
 use Rattle.stn_laws.{specs.Reception.SaysReplies, proofs.{frames.{Fronts.ShowsNone, Cuts.IsCut}, sessions.SomeSession.of_frame}}
 use Rattle.stn_session.specs.{Exchange.{Stage, greeting, handing, telling, told, failed, Reception, expecting, unexpected, greeted_by, received, handed, reception_of, staged, replied, IsWaiting, IsReception, IsReceived}, declared.exchange.ReplyFault.{ReplyFault, TheVariants.{Frame, Reply, Bound}}}
 

@@ -2,8 +2,6 @@
 use Rattle.std.proofs.Common.{rules, ◌≡◌, ℕ, List, [], ◌∷◌, Option, Some, None, inl, inr, refl, arith}
 use Rattle.stn_wire.specs.{Frame.FrameContent, Front.{faulty, IsFront}, declared.{fault.WireFault.WireFault, stream.fault.FrameFault.FrameFault}, Stream.{wire_fault, frame_code}}
 use Rattle.stn_laws.proofs.frames.{Fronts.ShowsNone, Cuts.IsCut}
-use Rattle.stn_wire.specs.declared.fault.WireFault.TheVariants as wire
-use Rattle.stn_wire.specs.declared.stream.fault.FrameFault.TheVariants as frame
 use Rattle.stn_session.specs.{Session.{Session, talked, broken_off}, Serving.{EndsSession, IsSession}, declared.session.End.{End, TheVariants.{Closed, Cut, Refused}}}
 
 -- a fault that bytes show is one of a frame

@@ -1,6 +1,6 @@
 -- Items that replace an id.
-use Rattle.std.proofs.Common.{rules, ◌≡◌, ⊎_elim, inl, inr, true}
-use Rattle.stn_records.{specs.{Id.SiteCounter, Content.{Content, Item, withdrawal, replacement, HasItem, is_replaced}}, proofs.Replaced.{replaced_by_withdrawal, replaced_by_entry}}
+use Rattle.std.proofs.Common.{rules, ◌≡◌, true}
+use Rattle.stn_records.{specs.{Id.SiteCounter, Content.{Content, Item, HasItem, is_replaced}}, proofs.Replaced.{replaced_by_withdrawal, replaced_by_entry}}
 use Rattle.stn_site.specs.Calls.{Replaces}
 
 -- what replaces an id, among some items, does so among more

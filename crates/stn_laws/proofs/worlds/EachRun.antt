@@ -1,9 +1,8 @@
 -- The law over all runs of a world.
-use Rattle.std.{proofs.Common.{rules, ◌≡◌, inr, ℕ, ◌≤◌, Bool, true, false, not, ◌&&◌, ltb, None, List, refl, ap, ◌∙◌, arith}, specs.{Prelude.option_map, Bool.then_some, List.Contains}}
-use Rattle.std.specs.FinMap as fin
+use Rattle.std.{proofs.Common.{rules, ◌≡◌, inr, ℕ, ◌≤◌, Bool, true, false, ◌&&◌, ltb, None, List, refl, ap, ◌∙◌, arith}, specs.{Bool.then_some, List.Contains}}
 use Rattle.stn_records.specs.{Id.SiteCounter, Content.{most_known, Content, Item, HasItem, is_known, is_replaced, is_live, known_in_either, dispute_contents, IsPart}}
-use Rattle.stn_site.specs.{declared.faults.ReplicaFault.TheVariants.Full, Calls.Replaces, Failures.replica_failure, Refusals.take_refusal}
-use Rattle.stn_world.{specs.{World.{World, HasSite, HasPacket, content_at, packet_at, held_at}, Whole.IsCoherent, Steps.{Step, merged, delivered, IsAccepted, stepped, run, Brings}}, proofs.{Accepted.{accepted_merge, accepted_delivery, delivery_refusal}, Merges.take_agrees, Whole.{parts_agree, held_record, items_known}}}
+use Rattle.stn_site.specs.{declared.faults.ReplicaFault.TheVariants.Full, Calls.Replaces, Refusals.take_refusal}
+use Rattle.stn_world.{specs.{World.{World, HasSite, HasPacket, content_at, packet_at, held_at}, Whole.IsCoherent, Steps.{Step, merged, delivered, IsAccepted, stepped, run, Brings}}, proofs.{Accepted.{accepted_merge, accepted_delivery}, Merges.take_agrees, Whole.{parts_agree, held_record, items_known}}}
 use Rattle.stn_laws.{specs.Runs.{Making, records_made, states_of}, proofs.worlds.{Alike.{replaces_more, replaced_by}, Runs.{brings_there, this_step, coherent_stepped, grows_run}, Entries.each_state, Lawful.{IsLawful, known_made}}}
 
 module _ (world : World) (items : List Making) (now : IsLawful world items) where

@@ -1,7 +1,7 @@
 -- Amendments are whole: whoever has a record has the entry by which it replaces another.
-use Rattle.std.{proofs.{Common.{rules, ◌≡◌, ◌↔◌, ◌⊎◌, inl, inr, ⊎_elim, ℕ, suc, ◌-◌, cond, is_some, Option, Some, None, List, [], ◌∷◌, get_or, refl, ap, sym, subst, ◌∙◌, arith}, lemmas.{Bool.false≢true, List.{get_or_default, Elements.Contains-append_cases}}}, specs.List.Contains}
+use Rattle.std.{proofs.{Common.{rules, ◌≡◌, ◌↔◌, ◌⊎◌, inl, inr, ⊎_elim, ℕ, suc, ◌-◌, cond, is_some, Option, Some, None, List, [], ◌∷◌, get_or, refl, ap, sym, subst, ◌∙◌, arith}, lemmas.{List.{get_or_default, Elements.Contains-append_cases}}}, specs.List.Contains}
 use Rattle.stn_lift.specs.PlanSource.{PlanSource}
-use Rattle.stn_records.{specs.{Id.SiteCounter, declared.record.Record.Record, Content.{Content, Item, addition, replacement, HasItem, no_content, plain, joined_contents, IsPart}}}
+use Rattle.stn_records.{specs.{Id.SiteCounter, declared.record.Record.Record, Content.{Content, Item, addition, replacement, HasItem, no_content, joined_contents, IsPart}}}
 use Rattle.stn_site.{specs.{Calls.Brought, Change.change_call, declared.change.Change.Change}, proofs.Items.nothing_there}
 use Rattle.stn_refusal.specs.declared.failure.Failure.{Failure}
 use Rattle.stn_world.{specs.{Whole.{IsWhole, IsCoherent}, World.{World, HasSite, opening_world, content_at, packet_at, next_id_at, with_content, content_after, with_call, send}, Steps.{Step, changed, merged, sent, delivered, step_refusal, IsAccepted, after, stepped, run}}, proofs.{Parts.{IsSentOf, sent_inside}, Accepted.{accepted_change, accepted_merge, accepted_delivery, accepted_sending}, Whole.{each_site, each_packet, kept, items_known, next_unknown, content_here, changed_items, taken_items, record_new, entry_new, nothing_at_first, coherent_at_first}}}

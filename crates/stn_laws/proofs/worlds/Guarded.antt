@@ -1,5 +1,5 @@
 -- Sites that keep to what is their own keep a schedule of all that they hold.
-use Rattle.std.{proofs.{Common.{rules, ◌≡◌, inl, inr, ⊎_elim, ℕ, ◌+◌, ◌-◌, ◌<◌, ◌≤◌, Bool, true, false, cond, not, is_some, List, [], ◌∷◌, ◌++◌, length, get_or, refl, sym, subst, ◌∙◌, arith}, lemmas.{Bool.{and_parts, not-true}, List.{length-set, FromFn.{length-range_with_len, get_or-range_with_len}, Elements.{All-nil, All-append, All-filter, All-head, All-tail}}}}, specs.{Prelude.{All, filter, flat_map}, List.range_with_len}}
+use Rattle.std.{proofs.{Common.{rules, ◌≡◌, inl, inr, ⊎_elim, ℕ, ◌+◌, ◌-◌, ◌<◌, ◌≤◌, Bool, true, false, cond, List, [], ◌∷◌, ◌++◌, length, get_or, refl, sym, subst, ◌∙◌, arith}, lemmas.{List.{length-set, FromFn.{length-range_with_len, get_or-range_with_len}, Elements.{All-nil, All-append, All-filter, All-head, All-tail}}}}, specs.{Prelude.{All, filter, flat_map}, List.range_with_len}}
 use Rattle.stn_time.proofs.Each.{All-left, All-right}
 use Rattle.stn_net.specs.{Difference.Difference, Schedule.{HasSchedule, Meets}}
 use Rattle.stn_lift.specs.PlanSource.{base_bounds}

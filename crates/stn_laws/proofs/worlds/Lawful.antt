@@ -1,9 +1,9 @@
 -- What is true of a world in its run: its sites and packets are parts of the whole of what was made.
 use Rattle.std.proofs.lemmas.Grind.{common_steps}
-use Rattle.std.{proofs.{Common.{rules, ◌≡◌, ◌↔◌, ◌⊎◌, inl, inr, ⊎_elim, ℕ, zero, suc, ◌≤◌, ◌||◌, true, cond, is_some, Option, Some, None, List, [], ◌∷◌, ◌++◌, length, map, filter, is_eq, refl, ap, sym, subst, ◌∙◌, arith}, lemmas.{List.{append-nil, append_assoc, Folds.list_any-append, Elements.{Contains-append_left, Contains-append_right, Contains-append_cases, Contains-push_cases}}, Map.Made.distinct_count-le, Bool.{or_right, or_cases}}}, specs.{List.Contains, Set.is_member, Cmp.tied_itself}}
+use Rattle.std.{proofs.{Common.{rules, ◌≡◌, ◌↔◌, ◌⊎◌, inl, inr, ⊎_elim, ℕ, zero, suc, ◌≤◌, ◌||◌, true, cond, is_some, Option, Some, None, List, [], ◌∷◌, ◌++◌, length, map, filter, is_eq, refl, ap, sym, subst, ◌∙◌, arith}, lemmas.{List.{append_assoc, Folds.list_any-append, Elements.{Contains-append_left, Contains-append_right, Contains-append_cases}}, Map.Made.distinct_count-le, Bool.{or_right, or_cases}}}, specs.{List.Contains, Set.is_member, Cmp.tied_itself}}
 use Rattle.stn_lift.specs.PlanSource.{PlanSource}
-use Rattle.stn_records.{specs.{Id.{SiteCounter, same_ids}, declared.record.Record.Record, ContentLaws.ids_total, Content.{Content, Item, addition, withdrawal, replacement, HasItem, known_ids, known_in_either, no_content, plain, IsPart}}, proofs.KnownIds.{fewer, known_member}}
-use Rattle.stn_site.{specs.{Calls.{Accepted, added, amended, withdrew, took, Brought}, Change.change_call}, proofs.Items.nothing_there}
+use Rattle.stn_records.{specs.{Id.{SiteCounter, same_ids}, declared.record.Record.Record, ContentLaws.ids_total, Content.{Content, Item, addition, withdrawal, replacement, HasItem, known_ids, known_in_either, no_content, IsPart}}, proofs.KnownIds.{fewer, known_member}}
+use Rattle.stn_site.{specs.{Calls.{Accepted, Brought}, Change.change_call}, proofs.Items.nothing_there}
 use Rattle.stn_refusal.specs.declared.failure.Failure.{Failure}
 use Rattle.stn_world.{specs.{Whole.{IsWhole, IsCoherent}, World.{World, opening_world, content_at, next_id_at}, Steps.{Step, changed, merged, sent, delivered, step_refusal, IsAccepted, after, stepped, run, Brings}}, proofs.Whole.{held_record, next_unknown, change_items_of, whole_after, step_whole, whole_at_first, IsOwn, own_call}}
 use Rattle.stn_laws.{specs.Runs.{Making, WasMade, items_made, makings, made_in, made_in_run, is_addition, records_made}, proofs.worlds.Runs.{one_step, brings_there, grows_after}}

@@ -1,10 +1,10 @@
 -- What the sites of a world hold after a run.
-use Rattle.std.proofs.{Common.{rules, ◌≡◌, ◌≢◌, ◌↔◌, ◌⊎◌, inl, inr, ⊎_elim, ℕ, ◌-◌, ◌≤◌, cond, is_some, Option, Some, None, List, [], ◌∷◌, refl, ap, sym, subst, ◌∙◌, All}, lemmas.{Bool.false≢true, List.length-set}}
+use Rattle.std.proofs.{Common.{rules, ◌≡◌, ◌↔◌, ◌⊎◌, inl, inr, ⊎_elim, ℕ, cond, is_some, Option, Some, None, List, [], ◌∷◌, refl, subst, ◌∙◌, All}}
 use Rattle.stn_lift.specs.PlanSource.{PlanSource, events_of}
 use Rattle.stn_records.specs.{Content.{Content, Item, HasItem, joined_contents, IsPart, addition, AllProper}, ContentLaws.contents_join}
-use Rattle.stn_site.{proofs.{Items.{nothing_there, regroup}, Live.bounds_from_live}, specs.{Bounds.live_bounds, Change.change_call}}
+use Rattle.stn_site.{proofs.{Items.{nothing_there, regroup}, Live.bounds_from_live}, specs.{Bounds.live_bounds}}
 use Rattle.stn_refusal.specs.declared.failure.Failure.{Failure}
-use Rattle.stn_world.{specs.{Whole.IsCoherent, World.{World, HasSite, opening_world, content_at, packet_at, with_content, next_id_at, content_after}, Steps.{Step, changed, merged, sent, delivered, after, stepped, run, step_refusal, IsAccepted, Brings, TookAt}}, proofs.{Accepted.{accepted_change, accepted_merge, accepted_delivery}, Whole.{changed_items, taken_items, coherent_after, coherent_at_first, nothing_at_first, kept}}}
+use Rattle.stn_world.{specs.{Whole.IsCoherent, World.{World, HasSite, opening_world, content_at, packet_at, with_content}, Steps.{Step, changed, merged, sent, delivered, after, stepped, run, step_refusal, IsAccepted, Brings, TookAt}}, proofs.{Accepted.{accepted_merge, accepted_delivery}, Whole.{changed_items, taken_items, coherent_after, coherent_at_first, nothing_at_first, kept}}}
 use Rattle.stn_net.specs.Difference.{IsBoundWithin}
 
 there_after : (world : World) (at : ℕ) (content : Content) (site : ℕ) → HasSite world site → HasSite (with_content world at content) site

@@ -1,17 +1,25 @@
-use Rattle.std.proofs.Common.{option_map}
-use Rattle.stn_effects.proofs.Endings.{makes_of}
+use Rattle.std.proofs.Common.{option_map, refl}
+use Rattle.stn_effects.{specs.Effects.{stopped, went}, proofs.Endings.makes_of}
+use Rattle.stn_store.proofs.Lacks.{passed_on}
 use Rattle.stn_line.specs.Explanations.Explained.{IsExplained}
-use Rattle.stn_logs.specs.Commands.{IsExplainRefusal}
+use Rattle.stn_logs.{specs.{Words.{seen_update, seen_asked}, Commands.IsExplainRefusal}, proofs.Refused.unread}
 use Rattle.stn_logs.proofs.commands.answer_with.Goals as goal
 
 pub returns-in-Make : goal.returns-in-Make
 returns-in-Make g c = rw c.in-Make.is c.make_log.ensures
 
-pub returns-in-Change : goal.returns-in-Change
-returns-in-Change g c = rw c.in-Change.is c.change_log.ensures
+pub returns-in_err-asked-in-Change : goal.returns-in_err-asked-in-Change
+returns-in_err-asked-in-Change g c = rw (passed_on _ _ c.from_residual.ensures.1, c.in-Change.is) (stopped _ (unread _ _ _ _ c.in_err-asked-in-Change.ensures) refl)
 
-pub returns-in-Ask : goal.returns-in-Ask
-returns-in-Ask g c = rw c.in-Ask.is c.ask_log.ensures
+pub returns-in_ok-asked-in-Change : goal.returns-in_ok-asked-in-Change
+returns-in_ok-asked-in-Change g c = rw c.in-Change.is (went (seen_update c.in_ok-asked-in-Change.asked) _ (refl, rw c.in_ok-asked-in-Change.ensures refl) c.update_log.ensures)
+
+pub returns-in_err-asked-in-Ask : goal.returns-in_err-asked-in-Ask
+returns-in_err-asked-in-Ask g c = rw (passed_on _ _ c.from_residual-in_err-asked-in-Ask.ensures.1, c.in-Ask.is) (stopped _ (unread _ _ _ _ c.in_err-asked-in-Ask.ensures) refl)
+
+pub returns-in_ok-asked-in-Ask : goal.returns-in_ok-asked-in-Ask
+returns-in_ok-asked-in-Ask g c =
+    rw c.in-Ask.is (went (seen_asked c.in_ok-asked-in-Ask.asked) _ (refl, rw c.in_ok-asked-in-Ask.ensures refl) (rw c.query.ensures at c.say_of.ensures))
 
 pub returns-in-Explain : goal.returns-in-Explain
 returns-in-Explain g c =

@@ -1,4 +1,4 @@
-use Rattle.std.proofs.{lemmas.{List.{get_or-take, length-map, nil_from_length}, Bool.false≢true}, Common.{rules, ◌≡◌, ◌≢◌, ◌<◌, ◌+◌, [], ◌∷◌, ◌++◌, map, length, refl, sym, ap, subst, ◌∙◌, arith, eqb-true}}
+use Rattle.std.proofs.{lemmas.{List.{get_or-take, length-map, nil_from_length}, Bool.false≢true}, Common.{rules, ◌≡◌, ◌≢◌, ◌<◌, [], ◌∷◌, ◌++◌, map, length, refl, sym, ap, subst, ◌∙◌, arith, eqb-true}}
 use Rattle.stn_net.{proofs.Horizons.known_within, specs.{Difference.{Difference, NamesEvents}, Horizon.horizon_bounds, Schedule.{Meets, HasSchedule}}}
 use Rattle.stn_conflict.specs.Arcs.{bound_at, IsNegativeCycle}
 use Rattle.stn_loosen.{specs.{Starting.{IsStart, AreCrossed}, Stepped.as_bound}, proofs.{StartBounds.span_at, StartCycles.{placed_cycle, crossed_cycle, left_out_met, chosen_left_out, chosen_more, all_met}, crossed.crossed_starts.{Given.Over, Goals.{After-index-starts-place, in-Some+in_ok-push+in_ok-push-2, in_default}}}}

@@ -2,7 +2,7 @@ use Rattle.std.proofs.{lemmas.{Grind.common_steps, List.length-map}, Common.{◌
 use Rattle.stn_net.specs.{Horizon.horizon_bounds, Schedule.HasSchedule}
 use Rattle.stn_lift.specs.PlanSource.{events_of}
 use Rattle.stn_conflict.proofs.CycleSums.{places_of_chain}
-use Rattle.stn_loosen.{specs.{Slack.IsSlack, Loosened.{loose_durations, orders_of}, Robust.loose_bounds, Stepped.{as_bound, AreSteps}, Fragile.start_bounds}, proofs.{Steps.source_steps, StartBounds.{begins, are_starts, starts_promise, counted, some}, fragile.fragile_lines.{Given.Over, Goals.After-deref-4}}}
+use Rattle.stn_loosen.{specs.{Slack.IsSlack, Loosened.{orders_of}, Robust.loose_bounds, Stepped.{as_bound, AreSteps}, Fragile.start_bounds}, proofs.{Steps.source_steps, StartBounds.{begins, are_starts, starts_promise, counted, some}, fragile.fragile_lines.{Given.Over, Goals.After-deref-4}}}
 use Rattle.stn_loosen.proofs.fragile.fragile_lines.Goals as goal
 
 bounds_are : (g : Over) (c : After-deref-4 g) → c.in_ok-bounds.bounds.items ≡ loose_bounds c.args.base.now c.args.tolerance

@@ -22,7 +22,7 @@ make_durations-requires-clause-few g c =
 
 -- the orders are made behind the durations
 begun : (g : Over) (c : In_ok-orders g) → c.make_durations.new.self ≡ record { events = events_of c.args.base.now; records = loose_durations c.args.tolerance c.args.base.now }
-begun g c = rw (c.in_ok-making.ensures, c.events.ensures.value, c.durations_of.ensures.value) at c.in_ok-make_durations.ensures.made
+begun g c = rw (c.in_ok-making.ensures, c.events.ensures.value, c.durations_of.ensures.value) at c.in_ok-make_durations.ensures
 
 pub make_orders-requires-clause-named : goal.make_orders-requires-clause-named
 make_orders-requires-clause-named g c =

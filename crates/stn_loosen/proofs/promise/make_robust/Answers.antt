@@ -1,7 +1,5 @@
-use Rattle.std.proofs.{Common.{◌++◌, length, drop, take, ap, ◌∙◌, rules, All}, lemmas.{List.take_rest, Result.{IfOk-weaker, IfErr-weaker}}}
-use Rattle.stn_net.specs.Difference.{NamesEvents}
-use Rattle.stn_lift.specs.PlanSource.{events_of}
-use Rattle.stn_loosen.{specs.{Moved.moved_bounds, Stepped.IsCauseBehind, Making.IsCauseAfter}, proofs.{MadeRobust.{AreParted, are_steps, bounds_named, made_robust, made_promise, cause_after, records_named, on_both}, promise.make_robust.{Given.Over, Goals.After-deref-2}}}
+use Rattle.std.proofs.{Common.{Some, inl, inr, ◌++◌, length, drop, take, ap, ◌∙◌, rules, arith}, lemmas.{List.take_rest, Result.err_from_is_err_and}}
+use Rattle.stn_loosen.{specs.{Slack.IsSlack, Robust.HasPromise, Making.Loosening}, proofs.{Robustness.keeps_promise, MadeRobust.{AreParted, IsMadeRobust, are_steps, bounds_named, made_robust, made_promise, cause_after, records_named}, promise.make_robust.{Given.Over, Goals.{After-deref-2, In_ok-records}}}}
 use Rattle.stn_loosen.proofs.promise.make_robust.Goals as goal
 
 -- the copies are the parts of the loosened plan
@@ -31,27 +29,49 @@ with_moved-requires-clause-steps g c = are_steps (parted g c)
 pub with_moved-requires-clause-named : goal.with_moved-requires-clause-named
 with_moved-requires-clause-named g c = bounds_named (parted g c)
 
-pub returns-clause-made : goal.returns-clause-made
-returns-clause-made g c =
-    let parts = parted g (goal.at.returns-clause-made g c).After-deref-2 in
-    rw (← c.in_ok-moving.ensures) (IfOk-weaker c.with_moved.result _ _ (λ records made. made_robust parts (record c.in_ok-moving.moving { records = records.items }) made) c.with_moved.ensures.made)
+-- the records are those of the robust plan, and there is a promise
+made : (g : Over) (c : In_ok-records g) → AreParted c.args.base.now c.args.tolerance c.in_ok-moving.moving c.deref.result.now c.deref-2.result.now
+    → IsMadeRobust c.args.base.now c.args.tolerance c.args.making.records c.in_ok-records.records.items × HasPromise c.args.base.now c.args.tolerance
+made g c parts =
+    let is = c.in_ok-records.ensures in
+    let new : Loosening = record c.in_ok-moving.moving { records = c.in_ok-records.records.items } in
+    rw (← c.in_ok-moving.ensures) (made_robust parts new is.made, made_promise parts new is.possible is.made)
 
-pub returns-clause-named : goal.returns-clause-named
-returns-clause-named g c =
-    let parts = parted g (goal.at.returns-clause-named g c).After-deref-2 in
-    let before = rw (c.records-loosened.ensures.value, c.requires.events, ← c.in_ok-moving.ensures) at c.records-loosened.ensures.named in
-    IfOk-weaker c.with_moved.result _ (λ records. All (NamesEvents (events_of c.args.base.now)) records.items)
-    (λ records made.
-    let is = made_robust parts (record c.in_ok-moving.moving { records = records.items }) made in
-    records_named c.args.base.now c.args.tolerance c.requires.sound c.in_ok-moving.moving.records records.items is.are_robust is.behind before) c.with_moved.ensures.made
+pub returns-in_err-records-clause-refused : goal.returns-in_err-records-clause-refused
+returns-in_err-records-clause-refused g c =
+    let few = rw c.records-loosened.ensures.value at c.records-loosened.ensures.few in
+    let returned = err_from_is_err_and c.from_residual-in_err-records.result c.from_residual-in_err-records.ensures.1 in
+    rw (returned.1, returned.2)
+    (cause_after (parted g (goal.at.returns-in_err-records-clause-refused g c).After-deref-2) (rw (← c.in_ok-moving.ensures) at few) c.in_err-records.field-0.0 c.in_err-records.ensures.fault)
 
-pub returns-clause-possible : goal.returns-clause-possible
-returns-clause-possible g c =
-    on_both c.with_moved.result
-    (λ records made possible. made_promise (parted g (goal.at.returns-clause-possible g c).After-deref-2) (record c.in_ok-moving.moving { records = records.items }) possible made)
-    c.with_moved.ensures.made c.with_moved.ensures.possible
+pub returns-then-len-gt-MOST_KNOWN-clause-refused : goal.returns-then-len-gt-MOST_KNOWN-clause-refused
+returns-then-len-gt-MOST_KNOWN-clause-refused g c =
+    let few = rw c.records-loosened.ensures.value at c.records-loosened.ensures.few in
+    let at = goal.at.returns-then-len-gt-MOST_KNOWN-clause-refused g c in
+    let is = made g at.In_ok-records (parted g at.After-deref-2) in
+    inr (inr (inr (inl (
+      is.1,
+      record {
+        records = c.in_ok-records.records.items;
+        are_robust = is.0.are_robust;
+        few_loosened = omega (arith, ap length is.0.behind, few);
+        many = omega (arith, c.if-len-gt-MOST_KNOWN.true, c.len.ensures, c.in_ok-records.records.ok.0);
+      },
+      ap Some c.refused.ensures,
+    ))))
 
-pub returns-clause-fault : goal.returns-clause-fault
-returns-clause-fault g c =
-    IfErr-weaker c.with_moved.result (IsCauseBehind c.in_ok-moving.moving (moved_bounds c.deref.result.now c.deref-2.result.now)) (IsCauseAfter c.args.base.now c.args.tolerance)
-    (cause_after (parted g (goal.at.returns-clause-fault g c).After-deref-2)) c.with_moved.ensures.fault
+pub returns : goal.returns
+returns g c =
+    let slack : IsSlack c.args.tolerance = search rules in
+    let source = c.args.base.now in
+    let records = c.in_ok-records.records.items in
+    let at = goal.at.returns g c in
+    let is = made g at.In_ok-records (parted g at.After-deref-2) in
+    let before = rw (c.records-loosened.ensures.value, c.requires.events) at c.records-loosened.ensures.named in
+    record {
+      records = is.0.are_robust;
+      few = omega (arith, c.if-len-gt-MOST_KNOWN.false, c.len.ensures, c.in_ok-records.records.ok.0);
+      named = records_named source c.args.tolerance c.requires.sound c.args.making.records records is.0.are_robust is.0.behind before;
+      keep = keeps_promise source c.requires.sound c.args.tolerance slack records is.0.are_robust is.1;
+      refused = tt;
+    }

@@ -1,4 +1,4 @@
-use Rattle.std.proofs.Common.{rules, refl}
+use Rattle.std.proofs.{Common.refl, lemmas.Result.err_from_is_err_and}
 use Rattle.stn_loosen.proofs.Made.{none_made, possible_next, made_next, order_refused}
 use Rattle.stn_loosen.proofs.making.Making.make_orders.Goals as goal
 
@@ -11,7 +11,12 @@ make_order-requires-clause-possible g c =
     possible_next (λ l. l) (λ _ _. refl) c.args.self.now sofar.self c.args.orders.now sofar.order-index sofar.invariant c.order-item.result c.loop-order-test.true c.order-item.is c.requires.possible
 
 pub returns-in_err-make_order-clause-fault : goal.returns-in_err-make_order-clause-fault
-returns-in_err-make_order-clause-fault g c = search (rules, order_refused)
+returns-in_err-make_order-clause-fault g c =
+    let sofar = c.loop-order in
+    let returned = err_from_is_err_and c.from_residual.result c.from_residual.ensures.1 in
+    rw (returned.1, returned.2)
+    (order_refused c.args.self.now sofar.self c.args.orders.now sofar.order-index sofar.invariant c.order-item.result c.loop-order-test.true c.order-item.is c.in_err-make_order.field-0.0
+    c.in_err-make_order.ensures.fault)
 
 pub loop-order-preserved : goal.loop-order-preserved
 loop-order-preserved g c =
