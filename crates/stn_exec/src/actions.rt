@@ -5,7 +5,7 @@ ghost use Rattle.stn_command.specs.Query.{seen_query};
 ghost use Rattle.stn_exec.specs.{Command.{send_items, check_read}, Effect.{changing, action_effect}, Saying.{IsEffect, TellsAsked, call_answer, sent_answer}};
 
 use crate::answer::Answer;
-use crate::command::{read_records, read_tombstones};
+use crate::command::read_items;
 use crate::reading::read_times;
 use std::alloc::Allocator;
 use stn_command::{Made, Query, append_said};
@@ -36,8 +36,7 @@ pub fn send<A: Allocator + Copy>(
 ) -> Result<Answer, Failure>
     ensures { IsEffect result world.new (action_effect world.old site (send_items (words_of items.now))) }
 {
-    let records = read_records(alloc, items)?;
-    let tombstones = read_tombstones(alloc, items)?;
+    let (records, tombstones) = read_items(alloc, items)?;
     sent(world.send(site, &records, &tombstones))
 }
 

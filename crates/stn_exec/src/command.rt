@@ -210,34 +210,27 @@ fn is_item(word: &[u8]) -> bool
     read_id(word).is_some() || read_tombstone(word).is_some()
 }
 
-/// The ids of the records that the words of a line name.
-pub fn read_records<A: Allocator>(alloc: A, line: &[u8]) -> Result<Vec<Id, A>, Memory>
-    ensures { IfOk result (λ ids. ids.items ≡ filter_map id_of (words_of line.now)) }
+/// The ids of the records, and the withdrawn ids, that the words of a line name.
+pub fn read_items<A: Allocator + Copy>(
+    alloc: A,
+    line: &[u8],
+) -> Result<(Vec<Id, A>, Vec<Id, A>), Memory>
+    ensures records { IfOk result (λ items. items.0.items ≡ filter_map id_of (words_of line.now)) }
+    ensures tombstones { IfOk result (λ items. items.1.items ≡ filter_map tombstone_of (words_of line.now)) }
 {
-    let mut ids = Vec::new(alloc);
+    let mut records = Vec::new(alloc);
+    let mut tombstones = Vec::new(alloc);
     let mut rest = line;
     while let Some((word, behind)) = first_word(rest) {
         if let Some(id) = read_id(word) {
-            ids.push(id)?;
+            records.push(id)?;
         }
-        rest = behind;
-    }
-    Ok(ids)
-}
-
-/// The withdrawn ids that the words of a line name.
-pub fn read_tombstones<A: Allocator>(alloc: A, line: &[u8]) -> Result<Vec<Id, A>, Memory>
-    ensures { IfOk result (λ ids. ids.items ≡ filter_map tombstone_of (words_of line.now)) }
-{
-    let mut ids = Vec::new(alloc);
-    let mut rest = line;
-    while let Some((word, behind)) = first_word(rest) {
         if let Some(id) = read_tombstone(word) {
-            ids.push(id)?;
+            tombstones.push(id)?;
         }
         rest = behind;
     }
-    Ok(ids)
+    Ok((records, tombstones))
 }
 
 fn read_check(events: u16, rest: &[u8]) -> Option<Action<'_>>

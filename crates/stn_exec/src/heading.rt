@@ -169,10 +169,7 @@ fn read_block<'a>(last: u32, number: u32, text: &'a [u8]) -> Result<HeadingBlock
     ensures block { seen seen_block result ≡ block_at last number (lines_of text.now) }
     ensures within { IfOk result (λ block. block.behind.number + length block.behind.text.now ≤ number + length text.now) }
 {
-    match find_end(number, text) {
-        Some(block) => Ok(block),
-        None => Err(Failure::refused_at(Code::Line, last)),
-    }
+    find_end(number, text).ok_or(Failure::refused_at(Code::Line, last))
 }
 
 // The block of a text whose first line has this number, up to the first line that is the word `end`.
@@ -241,10 +238,7 @@ fn wanted_line(last: u32, number: u32, text: &[u8]) -> Result<FoundLine<'_>, Fai
     ensures found { seen seen_found result ≡ or_line last (next_line number (lines_of text.now)) }
     ensures within { IfOk result (λ found. found.number + 1 + length found.behind.now ≤ number + length text.now) }
 {
-    match find_line(number, text) {
-        Some(found) => Ok(found),
-        None => Err(Failure::refused_at(Code::Line, last)),
-    }
+    find_line(number, text).ok_or(Failure::refused_at(Code::Line, last))
 }
 
 // The same line, if there is one.

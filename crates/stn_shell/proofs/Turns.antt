@@ -1,8 +1,8 @@
--- The lines of a shell: their words, how they are read, and how they come one after the other.
-use Rattle.std.{proofs.Common.{Bor, map, Bool, true, false, ◌≡◌, ◌∙◌, ap, sym, refl, ℕ, List, [], ◌∷◌, ◌++◌, append_assoc}, specs.{Prelude.{IsUtf8, if◌then◌else◌, Ok, Err, Result}, Int.from_bool, List.AllByRecursion}}
-use Rattle.stn_effects.specs.Effects.{Effect, stopped, went, seen}
+-- The lines of a shell: their words, how they are read, and how they come one after the other; and what is told.
+use Rattle.std.{proofs.Common.{Bor, Vec, inl, inr, map, Bool, true, false, ◌≡◌, ◌∙◌, ap, sym, refl, ℕ, List, [], ◌∷◌, ◌++◌, append_assoc}, specs.{Prelude.{IsUtf8, IfOk, MatchResult, if◌then◌else◌, Ok, Err, Result}, Int.from_bool, List.AllByRecursion}}
+use Rattle.stn_effects.specs.{Effects.{Effect, stopped, went, seen}, Printing.{Device, TellsText}}
 use Rattle.stn_refusal.specs.declared.failure.Failure.{Failure}
-use Rattle.stn_shell.specs.{Carried.{Succeeds, Does}, Outside.Outside}
+use Rattle.stn_shell.specs.{Carried.{Succeeds, Does}, Outside.{Outside, TellsSome}}
 
 -- one text more
 pub texts_more : (words : List (List ℕ)) (word : List ℕ) → AllByRecursion IsUtf8 words → IsUtf8 word → AllByRecursion IsUtf8 (words ++ word ∷ [])
@@ -41,3 +41,9 @@ pub succeeded : (Does : Effect Outside (Unit {0})) (old new : Outside) (done : R
     → Does old new done → Succeeds Does old new told
 succeeded Does old new (Ok done) told is does = went done new does (refl, is)
 succeeded Does old new (Err failure) told is does = stopped failure does is
+
+-- what is told of a text that was made for it
+pub tells_some : {A E : Type 0} (Is : List ℕ → Type 0) (made : Result (Vec ℕ A) E) (err told : Device) → IfOk made (λ text. Is text.items)
+    → MatchResult made (λ text. TellsText text.items err told) (λ _. told ≡ err) → TellsSome Is err told
+tells_some Is (Ok text) err told is tells = inl (text.items, is, tells)
+tells_some Is (Err lack) err told is same = inr same

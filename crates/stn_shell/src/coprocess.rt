@@ -11,13 +11,14 @@ ghost use Rattle.stn_reasons.specs.Waiting.{TellsWaiting};
 
 use crate::lines::read_line;
 use crate::process::NO_TEXT;
-use crate::reasons::{tell_hints, tell_in_line, tell_waiting};
+use crate::reasons::{tell_hints, tell_made};
 use std::alloc::Global;
 use std::io::{Read, Write};
 use stn_device::{Counted, MOST_BYTES};
 use stn_effects::{print_now, tell};
 use stn_line::{Line, LineFault, SiteLog, line, said};
 use stn_logs::{Kept, answer_with, find_log};
+use stn_reasons::{reason_in_line, waiting_of};
 use stn_refusal::{Code, Failure, Fault, Refusal};
 use stn_store::Store;
 use stn_text::first_word;
@@ -224,14 +225,14 @@ fn answer_line<S: Store<Global>, E: Write>(
         (outside (S.entries store.old) unread out (device_of E.contents err.old))
         (outside (S.entries store.new) unread out (device_of E.contents err.new)) (seen (λ answered. answered.items) result) }
 {
-    tell_waiting(alloc, store, line, err);
+    tell_made(waiting_of(alloc, store, line), err);
     match answer_with(alloc, store, kept, line) {
         Ok(answered) => {
             tell_hints(alloc, store, kept, line, err);
             Ok(answered)
         }
         Err(Failure::Refused(refusal)) => {
-            tell_in_line(alloc, store, line, refusal, err);
+            tell_made(reason_in_line(alloc, store, line, refusal), err);
             Err(Failure::Refused(refusal))
         }
         Err(Failure::Failed(fault)) => Err(Failure::Failed(fault)),

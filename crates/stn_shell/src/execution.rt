@@ -9,7 +9,7 @@ ghost use Rattle.stn_refusal.specs.declared.failure.{Failure.TheVariants.Failed 
 ghost use Rattle.stn_store.specs.{Files.IsFileFault, Steps.{Entries, LoadsLog}};
 
 use crate::coprocess::run_shell;
-use crate::reasons::{tell_hints, tell_reason, tell_waiting, unusable};
+use crate::reasons::{tell_hints, tell_made, unusable};
 use std::alloc::Global;
 use std::fs::File;
 use std::io::{Read, Write};
@@ -22,6 +22,7 @@ use stn_exchanges::{Peer, Service, connect, send_to_partner, serve_each};
 use stn_exec::run;
 use stn_line::{Line, LineFault, SiteLog, line, said};
 use stn_logs::{Kept, answer_with};
+use stn_reasons::{reason_of, waiting_of};
 use stn_refusal::{Failure, Fault};
 use stn_site::SitePlan;
 use stn_store::{FileStore, Store};
@@ -112,7 +113,7 @@ fn end<
         Ok(status) => status,
         Err(failure) => {
             tell_failure(rt.alloc(), failure, out, err);
-            tell_reason(rt.alloc(), store, line, failure, err);
+            tell_made(reason_of(rt.alloc(), store, line, failure), err);
             1
         }
     }
@@ -243,7 +244,7 @@ fn tell_answer<S: Store<Global>, W: Write, E: Write>(
         (outside (S.entries store.new) unread (device_of W.contents out.new) (device_of E.contents err.new)) result }
 {
     let mut kept = Kept::nothing();
-    tell_waiting(alloc, store, line, err);
+    tell_made(waiting_of(alloc, store, line), err);
     let text = answer_with(alloc, store, &mut kept, line)?;
     print(&text, out)?;
     tell_hints(alloc, store, &mut kept, line, err);

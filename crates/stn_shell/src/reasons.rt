@@ -1,8 +1,8 @@
 //! What people should know of a command besides its answer, told on the standard error.
 
-ghost use Rattle.std.specs.Prelude.{◌≡◌};
-ghost use Rattle.stn_effects.specs.Printing.{device_of};
-ghost use Rattle.stn_reasons.specs.{Hints.IsHinted, Reasons.{IsReason, IsReasonInLine}, Waiting.TellsWaiting};
+ghost use Rattle.std.specs.Prelude.{◌≡◌, MatchResult};
+ghost use Rattle.stn_effects.specs.Printing.{device_of, TellsText};
+ghost use Rattle.stn_reasons.specs.Hints.{IsHinted};
 ghost use Rattle.stn_refusal.specs.declared.failure.{Failure.TheVariants.Failed, Fault.TheVariants.Net as FaultOfNet};
 ghost use Rattle.stn_shell.specs.Outside.{TellsSome};
 
@@ -13,53 +13,18 @@ use stn_device::Counted;
 use stn_effects::tell;
 use stn_line::Line;
 use stn_logs::Kept;
-use stn_reasons::{hints_of, reason_in_line, reason_of, waiting_of};
-use stn_refusal::{Failure, Fault, Refusal};
+use stn_reasons::hints_of;
+use stn_refusal::{Failure, Fault};
 use stn_store::{Store, Trouble};
+use stn_time::Memory;
 
-/// Tells the reason of a command's failure, as far as there is memory for it and the standard error takes it.
-pub fn tell_reason<S: Store<Global>, E: Write>(
-    alloc: Global,
-    store: &S,
-    line: &Line<'_>,
-    failure: Failure,
-    err: &mut Counted<E>,
-)
-    ensures { TellsSome (IsReason (S.entries store.now) line.now failure) (device_of E.contents err.old) (device_of E.contents err.new) }
+/// Tells a text, if there was memory for it, as far as the standard error takes it.
+pub fn tell_made<E: Write>(made: Result<Vec<u8>, Memory>, err: &mut Counted<E>)
+    ensures { MatchResult made (λ text. TellsText text.items (device_of E.contents err.old) (device_of E.contents err.new))
+        (λ _. device_of E.contents err.new ≡ device_of E.contents err.old) }
 {
-    match reason_of(alloc, store, line, failure) {
-        Ok(reason) => tell(&reason, err),
-        Err(_) => {}
-    }
-}
-
-/// Tells the reason of a refusal, on one line.
-pub fn tell_in_line<S: Store<Global>, E: Write>(
-    alloc: Global,
-    store: &S,
-    line: &Line<'_>,
-    refusal: Refusal,
-    err: &mut Counted<E>,
-)
-    ensures { TellsSome (IsReasonInLine (S.entries store.now) line.now refusal) (device_of E.contents err.old) (device_of E.contents err.new) }
-{
-    match reason_in_line(alloc, store, line, refusal) {
-        Ok(why) => tell(&why, err),
-        Err(_) => {}
-    }
-}
-
-/// Tells that a command waits for its log, if another program holds that.
-pub fn tell_waiting<S: Store<Global>, E: Write>(
-    alloc: Global,
-    store: &S,
-    line: &Line<'_>,
-    err: &mut Counted<E>,
-)
-    ensures { TellsSome (TellsWaiting line.now) (device_of E.contents err.old) (device_of E.contents err.new) }
-{
-    match waiting_of(alloc, store, line) {
-        Ok(waiting) => tell(&waiting, err),
+    match made {
+        Ok(text) => tell(&text, err),
         Err(_) => {}
     }
 }
