@@ -20,7 +20,7 @@ from shorter import OTHER, SIGNATURE, TOP, USE, Item, check, head_and_body, impo
 ENDS = {"in", "=", "∙", "≡", "→", "λ", "where", "×", "++", "∷", "with", "let", "record", "⊎", "↔", "elim", "at", "depth", "fits"}
 BINDER = re.compile(r"[({]\s*([A-Za-z_][\w\-']*(?:\s+[A-Za-z_][\w\-']*)*)\s+:\s")
 CONSTANTS = ("true", "false", "zero", "tt", "refl")
-MOST_ROUNDS = 12
+MOST_ROUNDS = 40
 # The longest line that an equation and its body may share.
 WIDTH = 150
 
@@ -196,6 +196,9 @@ def cited_elsewhere(crate):
         text = read(path) if f"/crates/{crate}/" not in path else ""
         if f"Rattle.{crate}." in text:
             found.update(it for it in imports(text).values() if it.startswith(f"Rattle.{crate}.proofs."))
+    for path in glob.glob(f"{TOP}/crates/*/src/**/*.rt", recursive=True):
+        text = read(path) if f"/crates/{crate}/" not in path else ""
+        found.update(f"Rattle.{it.replace('::', '.')}" for it in re.findall(rf"\b{crate}::proofs::[\w:]+", text))
     return found
 
 

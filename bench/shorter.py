@@ -197,7 +197,7 @@ def without_imports(text):
 
 
 def words_in(text):
-    return re.findall(r"[^\s(){}\[\],;.∷↦λ]+", text)
+    return re.findall(r"[^\s(){}\[\],;.:∷↦λ]+", text)
 
 
 def pruned(text):
