@@ -14,7 +14,7 @@ pub record IsPushedChain (bounds : List Difference) (links : List Link) (link : 
   pub ends : (arc_of bounds link).to ≡ y
 
 pub chain-unpush : (bounds : List Difference) (links : List Link) (link : Link) (x y : ℕ) → IsChain bounds (links ++ link ∷ []) x y → IsPushedChain bounds links link x y
-chain-unpush bounds [] link x y (there, from, ends) = record { there = there; before = sym from; ends = ends }
+chain-unpush bounds [] link x y (there, from, ends) = search rules
 chain-unpush bounds (first ∷ links) link x y (placed, from, rest) =
     let parts = chain-unpush bounds links link _ y rest in
     record { there = parts.there; before = (placed, from, parts.before); ends = parts.ends }
@@ -31,17 +31,17 @@ last_of link (next ∷ links) =
     (link ∷ init, last, ap (λ l. link ∷ l) e)
 
 -- a way is a chain of tight links
-pub way_is_tight : (bounds : List Difference) (start x : ℕ) (links : List Link) → IsWay bounds start x links → IsTightChain bounds start x links
-way_is_tight bounds start x links way = search (rules, each-weaker)
+pub way_is_tight : {bounds : List Difference} {start x : ℕ} {links : List Link} → IsWay bounds start x links → IsTightChain bounds start x links
+way_is_tight way = search (rules, each-weaker)
 
 -- over tight links the tightest difference grows by the sum of their weights
-pub weight_of_tight : (bounds : List Difference) (start : ℕ) (links : List Link) (x y : ℕ) (m : ℤ) → IsTightest bounds start x m → IsChain bounds links x y → AllByRecursion (IsTight bounds start) links → IsTightest bounds start y (m +ℤ weight_of bounds links)
-weight_of_tight bounds start [] x y m far chain tight = search rules
-weight_of_tight bounds start (link ∷ links) x y m far (placed, from, rest) (tight, others) =
+pub weight_of_tight : {bounds : List Difference} {start : ℕ} (links : List Link) {x y : ℕ} {m : ℤ} → IsTightest bounds start x m → IsChain bounds links x y → AllByRecursion (IsTight bounds start) links → IsTightest bounds start y (m +ℤ weight_of bounds links)
+weight_of_tight [] far chain tight = search rules
+weight_of_tight {bounds} {start} (link ∷ links) {x} {y} {m} far (placed, from, rest) (tight, others) =
     let (near, near_is, far_is) = tight.tight in
     let w = (arc_of bounds link).weight in
     let e = tightest_unique bounds start x near m (rw from at near_is) far in
-    let whole = weight_of_tight bounds start links _ y (m +ℤ w) (rw e at far_is) rest others in
+    let whole = weight_of_tight links (rw e at far_is) rest others in
     let same : (m +ℤ w) +ℤ weight_of bounds links ≡ m +ℤ (w +ℤ weight_of bounds links) = omega (arith, ints) in
     rw same at whole
 
@@ -51,6 +51,6 @@ chain_before bounds place [] x y chain = (chain, refl)
 chain_before bounds place (link ∷ links) x y (placed, from, rest) =
     let below : link.place < place = omega (arith, placed, length-take place bounds) in
     let there : link.place < length bounds = omega (arith, placed, length-take place bounds) in
-    let e = arc_before bounds place link below in
+    let e = arc_before bounds link below in
     let (others, weights) = chain_before bounds place links _ y rest in
     ((there, rw e at from, rw e at others), rw (e, weights) refl)

@@ -4,19 +4,19 @@ use Rattle.stn_net.{specs.{Difference.Difference, Schedule.{IsSchedule, HasSched
 use Rattle.stn_conflict.{specs.{declared.links.{Link.Link, Side.{Side, TheVariants.{Upper, Lower}}}, Arcs.{arc, arc_of, bound_at, IsChain, weight_of, IsNegativeCycle}, Culprit.IsRefusedSide, Named.{IsWay, IsWayOf, IsNamedCycle}, Search.IsCycleOf}, proofs.{Tightness.{tightest_self, link_kept}, Between.refused_lower, OneCycle.way_unique, Chains.{way_is_tight, weight_of_tight, chain_before}}}
 
 -- a refused side and the way back from its end to its beginning have a negative sum
-refused_negative : (bounds : List Difference) (bound : Difference) (side : Side) (far : ℤ) → bound.lo ≤ℤ bound.hi → ¬ HasSchedule (bounds ++ bound ∷ []) → IsRefusedSide bounds bound side → IsTightest bounds (arc bound side).to (arc bound side).from far → ((arc bound side).weight +ℤ far) <ℤ pos 0
-refused_negative bounds bound Upper far ordered refused (m, is, below) back = search (rules, ints)
-refused_negative bounds bound Lower far ordered refused (m, is, above) back =
-    let negative = refused_lower bounds bound far m ordered refused back is above in
+refused_negative : {bounds : List Difference} (bound : Difference) (side : Side) {far : ℤ} → bound.lo ≤ℤ bound.hi → ¬ HasSchedule (bounds ++ bound ∷ []) → IsRefusedSide bounds bound side → IsTightest bounds (arc bound side).to (arc bound side).from far → ((arc bound side).weight +ℤ far) <ℤ pos 0
+refused_negative bound Upper ordered refused (m, is, below) back = search (rules, ints)
+refused_negative {bounds} bound Lower {far} ordered refused (m, is, above) back =
+    let negative = refused_lower ordered refused back is above in
     omega (arith, ints)
 
 -- what a way weighs is the tightest difference from its start
 pub weight_of_way : (bounds : List Difference) (start x : ℕ) (links : List Link) (self far : ℤ) → IsTightest bounds start start self → IsTightest bounds start x far → IsWay bounds start x links → weight_of bounds links ≡ far
 weight_of_way bounds start x links self far here there way =
-    let chain = way_is_tight bounds start x links way in
-    let whole = weight_of_tight bounds start links start x self here chain.chain chain.tight in
+    let chain = way_is_tight way in
+    let whole = weight_of_tight links here chain.chain chain.tight in
     let e = tightest_unique bounds start x _ far whole there in
-    omega (arith, ints, e, tightest_self bounds start self here)
+    omega (arith, ints, e, tightest_self here)
 
 -- the links of a chain are links of the bounds
 pub places_of_chain : (bounds : List Difference) (links : List Link) (x y : ℕ) → IsChain bounds links x y → AllByRecursion (λ (l : Link). l.place < length bounds) links
@@ -27,7 +27,7 @@ module _ (bounds : List Difference) (link : Link) (links : List Link) (self far 
     (here : IsTightest (take link.place bounds) (arc_of bounds link).to (arc_of bounds link).to self) (there : IsTightest (take link.place bounds) (arc_of bounds link).to (arc_of bounds link).from far)
     (named : IsNamedCycle bounds (link ∷ links)) where
   way_on : IsChain bounds links (arc_of bounds link).to (arc_of bounds link).from × (weight_of (take link.place bounds) links ≡ weight_of bounds links)
-  way_on = chain_before bounds link.place links _ _ named.1.chain
+  way_on = search (rules, chain_before)
 
   -- what a named cycle weighs: the culprit's link and the tightest difference back
   weight_of_named : weight_of bounds (link ∷ links) ≡ (arc_of bounds link).weight +ℤ far
@@ -40,26 +40,26 @@ module _ (bounds : List Difference) (link : Link) (links : List Link) (self far 
   named_negative = search (rules, ints, take_more, refused_negative, weight_of_named, way_on)
 
   -- with all that is told of it
-  pub cycle_of_way : (events : ℕ) (sum : ℤ) → neg_ℤ (pos 2 *ℤ horizon) ≤ℤ sum → length links ≤ events → sum ≡ (arc_of bounds link).weight +ℤ far → IsCycleOf bounds events (link ∷ links) sum
-  cycle_of_way events sum least short total = search (rules, named_negative, weight_of_named, All-from_recursion, places_of_chain)
+  pub cycle_of_way : {events : ℕ} {sum : ℤ} → neg_ℤ (pos 2 *ℤ horizon) ≤ℤ sum → length links ≤ events → sum ≡ (arc_of bounds link).weight +ℤ far → IsCycleOf bounds events (link ∷ links) sum
+  cycle_of_way least short total = search (rules, named_negative, weight_of_named, All-from_recursion)
 
 -- over a chain a schedule grows by its weight at most
-chain_kept : (bounds : List Difference) (links : List Link) (x y : ℕ) (time : ℕ → ℤ) → IsSchedule bounds time → IsChain bounds links x y → (time y -ℤ time x) ≤ℤ weight_of bounds links
-chain_kept bounds [] x y time is chain = let e = ap time chain in omega (arith, ints)
-chain_kept bounds (link ∷ links) x y time is (there, from, rest) =
+chain_kept : {bounds : List Difference} (links : List Link) (x y : ℕ) {time : ℕ → ℤ} → IsSchedule bounds time → IsChain bounds links x y → (time y -ℤ time x) ≤ℤ weight_of bounds links
+chain_kept [] x y is chain = search rules
+chain_kept {bounds} (link ∷ links) x y {time} is (there, from, rest) =
     let e = ap time from in
-    omega (arith, ints, link_kept bounds link time there is, chain_kept bounds links _ y time is rest)
+    omega (arith, ints, link_kept link there is, chain_kept links _ y is rest)
 
 -- bounds with a negative cycle have no schedule
 pub negative_no_schedule : (bounds : List Difference) (links : List Link) → IsNegativeCycle bounds links → ¬ HasSchedule bounds
 negative_no_schedule bounds links cycle (time, is) =
     let (x, chain) = cycle.closed in
-    omega (arith, ints, cycle.negative, chain_kept bounds links x x time is chain)
+    omega (arith, ints, cycle.negative, chain_kept links x x is chain)
 
 -- a way, with all that is told of it
-pub told_of_way : (bounds : List Difference) (start x count : ℕ) (links : List Link) (self far sum : ℤ) → sum ≡ far → IsWithinHorizon sum → IsTightest bounds start start self
+pub told_of_way : {bounds : List Difference} {start x count : ℕ} {links : List Link} {self far sum : ℤ} → sum ≡ far → IsWithinHorizon sum → IsTightest bounds start start self
     → IsTightest bounds start x far → IsWay bounds start x links → length links < count → IsWayOf bounds start x count links sum
-told_of_way bounds start x count links self far sum is within here there way short = record {
+told_of_way {bounds} {start} {x} {links} {self} {far} is within here there way short = record {
   way = way;
   sum_is = is ∙ sym (weight_of_way bounds start x links self far here there way);
   tightest = rw is there;

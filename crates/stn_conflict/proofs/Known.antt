@@ -9,9 +9,9 @@ bare_schedule events =
     (time, record { origin = refl; met = horizon_each (Meets time) events (λ event apart within. (omega (arith, ints), omega (arith, ints))) })
 
 -- bounds that begin with the horizon bounds and have no schedule are more than these, which have one
-pub more_than_known : (events : ℕ) (bounds : List Difference) → take events bounds ≡ horizon_bounds events → ¬ HasSchedule bounds
+pub more_than_known : {events : ℕ} {bounds : List Difference} → take events bounds ≡ horizon_bounds events → ¬ HasSchedule bounds
     → (events < length bounds) × HasSchedule (take events bounds) × ¬ HasSchedule (take (length bounds) bounds)
-more_than_known events bounds begins none =
+more_than_known {events} {bounds} begins none =
     let first : HasSchedule (take events bounds) = rw begins (bare_schedule events) in (
       elim (cases_lt events (length bounds)) [
         | inl more ↦ more

@@ -1,4 +1,4 @@
-use Rattle.std.{proofs.{Common.{◌≡◌, ◌⊎◌, inl, inr, ℕ, zero, suc, ◌+◌, ◌<◌, ◌≤◌, Option, Some, None, List, [], ◌∷◌, ◌++◌, length, sym, subst, ap, refl, ◌∙◌, arith}, lemmas.{Int.{ints, by_lt_z}, List.length_push}}, specs.{Prelude.{ℤ, pos, ◌+ℤ◌}, List.AllByRecursion}}
+use Rattle.std.{proofs.{Common.{rules, ◌≡◌, ◌⊎◌, inl, inr, ℕ, zero, suc, ◌+◌, ◌<◌, ◌≤◌, Option, Some, None, List, [], ◌∷◌, ◌++◌, length, subst, ap, refl, ◌∙◌, arith}, lemmas.{Int.{ints, by_lt_z}, List.length_push}}, specs.{Prelude.{ℤ, pos, ◌+ℤ◌}, List.AllByRecursion}}
 use Rattle.stn_time.proofs.Each.{each_pushed}
 use Rattle.stn_net.specs.{Difference.Difference, Schedule.times_of}
 use Rattle.stn_conflict.{specs.{declared.links.Link.Link, Arcs.{arc_of, IsChain}, Relaxation.{AreDistances, AreRelaxed}, Named.{IsTight, IsTightChain, IsLevel}}, proofs.{Tightness.{tightest_self, link_reaches, link_among, tight_from_sum, relaxed_schedule}, Chains.chain-push}}
@@ -20,19 +20,19 @@ pub record IsClosed (bounds : List Difference) (start : ℕ) (levels : ℕ → O
       → (k : ℕ) × (levels (arc_of bounds link).to ≡ Some k) × (k ≤ suc i)
 
 -- tight links lead from a level to one that is higher by their number at most
-pub level_along : (bounds : List Difference) (start : ℕ) (levels : ℕ → Option ℕ) (closed : IsClosed bounds start levels) (links : List Link) (x y i : ℕ) → IsChain bounds links x y → AllByRecursion (IsTight bounds start) links → levels x ≡ Some i → (k : ℕ) × (levels y ≡ Some k) × (k ≤ i + length links)
-level_along bounds start levels closed [] x y i chain tight at = (i, subst (λ z. levels z ≡ Some i) chain at, omega arith)
-level_along bounds start levels closed (link ∷ links) x y i (placed, from, rest) (tight, others) at =
+pub level_along : {bounds : List Difference} {start : ℕ} {levels : ℕ → Option ℕ} (closed : IsClosed bounds start levels) (links : List Link) {x y i : ℕ} → IsChain bounds links x y → AllByRecursion (IsTight bounds start) links → levels x ≡ Some i → (k : ℕ) × (levels y ≡ Some k) × (k ≤ i + length links)
+level_along {levels} closed [] {i} chain tight at = (i, subst (λ z. levels z ≡ Some i) chain at, omega arith)
+level_along {bounds} {start} {levels} closed (link ∷ links) {y} {i} (placed, from, rest) (tight, others) at =
     let (k, k_at, k_le) = closed.on link tight i (ap levels from ∙ at) in
-    let (m, m_at, m_le) = level_along bounds start levels closed links _ y k rest others k_at in
+    let (m, m_at, m_le) = level_along closed links rest others k_at in
     (m, m_at, omega arith)
 
 -- to an event with a level leads a chain of so many tight links
-pub chain_to_level : (bounds : List Difference) (start : ℕ) (levels : ℕ → Option ℕ) (closed : IsClosed bounds start levels) (level x : ℕ) → levels x ≡ Some level → (links : List Link) × IsTightChain bounds start x links × (length links ≡ level)
-chain_to_level bounds start levels closed zero x at = ([], record { chain = sym (closed.only x at); tight = tt }, refl)
-chain_to_level bounds start levels closed (suc level) x at =
+pub chain_to_level : {bounds : List Difference} {start : ℕ} {levels : ℕ → Option ℕ} (closed : IsClosed bounds start levels) (level : ℕ) {x : ℕ} → levels x ≡ Some level → (links : List Link) × IsTightChain bounds start x links × (length links ≡ level)
+chain_to_level closed zero at = search rules
+chain_to_level {bounds} {start} {levels} closed (suc level) {x} at =
     let (link, tight, ends, from) = closed.back x level at in
-    let (links, chain, long) = chain_to_level bounds start levels closed level _ from in (
+    let (links, chain, long) = chain_to_level closed level from in (
       links ++ link ∷ [],
       record {
         chain = rw ends at (chain-push bounds links link start _ chain.chain tight.there refl);
@@ -42,20 +42,20 @@ chain_to_level bounds start levels closed (suc level) x at =
     )
 
 -- an entry of a closed table is the event's level
-pub level_of_entry : (bounds : List Difference) (start : ℕ) (levels : ℕ → Option ℕ) (closed : IsClosed bounds start levels) (x level : ℕ) → levels x ≡ Some level → IsLevel bounds start x level
-level_of_entry bounds start levels closed x level at = record {
-  reached = chain_to_level bounds start levels closed level x at;
+pub level_of_entry : {bounds : List Difference} {start : ℕ} {levels : ℕ → Option ℕ} (closed : IsClosed bounds start levels) {x level : ℕ} → levels x ≡ Some level → IsLevel bounds start x level
+level_of_entry {bounds} {start} {levels} closed {x} {level} at = record {
+  reached = chain_to_level closed level at;
   least = λ links chain.
-      let (k, k_at, k_le) = level_along bounds start levels closed links start x 0 chain.chain chain.tight closed.zero_at_start in
+      let (k, k_at, k_le) = level_along closed links chain.chain chain.tight closed.zero_at_start in
       omega (arith, some_same (levels x) k level k_at at);
 }
 
 -- an event's level is its entry in a closed table
-pub entry_of_level : (bounds : List Difference) (start : ℕ) (levels : ℕ → Option ℕ) (closed : IsClosed bounds start levels) (x level : ℕ) → IsLevel bounds start x level → levels x ≡ Some level
-entry_of_level bounds start levels closed x level is =
+pub entry_of_level : {bounds : List Difference} {start : ℕ} {levels : ℕ → Option ℕ} (closed : IsClosed bounds start levels) {x level : ℕ} → IsLevel bounds start x level → levels x ≡ Some level
+entry_of_level {bounds} {start} {levels} closed {x} {level} is =
     let (links, chain, long) = is.reached in
-    let (k, k_at, k_le) = level_along bounds start levels closed links start x 0 chain.chain chain.tight closed.zero_at_start in
-    let here = chain_to_level bounds start levels closed k x k_at in
+    let (k, k_at, k_le) = level_along closed links chain.chain chain.tight closed.zero_at_start in
+    let here = chain_to_level closed k k_at in
     let e : k ≡ level = omega (arith, is.least here.0 here.1, here.2) in
     k_at ∙ ap Some e
 
@@ -69,9 +69,9 @@ abbrev raised : List ℤ → (ℕ → Option ℕ) → ℕ → ℤ
 raised far levels x = times_of far x +ℤ raise (levels x)
 
 -- the raised differences keep to each link: one that is not tight has room for one more
-raised_relaxed : (bounds : List Difference) (far : List ℤ) (start : ℕ) (levels : ℕ → Option ℕ) → AreDistances bounds start far → IsClosed bounds start levels → AreRelaxed bounds (raised far levels)
-raised_relaxed bounds far start levels exact closed = λ link there.
-    let named = link_among bounds (length far) link exact.named there in
+raised_relaxed : {bounds : List Difference} {far : List ℤ} {start : ℕ} {levels : ℕ → Option ℕ} → AreDistances bounds start far → IsClosed bounds start levels → AreRelaxed bounds (raised far levels)
+raised_relaxed {bounds} {far} {start} {levels} exact closed = λ link there.
+    let named = link_among bounds link exact.named there in
     let near = exact.tightest _ named.0 in
     let end = exact.tightest _ named.1 in
     let reaches = link_reaches bounds start link _ _ there near end in
@@ -95,7 +95,7 @@ level_of_event bounds far start levels exact closed x x_within =
       | inr found ↦ found
       | inl none ↦
           let most = exact.tightest x x_within in
-          let self = tightest_self bounds start _ (exact.tightest start exact.start_named) in
-          let passed = most.bound _ (relaxed_schedule bounds (raised far levels) (raised_relaxed bounds far start levels exact closed)) in
+          let self = tightest_self (exact.tightest start exact.start_named) in
+          let passed = most.bound _ (relaxed_schedule (raised far levels) (raised_relaxed exact closed)) in
           absurd (omega (arith, ints, ap raise none, ap raise closed.zero_at_start))
     ]

@@ -5,13 +5,13 @@ use Rattle.stn_net.{specs.{Difference.{Difference, NamesEvents}, Schedule.{IsSch
 use Rattle.stn_conflict.{specs.{declared.relaxation.Search.Search, Distances.{AreDistancesFrom, AreDistancesTo}, Relaxation.{AreDistances, HasTables, IsNetwork}}, proofs.Relaxing.network_near}
 
 -- the distances that a search has found
-pub distances_of : {A : Type 0} (bounds : List Difference) (events event : ℕ) (search : Search A) → HasTables (events + 1) search × AreDistances bounds event search.far.items
+pub distances_of : {A : Type 0} {bounds : List Difference} {events event : ℕ} (search : Search A) → HasTables (events + 1) search × AreDistances bounds event search.far.items
     → AreDistancesFrom bounds events event search.far.items
-distances_of bounds events event search (tables, far) = record { long = tables.far; tightest = λ x xs. far.tightest x (omega (arith, tables.far)) }
+distances_of search (tables, far) = omega arith
 
 -- how long after each event the origin can come at the most, with the signs changed: the earliest times
-pub earliest_opposite : (bounds : List Difference) (events : ℕ) (far : List ℤ) → AreDistancesTo bounds events 0 far → AreEarliest bounds events (times_of (map neg_ℤ far))
-earliest_opposite bounds events far d =
+pub earliest_opposite : {bounds : List Difference} {events : ℕ} {far : List ℤ} → AreDistancesTo bounds events 0 far → AreEarliest bounds events (times_of (map neg_ℤ far))
+earliest_opposite {bounds} {events} {far} d =
     let are = earliest_of_tightest bounds events (times_of far) d.tightest in
     let at : (event : ℕ) → event ≤ events → times_of (map neg_ℤ far) event ≡ neg_ℤ (times_of far event) = λ event within. get_or-map neg_ℤ far event (pos 0) (pos 0) (omega (arith, d.long)) in
     record {
@@ -23,14 +23,13 @@ earliest_opposite bounds events far d =
 pub found_latest : {A : Type 0} (bounds : List Difference) (events : ℕ) (found : Option (Vec ℤ A))
     → MatchOption found (¬ HasSchedule bounds) (λ far. AreDistancesFrom bounds events 0 far.items)
     → MatchOption found (¬ HasSchedule bounds) (λ times. (length times.items ≡ events + 1) × AreLatest bounds events (times_of times.items))
-found_latest bounds events None none = none
-found_latest bounds events (Some far) d = (d.long, latest_of_tightest bounds events (times_of far.items) d.tightest)
+found_latest bounds events found none = search (rules, latest_of_tightest)
 
 module _ (base extra floors : List Difference) (events : ℕ) (done : List Bool) (now : ℤ) (network : IsNetwork events (base ++ extra)) (one_each : length done ≡ events + 1)
     (named : All (NamesEvents events) floors) (are : AreFloorsBelow done now (length done) floors) where
   by_horizon : (times : ℕ → ℤ) → IsSchedule (base ++ extra) times → (event : ℕ) → IsLeft done event → times event ≤ℤ horizon
   by_horizon times schedule event left =
-      let near = network_near events (base ++ extra) network times schedule 0 event (omega arith) (omega (arith, left_within done event left)) in
+      let near = network_near network schedule 0 event (omega arith) (omega (arith, left_within done event left)) in
       omega (arith, ints)
 
   -- the earliest times of the bounds and the floors are the soonest of the bounds

@@ -1,6 +1,6 @@
 -- Each sweep that lowers anything leaves fewer estimates above the highest times that are a floor: else all that are above these could be raised by one,
 -- and be a floor still.
-use Rattle.std.{proofs.{Common.{◌≡◌, ℕ, zero, suc, ◌+◌, ◌<◌, ◌≤◌, inl, inr, Bool, false, List, length, refl, arith}, lemmas.{Int.{ints, clamps, by_lt_z}, Bool.cases_eq}}, specs.{Prelude.{ℤ, pos, negsuc, ◌+ℤ◌, ◌-ℤ◌, ◌≤ℤ◌, ◌<ℤ◌, All}, Int.{int_min, int_max}}}
+use Rattle.std.{proofs.{lemmas.{Grind.common_steps, Int.{ints, clamps, by_lt_z}, Bool.cases_eq}, Common.{rules, ◌≡◌, ℕ, zero, suc, ◌+◌, ◌<◌, ◌≤◌, inl, inr, Bool, false, List, length, refl, arith}}, specs.{Prelude.{ℤ, pos, negsuc, ◌+ℤ◌, ◌-ℤ◌, ◌≤ℤ◌, ◌<ℤ◌, All}, Int.{int_min, int_max}}}
 use Rattle.stn_net.specs.{Difference.Difference, Schedule.times_of}
 use Rattle.stn_conflict.{specs.{Arcs.arc_of, Relaxation.{AreLimited, HasFallen, IsFloor, IsNetwork, IsRelaxedBut, Lowers, NamesAmong, is_fresh}}, proofs.{Relaxing.{all_relaxed, listed_more}, Tightness.link_among}}
 
@@ -15,16 +15,16 @@ total zero f = pos 0
 total (suc n) f = total n f +ℤ f n
 
 total_least : (n : ℕ) (f : ℕ → ℤ) → ((x : ℕ) → x < n → pos 0 ≤ℤ f x) → pos 0 ≤ℤ total n f
-total_least zero f least = omega (arith, ints)
+total_least zero f least = omega (arith)
 total_least (suc n) f least =
     let before = total_least n f (λ x below. least x (omega arith)) in
     let last = least n (omega arith) in
     omega (arith, ints)
 
-total_most : (n : ℕ) (f g : ℕ → ℤ) → ((x : ℕ) → x < n → f x ≤ℤ g x) → total n f ≤ℤ total n g
-total_most zero f g most = omega (arith, ints)
-total_most (suc n) f g most =
-    let before = total_most n f g (λ x below. most x (omega arith)) in
+total_most : (n : ℕ) {f g : ℕ → ℤ} → ((x : ℕ) → x < n → f x ≤ℤ g x) → total n f ≤ℤ total n g
+total_most zero most = omega (arith)
+total_most (suc n) {f} {g} most =
+    let before = total_most n (λ x below. most x (omega arith)) in
     let last = most n (omega arith) in
     omega (arith, ints)
 
@@ -34,7 +34,7 @@ total_less (suc n) x f g most below less =
     let last = most n (omega arith) in
     elim (cases_eq x n) [
       | inl same ↦
-          let before = total_most n f g (λ x below. most x (omega arith)) in
+          let before = total_most n (λ x below. most x (omega arith)) in
           let here : f n <ℤ g n = rw same at less in
           omega (arith, ints)
       | inr differs ↦
@@ -51,7 +51,7 @@ abbrev pub above : ℕ → (ℕ → ℤ) → List ℤ → ℤ
 above count low far = total count (lift low far)
 
 pub above_least : (n : ℕ) (low : ℕ → ℤ) (far : List ℤ) → pos 0 ≤ℤ above n low far
-above_least n low far = total_least n (lift low far) (λ x below. omega (arith, ints, clamps))
+above_least n low far = grind (arith, common_steps, total_least, ints)
 
 -- all but the start at the most
 pub above_most : (n start : ℕ) (low : ℕ → ℤ) (far : List ℤ) → start < n → times_of far start ≤ℤ low start → above n low far <ℤ pos n
@@ -95,21 +95,21 @@ module _ (whole events : ℕ) (bounds : List Difference) (start : ℕ) (first mi
   abbrev raised : ℕ → ℤ
   raised x = top x +ℤ lift top new x
 
-  raised_most : (x : ℕ) → x < length new → raised x ≤ℤ times_of new x
-  raised_most x there = (let low = floor.below x there in omega (arith, ints, clamps))
+  raised_most : {x : ℕ} → x < length new → raised x ≤ℤ times_of new x
+  raised_most there = search (rules, floor, ints)
 
   module _ (all : (x : ℕ) → x < length new → lift top mid x ≤ℤ lift top new x) where
     raised_met : AreLimited events bounds raised
     raised_met link there listed =
-        let (begins, ends) = link_among bounds (length new) link named there in
+        let (begins, ends) = link_among bounds link named there in
         let x = (arc_of bounds link).from in
         let met = floor.met link there in
         let low = floor.below x begins in
-        let most = raised_most (arc_of bounds link).to ends in
+        let most = raised_most ends in
         by_lt_z (top x) (times_of new x) (λ higher. omega (arith, ints, clamps)) (λ at.
         let was = all x begins in
         let fall = sweep.fall x in
-        let met = relaxed link there (listed_more events whole bounds link kept listed) (stale x begins (omega (arith, ints, clamps))) in
+        let met = relaxed link there (listed_more bounds link kept listed) (stale x begins (omega (arith, ints, clamps))) in
         omega (arith, ints, clamps))
 
     raised_floor : IsFloor bounds start first raised
@@ -119,13 +119,13 @@ module _ (whole events : ℕ) (bounds : List Difference) (start : ℕ) (first mi
         record {
           own = (let zero = highest.floor.own in omega (arith, ints, clamps));
           within = λ x there. (let h = highest.floor.within x there in omega (arith, ints, clamps));
-          below = λ x there. (let most = raised_most x (omega arith) in let a = before.fall x in let b = sweep.fall x in omega (arith, ints));
-          met = all_relaxed events bounds raised network raised_met;
+          below = λ x there. (let most = raised_most {x = x} (omega arith) in let a = before.fall x in let b = sweep.fall x in omega (arith, ints));
+          met = all_relaxed {events = events} {bounds = bounds} raised network raised_met;
         }
 
   -- so fewer are above it after a sweep that lowers something
-  pub fewer_above : (event : ℕ) → HasFallen mid new event → above (length new) top new <ℤ above (length new) top mid
-  fewer_above event fell = by_lt_z (above (length new) top new) (above (length new) top mid) (λ less. less) (λ more.
+  pub fewer_above : {event : ℕ} → HasFallen mid new event → above (length new) top new <ℤ above (length new) top mid
+  fewer_above {event} fell = by_lt_z (above (length new) top new) (above (length new) top mid) (λ less. less) (λ more.
       let still : (x : ℕ) → x < length new → lift top new x ≤ℤ lift top mid x = λ x there. (let fall = sweep.fall x in omega (arith, ints, clamps)) in
       let all : (x : ℕ) → x < length new → lift top mid x ≤ℤ lift top new x = λ x there. by_lt_z (lift top new x) (lift top mid x)
       (λ less. (let fewer = total_less (length new) x (lift top new) (lift top mid) still there less in absurd (omega (arith, ints)))) (λ same. same) in

@@ -1,12 +1,12 @@
 -- A way to an event by a link, tried against the event's estimate.
-use Rattle.std.{proofs.{Common.{rules, ◌≡◌, ◌⊎◌, inl, inr, ℕ, Bool, false, ◌<◌, List, length, sym, ◌∙◌, arith}, lemmas.Int.ints}, specs.Prelude.{ℤ, pos, ◌+ℤ◌, ◌≤ℤ◌, All}}
+use Rattle.std.{proofs.{Common.{rules, ◌≡◌, ◌⊎◌, ℕ, Bool, false, ◌<◌, List, length, sym, ◌∙◌, arith}, lemmas.Int.ints}, specs.Prelude.{ℤ, pos, ◌+ℤ◌, ◌≤ℤ◌, All}}
 use Rattle.stn_net.specs.{Difference.Difference, Schedule.times_of}
-use Rattle.stn_conflict.{specs.{declared.outgoing.Look.Look, Relaxation.{AreBegun, AreTables, Freshens, IsFloor, IsKept, IsLook, IsLowered, LeavesNoFloor, IsRelaxedOf, Lowers, NamesAmong, Searched, is_fresh}}, proofs.{Tightness.link_among, Lowering.{lowered_at, freshened_at, fallen_other, relaxed_now}}}
+use Rattle.stn_conflict.{specs.{declared.outgoing.Look.Look, Relaxation.{AreBegun, AreTables, Freshens, IsFloor, IsKept, IsLook, IsLowered, LeavesNoFloor, IsRelaxedOf, Lowers, NamesAmong, Searched, is_fresh}}, proofs.Lowering.{lowered_at, freshened_at, fallen_other, relaxed_now}}
 
 -- estimates that have begun have so still, if that of the start is kept
-pub begun_on : {by new_by : List ℕ} {fresh new_fresh : List Bool} (searched : Searched) (start : ℕ) {far : List ℤ} (new : List ℤ) → AreBegun searched start far by fresh
+pub begun_on : {by new_by : List ℕ} {fresh new_fresh : List Bool} {searched : Searched} {start : ℕ} {far : List ℤ} {new : List ℤ} → AreBegun searched start far by fresh
     → AreTables (length far) new new_by new_fresh → times_of new start ≡ pos 0 → AreBegun searched start new new_by new_fresh
-begun_on searched start new begun tables own = search rules
+begun_on begun tables own = search rules
 
 module _ (searched : Searched) (start event : ℕ) (here : ℤ) (look : Look) (far : List ℤ) (by : List ℕ) (fresh : List Bool) (new : List ℤ) (new_fresh : List Bool)
     (begun : AreBegun searched start far by fresh) (is : IsLook searched.bounds event look) (most : times_of far event ≤ℤ here)
@@ -25,21 +25,21 @@ module _ (searched : Searched) (start event : ℕ) (here : ℤ) (look : Look) (f
   named = rw begun.tables.far begun.named
 
   there : look.to < length far
-  there = rw is.to at (link_among bounds (length far) look.link named is.there).1
+  there = search rules
 
   there_fresh : look.to < length fresh
-  there_fresh = omega (arith, there, begun.tables.far)
+  there_fresh = omega (arith, there)
 
   -- what a floor allows
   allowed : (low : ℕ → ℤ) → IsFloor bounds start far low → low look.to ≤ℤ (here +ℤ look.weight)
-  allowed low h = search (rules, named, there, ints)
+  allowed low h = search (rules, there, ints)
 
   tried_kept : IsKept look.to (here +ℤ look.weight) far fresh new new_fresh → Tried
   tried_kept k = search rules
 
   tried_lowered : IsLowered start look.to (here +ℤ look.weight) far fresh new new_fresh → Tried
   tried_lowered k = rw (k.far_is, k.fresh_is) (record {
-    own = fallen_other far look.to (here +ℤ look.weight) there k.less start (λ same. k.apart (sym same)) ∙ begun.own;
+    own = fallen_other far look.to (here +ℤ look.weight) there k.less (λ same. k.apart (sym same)) ∙ begun.own;
     lowers = lowered_at far look.to (here +ℤ look.weight) there k.less bounds start allowed;
     freshens = freshened_at far look.to (here +ℤ look.weight) there k.less fresh there_fresh;
     relaxed = relaxed_now far look.to (here +ℤ look.weight) there k.less bounds fresh look.link there_fresh (sym is.to)
@@ -47,8 +47,7 @@ module _ (searched : Searched) (start event : ℕ) (here : ℤ) (look : Look) (f
   })
 
   pub tried : (IsKept look.to (here +ℤ look.weight) far fresh new new_fresh) ⊎ (IsLowered start look.to (here +ℤ look.weight) far fresh new new_fresh) → Tried
-  tried (inl kept) = tried_kept kept
-  tried (inr lowered) = tried_lowered lowered
+  tried h = search (rules, tried_kept, tried_lowered)
 
-  pub tried_refused : LeavesNoFloor start look.to (here +ℤ look.weight) far fresh new new_fresh → (low : ℕ → ℤ) → ¬ IsFloor bounds start far low
-  tried_refused k low h = search (rules, there, ints)
+  pub tried_refused : LeavesNoFloor start look.to (here +ℤ look.weight) far fresh new new_fresh → {low : ℕ → ℤ} → ¬ IsFloor bounds start far low
+  tried_refused k h = search (rules, ints)

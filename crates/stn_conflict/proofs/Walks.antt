@@ -75,24 +75,24 @@ walk_reaches bounds start seen level levels marked reached link w there here lea
         i_at ∙ ap Some (some_same _ i m still (sym (ap marked (old_at k below)) ∙ at))
 
 -- where each tight link from an event is followed, the walk goes on to the next
-pub walk_goes_on : (bounds : List Difference) (start seen level : ℕ) (levels : ℕ → Option ℕ) (reached : List ℕ) → IsWalk bounds start seen levels reached → seen < length reached
+pub walk_goes_on : {bounds : List Difference} {start seen level : ℕ} {levels : ℕ → Option ℕ} {reached : List ℕ} → IsWalk bounds start seen levels reached → seen < length reached
     → levels (event_at reached seen) ≡ Some level
     → ((link : Link) → IsTight bounds start link → (arc_of bounds link).from ≡ event_at reached seen → IsFollowed bounds levels link level)
     → IsWalk bounds start (seen + 1) levels reached
-walk_goes_on bounds start seen level levels reached w there here all = search rules
+walk_goes_on w there here all = search rules
 
 -- an event that gets a level is one more that has one
-pub count_marked : (levels : List (Option ℕ)) (x k : ℕ) → x < length levels → level_at levels x ≡ None → count_by is_some (set levels x (Some k)) ≡ count_by is_some levels + 1
-count_marked levels x k there none = search (rules, sum_by-set)
+pub count_marked : (levels : List (Option ℕ)) {x : ℕ} (k : ℕ) → x < length levels → level_at levels x ≡ None → count_by is_some (set levels x (Some k)) ≡ count_by is_some levels + 1
+count_marked levels k there none = search (rules, sum_by-set)
 
 -- a table that is made of nothing has nothing
-none_in_replicate : {X : Type 0} (table : List (Option X)) (n : ℕ) → table ≡ replicate n None → (x : ℕ) → slice_index_or table x None ≡ None
-none_in_replicate {X} table n e x = search (rules, get_or-replicate, get_or_past, length-replicate)
+none_in_replicate : {X : Type 0} {table : List (Option X)} (n : ℕ) → table ≡ replicate n None → (x : ℕ) → slice_index_or table x None ≡ None
+none_in_replicate {X} n e x = search (rules, get_or-replicate, get_or_past, length-replicate)
 
 -- where each event that a walk reached is followed, each has its level
-pub levels_of_walk : (bounds : List Difference) (far : List ℤ) (start seen : ℕ) (levels : List (Option ℕ)) (reached : List ℕ) → AreDistances bounds start far → length levels ≡ length far
+pub levels_of_walk : {bounds : List Difference} {far : List ℤ} {start seen : ℕ} {levels : List (Option ℕ)} {reached : List ℕ} → AreDistances bounds start far → length levels ≡ length far
     → length reached ≤ count_by is_some levels → IsWalk bounds start seen (level_at levels) reached → length reached ≤ seen → AreLevels bounds start (length far) levels
-levels_of_walk bounds far start seen levels reached exact whole counted w all =
+levels_of_walk {bounds} {far} {start} {levels} exact whole counted w all =
     let closed : IsClosed bounds start (level_at levels) = record {
       zero_at_start = w.zero_at_start;
       only = w.only;
@@ -102,7 +102,7 @@ levels_of_walk bounds far start seen levels reached exact whole counted w all =
     record {
       whole = whole;
       levels = record {
-        level = λ x k. (level_of_entry bounds start (level_at levels) closed x k, entry_of_level bounds start (level_at levels) closed x k);
+        level = λ x k. (level_of_entry closed, entry_of_level closed);
         every = level_of_event bounds far start (level_at levels) exact closed;
         back = w.back;
         most = λ x i at. search (rules, count_by-le-length, some_same);
@@ -110,22 +110,22 @@ levels_of_walk bounds far start seen levels reached exact whole counted w all =
     }
 
 -- an event with an entry is one of the table
-pub level_there : (levels : List (Option ℕ)) (x i : ℕ) → level_at levels x ≡ Some i → x < length levels
-level_there levels x i at = search (rules, get_or_past)
+pub level_there : (levels : List (Option ℕ)) {x i : ℕ} → level_at levels x ≡ Some i → x < length levels
+level_there levels at = search (rules, get_or_past)
 
 module _ {A : Type 0} where
   -- the walk that has reached its start alone
-  pub walk_of_start : (bounds : List Difference) (start count : ℕ) (walk : Walk A) → start < count → walk.levels.items ≡ set (replicate count None) start (Some 0) → walk.reached.items ≡ start ∷ []
+  pub walk_of_start : {bounds : List Difference} {start count : ℕ} {walk : Walk A} → start < count → walk.levels.items ≡ set (replicate count None) start (Some 0) → walk.reached.items ≡ start ∷ []
       → IsWalkOf bounds start count 0 walk
-  walk_of_start bounds start count walk within marked reached = search (rules, length-replicate, none_in_replicate, length-set, count_marked)
+  walk_of_start within marked reached = search (rules, length-replicate, none_in_replicate, count_marked)
 
   -- an event that the walk has reached is one of the table, and has a level
-  pub reached_at : (bounds : List Difference) (start count seen place x : ℕ) (walk : Walk A) → IsWalkOf bounds start count seen walk → place < length walk.reached.items → x ≡ event_at walk.reached.items place
+  pub reached_at : {bounds : List Difference} {start count seen place x : ℕ} {walk : Walk A} → IsWalkOf bounds start count seen walk → place < length walk.reached.items → x ≡ event_at walk.reached.items place
       → (i : ℕ) × (x < count) × (level_at walk.levels.items x ≡ Some i)
-  reached_at bounds start count seen place x walk w there is =
+  reached_at {place} {x} {walk} w there is =
       let (i, at, le) = w.steps.each place there in
       let here = ap (level_at walk.levels.items) is ∙ at in
-      (i, omega (arith, level_there walk.levels.items x i here, w.whole), here)
+      (i, omega (arith, level_there walk.levels.items here, w.whole), here)
 
   -- a walk that follows the links of an event that it has reached: so far these
   pub record IsFollowing (bounds : List Difference) (start count seen level event : ℕ) (row : List Look) (walk : Walk A) : Type 0 where
@@ -136,20 +136,20 @@ module _ {A : Type 0} where
     pub followed : (look : Look) → Contains row look → IsTight bounds start look.link → IsFollowed bounds (level_at walk.levels.items) look.link level
 
   -- no level is above the number of the events that got theirs before
-  pub level_low : (bounds : List Difference) (start count seen level event : ℕ) (row : List Look) (walk : Walk A) → IsFollowing bounds start count seen level event row walk → level < count
-  level_low bounds start count seen level event row walk h = search (rules, count_by-le-length)
+  pub level_low : {bounds : List Difference} {start count seen level event : ℕ} {row : List Look} {walk : Walk A} → IsFollowing bounds start count seen level event row walk → level < count
+  level_low h = search (rules, count_by-le-length)
 
   -- at first none of them
-  pub following_begins : (bounds : List Difference) (start count seen level event : ℕ) (row : List Look) (walk : Walk A) → IsWalkOf bounds start count seen walk → seen < length walk.reached.items
+  pub following_begins : {bounds : List Difference} {start count seen level event : ℕ} {row : List Look} {walk : Walk A} → IsWalkOf bounds start count seen walk → seen < length walk.reached.items
       → event_at walk.reached.items seen ≡ event → level_at walk.levels.items event ≡ Some level → row ≡ [] → IsFollowing bounds start count seen level event row walk
-  following_begins bounds start count seen level event row walk w there here at none = search rules
+  following_begins w there here at none = search rules
 
   -- a link that leads on: its end is reached
-  pub following_reaches : (bounds : List Difference) (start count seen level event x : ℕ) (row : List Look) (walk next : Walk A) (look : Look) → IsFollowing bounds start count seen level event row walk
+  pub following_reaches : {bounds : List Difference} {start count seen level event x : ℕ} {row : List Look} {walk next : Walk A} (look : Look) → IsFollowing bounds start count seen level event row walk
       → LeadsOn bounds start (level_at walk.levels.items) look.link → (arc_of bounds look.link).from ≡ event → x ≡ (arc_of bounds look.link).to → x < count
       → next.levels.items ≡ set walk.levels.items x (Some (level + 1)) → next.reached.items ≡ walk.reached.items ++ x ∷ []
       → IsFollowing bounds start count seen level event (row ++ look ∷ []) next
-  following_reaches bounds start count seen level event x row walk next look h leads begins to within marked longer =
+  following_reaches {bounds} {start} {seen} {level} {event} {x} {row} {walk} {next} look h leads begins to within marked longer =
       let old = walk.levels.items in
       let link = look.link in
       let there : x < length old = omega (arith, h.so_far.whole) in
@@ -164,7 +164,7 @@ module _ {A : Type 0} where
       record {
         so_far = record {
           whole = ap length marked ∙ length-set old x (Some (level + 1)) ∙ h.so_far.whole;
-          counted = omega (arith, ap length longer, length_push walk.reached.items x, h.so_far.counted, ap (count_by (is_some {T = ℕ})) marked, count_marked old x (level + 1) there (ap (level_at old) to ∙ leads.to));
+          counted = omega (arith, ap length longer, length_push walk.reached.items x, h.so_far.counted, ap (count_by (is_some {T = ℕ})) marked, count_marked old (level + 1) there (ap (level_at old) to ∙ leads.to));
           steps = rw grown steps;
         };
         there = omega (arith, h.there, ap length longer, length_push walk.reached.items x);
@@ -178,9 +178,9 @@ module _ {A : Type 0} where
       }
 
   -- a link that does not lead on is not tight, or leads to a level
-  pub following_passes : (bounds : List Difference) (start count seen level event : ℕ) (row : List Look) (walk : Walk A) (look : Look) → IsFollowing bounds start count seen level event row walk
+  pub following_passes : {bounds : List Difference} {start count seen level event : ℕ} {row : List Look} {walk : Walk A} (look : Look) → IsFollowing bounds start count seen level event row walk
       → ¬ LeadsOn bounds start (level_at walk.levels.items) look.link → IsFollowing bounds start count seen level event (row ++ look ∷ []) walk
-  following_passes bounds start count seen level event row walk look h stays = record {
+  following_passes {bounds} {level} {row} {walk} look h stays = record {
     so_far = h.so_far;
     there = h.there;
     here = h.here;
@@ -199,12 +199,12 @@ module _ {A : Type 0} where
   }
 
   -- where all are followed, the walk goes on to the next event
-  pub following_ends : (searched : Searched) (start count seen level event : ℕ) (row : List Look) (walk : Walk A) → length searched.bounds ≤ searched.whole → IsRow searched event row
+  pub following_ends : {searched : Searched} {start count seen level event : ℕ} {row : List Look} {walk : Walk A} → length searched.bounds ≤ searched.whole → IsRow searched event row
       → IsFollowing searched.bounds start count seen level event row walk → IsWalkOf searched.bounds start count (seen + 1) walk
-  following_ends searched start count seen level event row walk whole is h = record {
+  following_ends {searched} {start} {seen} {level} {walk} whole is h = record {
     whole = h.so_far.whole;
     counted = h.so_far.counted;
-    steps = walk_goes_on searched.bounds start seen level (level_at walk.levels.items) walk.reached.items h.so_far.steps h.there (ap (level_at walk.levels.items) h.here ∙ h.marked)
+    steps = walk_goes_on h.so_far.steps h.there (ap (level_at walk.levels.items) h.here ∙ h.marked)
         (λ link tight from.
         let (look, has, names) = is.every link tight.there (or_left _ _ (lt-ltb link.place searched.whole (omega (arith, tight.there)))) (from ∙ h.here) in
         rw names at (h.followed look has (rw names tight)));

@@ -1,5 +1,5 @@
 -- The greatest counter of a site, in a list in order and in a content, and the next one.
-use Rattle.std.{proofs.{Common.{rules, ◌≡◌, ℕ, zero, suc, ◌<◌, ◌≤◌, ◌-◌, ◌⊎◌, true, false, cond, max, List, [], ◌∷◌, length, get_or, take, Less, sym, refl, ap, ◌∙◌, arith, eqb, nat_le, ◌+◌, ◌↔◌, ◌++◌, Option, Some, None, ⊎_elim, Result, IfOk, IsErr}, lemmas.{List.get_or-take, Bool.{false_from_ne_true, false≢true, eq-eqb, and_parts, or_cases, Decides.nat_tests}}}, specs.{List.Sorted.{IsNonDecreasingBy, IsPartitionPoint}, FinMap.is_sorted, Map.keys_of, Option.{SomeIff, ok_or}, Cmp.Equal-is, Set.is_member}}
+use Rattle.std.{proofs.{Common.{rules, ◌≡◌, ℕ, zero, suc, ◌<◌, ◌≤◌, ◌-◌, ◌⊎◌, true, false, cond, max, List, [], ◌∷◌, length, get_or, take, Less, sym, refl, ap, ◌∙◌, arith, eqb, nat_le, ◌+◌, ◌↔◌, ◌++◌, Option, ⊎_elim, Result, IfOk, IsErr}, lemmas.{List.get_or-take, Bool.{false_from_ne_true, false≢true, eq-eqb, and_parts, or_cases, Decides.nat_tests}}}, specs.{List.Sorted.{IsNonDecreasingBy, IsPartitionPoint}, FinMap.is_sorted, Map.keys_of, Option.{SomeIff, ok_or}, Cmp.Equal-is, Set.is_member}}
 use Rattle.stn_records.{specs.{Id.{SiteCounter, id_cmp}, Sorted.IsEndOf, ContentLaws.{ids_total, ids_exact}, declared.record.Record.Record, Content.{greatest_counter, next_counter, Content, same_ids, known_ids, is_known, replaced_set}}, proofs.{Entries.above_at, KnownIds.known_member}}
 use Rattle.std.specs.FinMap as fin
 
@@ -85,8 +85,7 @@ counter_read s site es ts p q a b m ga gb gm = search (rules, greatest-append)
 
 -- a counter that fits is the next one, and one that doesn't is spent
 pub next_cases : {E : Type 0} (o : Option ℕ) (err : E) (r : Result ℕ E) (m n : ℕ) → m + 1 ≡ n → SomeIff o (m + 1 < 65536) (m + 1) → r ≡ ok_or o err → IfOk r (λ counter. counter ≡ n) × (IsErr r ↔ (65535 < n))
-next_cases {E} None err r m n e h is = search rules
-next_cases {E} (Some x) err r m n e h is = search rules
+next_cases o err r m n e h is = search rules
 
 pub new_cases : {E : Type 0} (s : Content) (site : ℕ) (r : Result ℕ E) → IfOk r (λ counter. counter ≡ next_counter s site) → IfOk r (λ counter. is_known s (record { site = site; counter = counter }) ≡ false)
 new_cases s site r e = search (rules, next_is_new)

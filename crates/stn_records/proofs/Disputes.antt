@@ -1,5 +1,5 @@
 -- The first id in dispute of two lists, by their first entries.
-use Rattle.std.{proofs.{lemmas.{Grind.common_steps, Bool.{and_parts, and_from}}, Common.{rules, ◌≡◌, Bool, true, false, cond, List, [], ◌∷◌, Option, Some, None, find, Less, Equal, Greater, is_lt, is_eq, length, ◌⊎◌, arith, sym, ap}}, specs.{FinMap.{FinMap, is_sorted, get-entries, Entries.below_all}, Map.keys_of}}
+use Rattle.std.{proofs.{lemmas.{Grind.common_steps, Bool.{and_parts, and_from}}, Common.{rules, ◌≡◌, Bool, true, false, cond, List, [], ◌∷◌, Option, Some, None, find, Less, Equal, Greater, is_lt, length, ◌⊎◌, arith, sym, ap}}, specs.{FinMap.{FinMap, is_sorted, get-entries, Entries.below_all}, Map.keys_of}}
 use Rattle.std.specs.FinMap as fin
 use Rattle.stn_records.{specs.{Id.{SiteCounter, id_cmp}, Maps.{differ, dispute}, Sorted.dispute_of, ContentLaws.ids_total, MapLaws.none_found}, proofs.Entries.{less_is, greater_back, below_less, find_below, passed_over}}
 
@@ -15,7 +15,7 @@ module _ {X : Type 0} (equal : X → X → Bool) where
       cond (same e.0 (less_is _ (and_parts _ _ h).0) i) (Some e.0) (found_above b p q same es (and_parts _ _ h).1 i)
 
   found_first : (id : SiteCounter) (e : SiteCounter × X) (es : List (SiteCounter × X)) → id_cmp id e.0 ≡ Equal → fin.find id_cmp id (e ∷ es) ≡ Some e.1
-  found_first id e es t = ap (λ r. cond (is_eq r) (Some e.1) (fin.find id_cmp id es)) t
+  found_first id e es t = cc
 
   no_difference : (o : Option X) → differ equal o None ≡ false
   no_difference o = search rules

@@ -1,5 +1,5 @@
 -- A text in two parts around its first dot.
-use Rattle.std.{proofs.{Common.{◌≡◌, ◌≢◌, ℕ, ◌+◌, ◌<◌, ◌^◌, List, [], ◌∷◌, ◌++◌, length, get_or, take, drop, decimal, All, refl, subst, arith, append_assoc, take-append-drop}, lemmas.{List.{drop_more, Elements.{All-head, All-tail, All-nil, All-cons}}, Fmt.decimal_is_IsNumeral}}, specs.Str.Parse.AllDigits}
+use Rattle.std.{proofs.{Common.{rules, ◌≡◌, ◌≢◌, ℕ, ◌+◌, ◌<◌, ◌^◌, List, [], ◌∷◌, ◌++◌, length, get_or, take, drop, decimal, All, refl, subst, arith, append_assoc, take-append-drop}, lemmas.{List.{drop_more, Elements.{All-head, All-tail, All-nil, All-cons}}, Fmt.decimal_is_IsNumeral}}, specs.Str.Parse.AllDigits}
 use Rattle.stn_records.specs.Id.{SiteCounter, id_text}
 
 abbrev NotDot : ℕ → Type 0
@@ -14,7 +14,7 @@ no_dot (c ∷ ds) h = All-cons NotDot c ds (λ is. absurd (digit c is h.0)) (no_
 
 -- the decimal form of a number has no dot
 pub decimal_no_dot : (n : ℕ) → n < 2 ^ 64 → All NotDot (decimal n)
-decimal_no_dot n small = no_dot (decimal n) (decimal_is_IsNumeral n small).0.1
+decimal_no_dot n small = search (rules, no_dot, decimal_is_IsNumeral)
 
 -- a text is split at its first dot in one way
 pub split_once : (xs ys us vs : List ℕ) → All NotDot xs → All NotDot us → xs ++ (46 ∷ ys) ≡ us ++ (46 ∷ vs) → (xs ≡ us) × (ys ≡ vs)
@@ -29,8 +29,8 @@ split_once (x ∷ xs) ys (u ∷ us) vs p q e =
 
 -- the printed form, as what stands before its dot and after it
 pub text_split : (id : SiteCounter) → id_text id ≡ decimal id.site ++ (46 ∷ decimal id.counter)
-text_split id = append_assoc (decimal id.site) (46 ∷ []) (decimal id.counter)
+text_split id = search (rules, append_assoc)
 
 -- a text at its dot
 pub split_at : (text : List ℕ) (place : ℕ) (d : ℕ) → place < length text → get_or text place d ≡ 46 → text ≡ take place text ++ (46 ∷ drop (place + 1) text)
-split_at text place d within is = cc (take-append-drop place text, drop_more text place d within)
+split_at text place d within is = search (rules, take-append-drop, drop_more)

@@ -39,7 +39,7 @@ module _ {K X : Type 0} {R : K → K → Ordering} (o : IsTotalOrder R) where
 
   -- an entry before a key is no match for it
   pub passed_over : (q : K) (e : K × X) (es : List (K × X)) → R e.0 q ≡ Less → fin.find R q (e ∷ es) ≡ fin.find R q es
-  passed_over q e es l = ap (λ r. cond (is_eq r) (Some e.1) (fin.find R q es)) (less_back o e.0 q l)
+  passed_over q e es l = cc (less_back o e.0 q l)
 
   -- each key is less than the next
   rising_on : (es : List (K × X)) → is_sorted R es ≡ true → (k : ℕ) (d : K × X) → suc k < length es → is_lt (R (get_or es k d).0 (get_or es (suc k) d).0) ≡ true
@@ -82,7 +82,7 @@ module _ {K X : Type 0} {R : K → K → Ordering} (o : IsTotalOrder R) where
   -- what is found of a key that stands at a place
   pub find_at : (es : List (K × X)) → is_sorted R es ≡ true → (q : K) (at : ℕ) (d : K × X) → at < length es → R q (get_or es at d).0 ≡ Equal → fin.find R q es ≡ Some (get_or es at d).1
   find_at [] h q at d within t = absurd (omega arith)
-  find_at (e ∷ es) h q zero d within t = ap (λ r. cond (is_eq r) (Some e.1) (fin.find R q es)) t
+  find_at (e ∷ es) h q zero d within t = cc
   find_at (e ∷ es) h q (suc at) d within t =
       let above = above_at e.0 es (and_parts _ _ h).0 at d (omega arith) in
       let behind : R q e.0 ≡ Greater = search rules in
@@ -106,7 +106,7 @@ module _ {K X : Type 0} {R : K → K → Ordering} (o : IsTotalOrder R) where
 
   -- ---- the merge
   ahead : (x e : K × X) (es : List (K × X)) → R x.0 e.0 ≡ Less → put R x.0 x.1 (e ∷ es) ≡ x ∷ e ∷ es
-  ahead x e es l = ap (λ r. by_order r (x ∷ e ∷ es) ((e.0, x.1) ∷ es) (e ∷ put R x.0 x.1 es)) l
+  ahead x e es l = cc
 
   -- what stands before all of the first list comes first
   merged_first : (xs : List (K × X)) (y : K × X) (ys : List (K × X)) → below_all R y.0 xs ≡ true → merge R xs (y ∷ ys) ≡ y ∷ merge R xs ys
@@ -120,7 +120,7 @@ module _ {K X : Type 0} {R : K → K → Ordering} (o : IsTotalOrder R) where
   -- to merge one entry more is to put it in
   merged_more : IsAntisymmetric R → (x : K × X) (xs ys : List (K × X)) → below_all R x.0 xs ≡ true → merge R (x ∷ xs) ys ≡ put R x.0 x.1 (merge R xs ys)
   merged_more exact x [] [] h = refl
-  merged_more exact x (a ∷ xs) [] h = sym (ahead x a (merge R xs []) (less_is _ (and_parts _ _ h).0))
+  merged_more exact x (a ∷ xs) [] h = search rules
   merged_more exact x xs (y ∷ ys) h =
       elim (R x.0 y.0) as (λ r. R x.0 y.0 ≡ r → by_order r (x ∷ merge R xs (y ∷ ys)) (x ∷ merge R xs ys) (y ∷ merge_from R x (merge R xs) ys) ≡ put R x.0 x.1 (merge R xs (y ∷ ys))) [
         | Less ↦ λ t. sym (put_first x xs y ys h t)
@@ -149,4 +149,4 @@ rest_merged R xs ys end = grind (arith, common_steps, merge-nil)
 
 -- the merge so far and what both lists have left are the merge
 pub merge_ends : {K X : Type 0} (R : K → K → Ordering) (all more last whole xs ys : List (K × X)) → (length xs ≡ 0) ⊎ (length ys ≡ 0) → all ++ merge R xs ys ≡ whole → more ≡ all ++ xs → last ≡ more ++ ys → last ≡ whole
-merge_ends R all more last whole xs ys end is first second = cc (append_assoc all xs ys, rest_merged R xs ys end)
+merge_ends R all more last whole xs ys end is first second = search (rules, append_assoc, rest_merged)

@@ -1,5 +1,5 @@
 -- The first cause that refuses a call, from what its parts answer.
-use Rattle.std.{proofs.{Common.{◌≡◌, ◌≤◌, ltb, None, ap, ◌∙◌}, lemmas.Bool.le-ltb}, specs.Bool.then_some}
+use Rattle.std.{proofs.Common.{rules, ◌≡◌, ◌≤◌, ltb, None}, specs.Bool.then_some}
 use Rattle.stn_records.specs.{declared.faults.RecordsFault.TheVariants.Full, Content.{most_known, Content, known_in_either, dispute_contents}, Refusals.join_refusal}
 
 -- where no id is in dispute, only too many ids refuse a join
@@ -8,4 +8,4 @@ module _ (s other : Content) (agreed : dispute_contents s other ≡ None) where
   counted = cc
 
   pub take_free : known_in_either s other ≤ most_known → join_refusal s other ≡ None
-  take_free few = counted ∙ ap (λ b. then_some b Full) (le-ltb most_known (known_in_either s other) few)
+  take_free few = search rules

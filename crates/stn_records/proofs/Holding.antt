@@ -1,7 +1,7 @@
 -- Whether all that one site holds is held by another.
-use Rattle.std.{proofs.{Common.{rules, ◌≡◌, ◌↔◌, Bool, true, false, cond, ◌&&◌, ◌≤◌, List, [], ◌∷◌, Option, Some, None, option_and_then, Less, Equal, Greater, is_lt, sym, refl, ap, subst, ◌∙◌, inl, inr, ⊎_elim}, lemmas.{Bool.{false≢true, and_from, and_parts, le-leb}, List.Sums.{AllPass-from_list_all, list_all-from_AllPass}, Option.cond_some}}, specs.{Bool.Decides, Prelude.IsTrue, FinMap.{FinMap, is_sorted, get-entries, Entries.below_all}}}
+use Rattle.std.{proofs.{Common.{rules, ◌≡◌, ◌↔◌, Bool, true, false, cond, ◌&&◌, ◌≤◌, List, [], ◌∷◌, Option, Some, None, option_and_then, Less, Equal, Greater, is_lt, sym, refl, ap, ◌∙◌, inl, inr, ⊎_elim}, lemmas.{Bool.{false≢true, and_from, and_parts, le-leb}, List.Sums.{AllPass-from_list_all, list_all-from_AllPass}}}, specs.{Bool.Decides, Prelude.IsTrue, FinMap.{FinMap, is_sorted, get-entries, Entries.below_all}}}
 use Rattle.std.specs.FinMap as fin
-use Rattle.stn_records.{specs.{Id.{SiteCounter, id_cmp}, Maps.HasEntries, Sorted.{is_there, has_entries}, Join.passing, JoinLaws.{first_step, join_is}, Content.{Content, addition, withdrawal, replacement, IsPart, most_known, is_limited, known_count, dispute_contents, join_contents, content_taken}, ContentLaws.{ids_total, ids_exact, contents_join}}, proofs.{Entries.{less_is, greater_back, below_less, find_below, passed_over}, Gets.{entries_from_get, get_from_entries}}}
+use Rattle.stn_records.{specs.{Id.{SiteCounter, id_cmp}, Maps.HasEntries, Sorted.{is_there, has_entries}, Join.passing, JoinLaws.join_is, Content.{Content, addition, withdrawal, replacement, IsPart, most_known, is_limited, known_count, dispute_contents, join_contents, content_taken}, ContentLaws.{ids_total, ids_exact, contents_join}}, proofs.{Entries.{less_is, greater_back, below_less, find_below, passed_over}, Gets.{entries_from_get, get_from_entries}}}
 
 module _ {X : Type 0} (same : X → X → Bool) where
   -- an entry of ours before all of theirs is none of theirs
@@ -68,7 +68,7 @@ module _ (a b : Content) where
 -- what is told of the parts as they stand inside two sites
 module _ (a b : Content) {s t : Content} (p : s ≡ a) (q : t ≡ b) where
   outside : (z : Bool) → IsTrue z ↔ IsPart t s → IsTrue z ↔ IsPart b a
-  outside z told = subst (λ u. IsTrue z ↔ IsPart b u) p (subst (λ u. IsTrue z ↔ IsPart u s) q told)
+  outside z told = search rules
 
   pub last_told : (z : Bool) → HasEntries s.tombstones t.tombstones → HasEntries s.additions t.additions → (IsTrue z ↔ HasEntries s.replacements t.replacements) → IsTrue z ↔ IsPart b a
   last_told z tombstones additions told = outside z (λ e. (told_part s t).1 (tombstones, additions, told.0 e), λ inside. told.1 ((told_part s t).0 inside).2)

@@ -45,7 +45,7 @@ same_count xs ys h = search (rules, fewer)
 
 -- an id more that is not among the others
 pub one_more : (x : SiteCounter) (xs : List SiteCounter) → is_member same_ids xs x ≡ false → distinct_count same_ids (x ∷ xs) ≡ suc (distinct_count same_ids xs)
-one_more x xs e = ap (λ b. length (cond b (unique_keys same_ids xs) (x ∷ unique_keys same_ids xs))) e
+one_more x xs e = cc
 
 pub member-append : (xs ys : List SiteCounter) (q : SiteCounter) → is_member same_ids (xs ++ ys) q ≡ (is_member same_ids xs q || is_member same_ids ys q)
 member-append xs ys q = list_any-append (same_ids q) xs ys

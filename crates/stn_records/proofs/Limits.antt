@@ -1,7 +1,7 @@
 -- How many ids a content knows after a change, and how many two know together.
-use Rattle.std.{proofs.{Common.{rules, ◌≡◌, ◌+◌, ◌<◌, ◌≤◌, Bool, true, false, cond, ◌||◌, List, [], ◌∷◌, ◌++◌, length, Option, Some, None, is_some, is_eq, sym, refl, ap, ◌∙◌, arith, length-append}, lemmas.{Bool.{false≢true, and_parts, or_left, or_right}, Map.{Made.distinct_count-le, Entries.length-keys_of}}}, specs.{FinMap.{FinMap, contains_key-keys, is_sorted, get-empty, get-insert, Entries.below_all}, Map.keys_of, Option.option_or, List.{IsDistinct, AllByRecursion}, Set.{distinct_count, is_member}}}
+use Rattle.std.{proofs.{Common.{rules, ◌≡◌, ◌+◌, ◌<◌, ◌≤◌, Bool, true, false, cond, ◌||◌, List, [], ◌∷◌, ◌++◌, length, Option, Some, None, is_some, is_eq, sym, refl, ap, ◌∙◌, arith, length-append}, lemmas.{Bool.{false≢true, and_parts}, Map.{Made.distinct_count-le, Entries.length-keys_of}}}, specs.{FinMap.{FinMap, contains_key-keys, is_sorted, get-empty, get-insert, Entries.below_all}, Map.keys_of, Option.option_or, List.{IsDistinct, AllByRecursion}, Set.{distinct_count, is_member}}}
 use Rattle.stn_net.specs.Difference.{Difference}
-use Rattle.stn_records.{specs.{Content.{most_known, Content, Item, addition, withdrawal, replacement, HasItem, same_ids, known_ids, known_count, known_in_either, is_known, is_replaced, replaced_set, dispute_contents, joined_contents, part_of, plain, with_record, with_tombstone, with_amendment, no_content, AllAmend}, ContentLaws.{ids_total, ids_exact}, Id.{SiteCounter, id_cmp}, declared.record.Record.Record, MapLaws.get-union}, proofs.{Entries.{less_is, in_order}, Proper.retained_value, OneItem.gone, KnownIds.{fewer, same_count, member-append, known_member, known_fewer, keys_within, there_is}, Replaced.{or_swap, inserted_key, replaced_by_withdrawal, replaced_in_join, replaced_withdrawn, replaced_amended, replaced_of_nothing}}}
+use Rattle.stn_records.{specs.{Content.{most_known, Content, Item, addition, withdrawal, replacement, HasItem, same_ids, known_ids, known_count, known_in_either, is_known, is_replaced, replaced_set, dispute_contents, joined_contents, part_of, plain, with_record, with_tombstone, with_amendment, no_content, AllAmend}, ContentLaws.{ids_total, ids_exact}, Id.{SiteCounter, id_cmp}, declared.record.Record.Record, MapLaws.get-union}, proofs.{Entries.{less_is, in_order}, Proper.retained_value, KnownIds.{fewer, same_count, member-append, known_member, known_fewer, keys_within}, Replaced.{or_swap, inserted_key, replaced_by_withdrawal, replaced_in_join, replaced_withdrawn, replaced_amended, replaced_of_nothing}}}
 use Rattle.std.specs.FinMap as fin
 
 keys_apart : {X : Type 0} (x : SiteCounter) (es : List (SiteCounter × X)) → below_all id_cmp x es ≡ true → AllByRecursion (λ y. same_ids x y ≡ false) (keys_of es)
@@ -20,17 +20,17 @@ within m s among =
     omega (arith, length-keys_of (fin.entries m), fewer)
 
 pub additions_within : (s : Content) → length (fin.entries s.additions) ≤ known_count s
-additions_within s = within s.additions s (λ q k. or_left _ _ k)
+additions_within s = search (rules, within)
 
 pub replaced_within : (s : Content) → length (fin.entries (replaced_set s)) ≤ known_count s
-replaced_within s = within (replaced_set s) s (λ q k. or_right _ _ k)
+replaced_within s = search (rules, within)
 
 -- an entry of an amendment belongs to a record
 pub replacements_within : (s : Content) → AllAmend s → length (fin.entries s.replacements) ≤ known_count s
-replacements_within s amends = search (rules, within, or_left)
+replacements_within s amends = search (rules, within)
 
 pub tombstones_within : (s : Content) → length (fin.entries s.tombstones) ≤ known_count s
-tombstones_within s = search (rules, within, replaced_by_withdrawal, gone)
+tombstones_within s = search (rules, within, replaced_by_withdrawal)
 
 -- and no more ids are known than both parts have entries
 pub known_within : (s : Content) → known_count s ≤ length (fin.entries s.additions) + length (fin.entries (replaced_set s))

@@ -1,5 +1,5 @@
 -- What each call leaves.
-use Rattle.std.{proofs.{Common.{rules, ◌≡◌, ◌≢◌, ◌<◌, ◌≤◌, ◌↔◌, Bool, true, false, cond, List, Some, None, is_some, Equal, sym, refl, ap, subst, ◌∙◌, inl, inr, ⊎_elim, arith, Result, OnOk, OnErr, IsTrue, le_trans}, lemmas.Bool.{false≢true, cases_lt, or_right}}, specs.{FinMap.{get-empty, get-retain_keys}, Set.is_member}}
+use Rattle.std.{proofs.{Common.{rules, ◌≡◌, ◌≢◌, ◌<◌, ◌≤◌, ◌↔◌, Bool, true, false, cond, List, Some, None, is_some, Equal, sym, refl, ap, subst, ◌∙◌, inl, inr, ⊎_elim, arith, Result, OnOk, OnErr, IsTrue, le_trans}, lemmas.Bool.{false≢true, or_right}}, specs.{FinMap.{get-empty, get-retain_keys}, Set.is_member}}
 use Rattle.std.specs.FinMap as fin
 use Rattle.stn_net.specs.Difference.{Difference}
 use Rattle.stn_records.{specs.{Id.{SiteCounter, id_cmp, same_ids}, Record.{IsProper, IsProperRecord}, declared.record.Record.Record, MapLaws.{get-union, either_value}, ContentLaws.{ids_total, ids_exact}, Content.{most_known, dispute_contents, content_taken, IsSound, IsAmendment, AllAmend, part_of, RecordMap, Content, addition, known_count, known_in_either, is_known, is_replaced, joined_contents, no_content, plain, with_record, with_tombstone, with_amendment}}, proofs.{OneItem.{gone, inserted_value, inserted_here, kept_value}, Replaced.{items_back, replaced_by_withdrawal}, Proper.{empty_fits, insert_fits, union_fits, retain_fits, retained_value}, Limits.{together, record_limited, tombstone_limited, part_limited, empty_limited}}}
@@ -77,10 +77,10 @@ pub known_by_replaced : (s : Content) (id : SiteCounter) → is_replaced s id �
 known_by_replaced s id e = or_right _ _ e
 
 pub known_by_tombstone : (s : Content) (id : SiteCounter) → fin.contains_key s.tombstones id ≡ true → is_known s id ≡ true
-known_by_tombstone s id e = known_by_replaced s id (replaced_by_withdrawal s id (gone (fin.get s.tombstones id) e))
+known_by_tombstone s id e = search (rules, replaced_by_withdrawal, gone)
 
 pub no_room_needed : (s : Content) (id : SiteCounter) → is_known s id ≡ true → is_known s id ≡ false → known_count s < most_known
-no_room_needed s id known unknown = absurd (false≢true (sym unknown ∙ known))
+no_room_needed s id known unknown = cc
 
 -- where not the most ids are known, there is room
 pub room_left : (s : Content) (full : Bool) → (IsTrue full ↔ (known_count s ≡ most_known)) → known_count s ≤ most_known → full ≡ false → known_count s < most_known

@@ -1,5 +1,5 @@
 -- What a search for an id finds, and what an edit at that place does.
-use Rattle.std.{proofs.{lemmas.{Grind.common_steps, Float.T_from_true, List.{get_or_default, Sorted.{searchable_from_sorted, list_any-IsPermutation}, Elements.{All-same, filter_agree}}, Bool.cases_lt}, Common.{rules, ◌≡◌, ◌<◌, Bool, Equal, ℕ, suc, is_ok, true, false, cond, List, [], ◌∷◌, length, get_or, Option, Some, None, Result, Ok, Err, IfOk, IfErr, filter, sym, refl, ap, subst, ◌∙◌, arith, ◌||◌, All}}, specs.{List.{insert, Sorted.{IsSearchInRange, IsBinarySearchResult, IsSorted, IsPermutation}}, Cmp.tied_back, Prelude.IsTrue, Set.is_member, FinMap.{FinMap, is_sorted, put, entries-from_sorted, get-from_sorted, get-entries, entries-insert, same_entries_map, same_map, get-retain_keys, empty_of_len, len-entries, Entries.{is_sorted-where_key, find-where_key}}}}
+use Rattle.std.{proofs.{lemmas.{Grind.common_steps, Float.T_from_true, List.{get_or_default, Sorted.{searchable_from_sorted, list_any-IsPermutation}, Elements.All-same}, Bool.cases_lt}, Common.{rules, ◌≡◌, ◌<◌, Bool, Equal, ℕ, suc, is_ok, true, false, cond, List, [], ◌∷◌, length, get_or, Option, Some, None, Result, Ok, Err, IfOk, IfErr, filter, sym, refl, ap, ◌∙◌, arith, All}}, specs.{List.{insert, Sorted.{IsSearchInRange, IsBinarySearchResult, IsSorted, IsPermutation}}, Cmp.tied_back, Prelude.IsTrue, Set.is_member, FinMap.{FinMap, is_sorted, put, entries-from_sorted, get-from_sorted, get-entries, entries-insert, same_entries_map, same_map, get-retain_keys, empty_of_len, len-entries, Entries.{is_sorted-where_key, find-where_key}}}}
 use Rattle.std.specs.FinMap as fin
 use Rattle.stn_records.{specs.{Id.{SiteCounter, id_cmp}, Sorted.{IsPlaceOf, IsGapFor, merge}, Maps.{union, AgreesAt, AllFit}, Content.same_ids, ContentLaws.{ids_total, ids_exact}}, proofs.{OneItem.again, Gets.get_from_entries, Entries.{T_true, in_order, less_back, greater_back, neighbours_rise, find_at, find_gap, put_gap, merge_entries}}}
 
@@ -32,14 +32,14 @@ module _ {X : Type 0} where
   map_of_sorted es sorted = entries-from_sorted id_cmp es (T_from_true _ sorted)
 
   pub entries_of_sorted : (es : List (SiteCounter × X)) (m : FinMap id_cmp X) → is_sorted id_cmp es ≡ true → fin.from_sorted es ≡ m → fin.entries m ≡ es
-  entries_of_sorted es m sorted is = ap fin.entries (sym is) ∙ map_of_sorted es sorted
+  entries_of_sorted es m sorted is = cc (map_of_sorted es sorted)
 
   -- a list that is the entries of a map makes that map, and is in order
   pub made_is : (es : List (SiteCounter × X)) (m : FinMap id_cmp X) → es ≡ fin.entries m → fin.from_sorted es ≡ m
-  made_is es m is = ap fin.from_sorted is ∙ same_entries_map _ m (map_of_sorted (fin.entries m) (in_order m))
+  made_is es m is = cc (same_entries_map _ m (map_of_sorted (fin.entries m) (in_order m)))
 
   pub made : (Fits : X → Type 0) (es : List (SiteCounter × X)) (m : FinMap id_cmp X) → es ≡ fin.entries m → AllFit Fits m → IsTrue (is_sorted id_cmp es) × AllFit Fits (fin.from_sorted {R = id_cmp} es)
-  made Fits es m is fits = (ap (is_sorted id_cmp) is ∙ in_order m, subst (AllFit Fits) (sym (made_is es m is)) fits)
+  made Fits es m is fits = search (rules, in_order, made_is)
 
   -- the values of a list in order are fit in its map
   pub listed_fits : (Fits : X → Type 0) (es seen : List (SiteCounter × X)) → seen ≡ es → is_sorted id_cmp es ≡ true → All (λ e. Fits e.1) seen → AllFit Fits (fin.from_sorted {R = id_cmp} es)
@@ -110,7 +110,4 @@ id_searched ids id sorted (Err at) in_range parted =
 
 -- sorted ids are the same ids, as they are read
 pub same_wanted : {X : Type 0} (es : List (SiteCounter × X)) (wanted copy sorted ids : List SiteCounter) → copy ≡ wanted → IsPermutation copy sorted → ids ≡ sorted → filter (λ e. is_member same_ids ids e.0) es ≡ filter (λ e. is_member same_ids wanted e.0) es
-same_wanted {X} es wanted copy sorted ids same moved is = filter_agree (λ e. is_member same_ids ids e.0) (λ e. is_member same_ids wanted e.0) by es
-  where
-    by : (e : SiteCounter × X) → is_member same_ids ids e.0 ≡ is_member same_ids wanted e.0
-    by e = ap (λ l. is_member same_ids l e.0) is ∙ sym (list_any-IsPermutation (same_ids e.0) copy sorted moved) ∙ ap (λ l. is_member same_ids l e.0) same
+same_wanted es wanted copy sorted ids same moved is = search (rules, list_any-IsPermutation)

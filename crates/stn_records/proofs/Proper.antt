@@ -1,5 +1,5 @@
 -- Which changes of a map keep its values fit.
-use Rattle.std.{proofs.{Common.{rules, ◌≡◌, Bool, cond, Option, Some, None, is_some, sym, ap, subst, ◌∙◌, ⊎_elim}, lemmas.Bool.false≢true}, specs.FinMap.{FinMap, get-empty, get-retain_keys}}
+use Rattle.std.{proofs.{Common.{rules, ◌≡◌, Bool, cond, Option, Some, None, is_some, sym, ap, ◌∙◌, ⊎_elim}, lemmas.Bool.false≢true}, specs.FinMap.{FinMap, get-empty, get-retain_keys}}
 use Rattle.std.specs.FinMap as fin
 use Rattle.stn_records.{specs.{Id.{SiteCounter, id_cmp}, Maps.{union, AllFit}, MapLaws.{get-union, either_value}, ContentLaws.{ids_total, ids_exact}}, proofs.OneItem.inserted_value}
 
@@ -17,7 +17,7 @@ module _ {X : Type 0} (Fits : X → Type 0) where
   union_fits a b p q id x e = ⊎_elim (p id x) (q id x) (either_value (fin.get a id) (fin.get b id) x (sym (get-union ids_total ids_exact a b id) ∙ e))
 
   pub insert_fits : (m : FinMap id_cmp X) (id : SiteCounter) (x : X) → AllFit Fits m → Fits x → AllFit Fits (fin.insert m id x)
-  insert_fits m id x p q other y e = ⊎_elim (λ here. subst Fits here.1 q) (p other y) (inserted_value m id x other y e)
+  insert_fits m id x p q other y e = search (rules, inserted_value)
 
   pub retain_fits : (m : FinMap id_cmp X) (p : SiteCounter → Bool) → AllFit Fits m → AllFit Fits (fin.retain_keys m p)
   retain_fits m p h id x e = h id x (retained_value m p id x e)

@@ -1,5 +1,5 @@
 -- An id that is replaced is withdrawn, or some record replaces it.
-use Rattle.std.{proofs.{Common.{rules, ◌≡◌, ◌⊎◌, inl, inr, ⊎_elim, Bool, true, false, cond, ◌||◌, List, [], ◌∷◌, map, ℕ, ◌+◌, ◌<◌, get_or, drop, Option, Some, None, is_some, length, sym, refl, ap, subst, ◌∙◌, All}, lemmas.{Bool.{false≢true, or_left, or_right, or_cases, Decides.same_from_decides}, List.{drop_more, Elements.{All-head, All-tail}}, Option.same_Some}, Math.Bool.or_assoc}, specs.{Ordering.eq_by_cmp, FinMap.{get-insert, get-entries}, Set.is_member, Option.option_or}}
+use Rattle.std.{proofs.{Common.{rules, ◌≡◌, ◌⊎◌, inl, inr, ⊎_elim, Bool, true, false, cond, ◌||◌, List, [], ◌∷◌, map, ℕ, ◌+◌, ◌<◌, get_or, drop, Option, Some, None, is_some, length, sym, refl, ap, subst, ◌∙◌, All}, lemmas.{Bool.{false≢true, or_left, or_right, or_cases}, List.{drop_more, Elements.{All-head, All-tail}}, Option.same_Some}, Math.Bool.or_assoc}, specs.{Ordering.eq_by_cmp, FinMap.{get-insert, get-entries}, Set.is_member, Option.option_or}}
 use Rattle.std.specs.FinMap as fin
 use Rattle.stn_records.{specs.{Id.{SiteCounter, id_cmp, same_ids}, Maps.union, MapLaws.get-union, Content.{Content, Item, IdSet, ReplacementMap, withdrawal, replacement, HasItem, dispute_contents, joined_contents, is_replaced, replaced_set, with_ids, with_tombstone, with_amendment}, ContentLaws.{ids_total, ids_exact, ids_decide, contents_join, contents_undisputed}}, proofs.{Gets.entries_from_get, Places.nothing_listed, OneItem.{gone, inserted_value, inserted_here, kept_value}}}
 use Rattle.stn_net.specs.Difference.{Difference}
@@ -54,7 +54,7 @@ replaced_fewer s t h q e = ⊎_elim
 
 -- two tests that imply each other are one
 pub same_tests : (b c : Bool) → (b ≡ true → c ≡ true) → (c ≡ true → b ≡ true) → b ≡ c
-same_tests b c f g = same_from_decides {P = c ≡ true} b c (f, g) (λ e. e, λ e. e)
+same_tests b c f g = search rules
 
 -- sets with the same ids are one
 pub same_sets : (a b : IdSet) → ((q : SiteCounter) → fin.contains_key a q ≡ fin.contains_key b q) → a ≡ b
@@ -108,7 +108,7 @@ put_next all new es i e within is = search (rules, put_before, drop_more)
 
 -- with one more id withdrawn
 pub replaced_withdrawn : (s : Content) (id : SiteCounter) → fin.insert (replaced_set s) id tt ≡ replaced_set (with_tombstone s id)
-replaced_withdrawn s id = put_before s.tombstones (fin.values s.replacements) id
+replaced_withdrawn s id = search (rules, put_before)
 
 -- with one more amendment, whose id replaces no other id
 pub replaced_amended : (s : Content) (id old : SiteCounter) (bound : Difference) → ((z : SiteCounter) → fin.get s.replacements id ≡ Some z → z ≡ old) → fin.insert (replaced_set s) old tt ≡ replaced_set (with_amendment s id old bound)

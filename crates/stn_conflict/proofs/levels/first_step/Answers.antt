@@ -13,7 +13,7 @@ returns-then-is_step g c =
     let look : Look = c.look-item.result in
     let into = c.across-into.ensures in
     let step : IsLevelStep searched.bounds start (across look.link) = rw into at (c.is_step.ensures.0 c.if-is_step.true) in
-    rw into (first_in_row searched start c.args.event index looks c.requires.whole is look c.loop-look-test.true (sym c.look-item.is) c.loop-look.invariant step)
+    rw into (first_in_row searched start c.args.event index looks c.requires.whole is c.loop-look-test.true (sym c.look-item.is) c.loop-look.invariant step)
 
 pub is_step-requires-clause-there : goal.is_step-requires-clause-there
 is_step-requires-clause-there g c = search rules
@@ -22,7 +22,7 @@ pub loop-look-preserved : goal.loop-look-preserved
 loop-look-preserved g c =
     let searched = c.args.graph.now in
     let into = c.across-into.ensures in
-    passed_more searched.bounds c.args.start c.loop-look.look-index c.row-look-items.result.now c.look-item.result c.loop-look-test.true (sym c.look-item.is)
+    passed_more c.row-look-items.result.now c.loop-look-test.true (sym c.look-item.is)
     (λ step. false≢true (sym c.if-is_step.false ∙ c.is_step.ensures.1 (rw into step))) c.loop-look.invariant
 
 pub returns : goal.returns

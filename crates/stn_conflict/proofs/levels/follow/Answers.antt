@@ -4,11 +4,11 @@ use Rattle.stn_conflict.proofs.levels.follow.Goals as goal
 
 -- the event at the place
 place_is : (g : Over) (c : After-from-event g) → c.from-event.result ≡ event_at c.args.walk.now.reached.items c.args.place
-place_is g c = c.from-event.ensures ∙ c.number.ensures.value ∙ get_or_read c.args.walk.now.reached.items _ _ c.requires.there c.index.ensures 0
+place_is g c = cc (get_or_read c.args.walk.now.reached.items _ _ c.requires.there c.index.ensures 0)
 
 -- is one of those that have a level
 reached : (g : Over) (c : After-from-event g) → (i : ℕ) × (c.from-event.result < length c.args.far.now) × (level_at c.args.walk.now.levels.items c.from-event.result ≡ Some i)
-reached g c = reached_at c.args.graph.now.bounds c.args.start (length c.args.far.now) c.args.place c.args.place c.from-event.result c.args.walk.now c.requires.walk c.requires.there (place_is g c)
+reached g c = reached_at c.requires.walk c.requires.there (place_is g c)
 
 pub index-requires-2 : goal.index-requires-2
 index-requires-2 g c =
@@ -34,7 +34,7 @@ loop-look-init g c =
     let (i, within, at) = reached g at_place in
     let below : c.from-event.result < length walk.levels.items = omega (arith, within, c.requires.walk.whole) in
     let entry = get_or_read walk.levels.items _ _ below c.index-2.ensures None in
-    following_begins c.args.graph.now.bounds c.args.start (length c.args.far.now) c.args.place c.unwrap-level.result c.from-event.result _ walk c.requires.walk c.requires.there (sym (place_is g at_place))
+    following_begins c.requires.walk c.requires.there (sym (place_is g at_place))
     (sym entry ∙ c.unwrap-level.ensures) refl
 
 pub overflow_add-level : goal.overflow_add-level
@@ -42,7 +42,7 @@ overflow_add-level g c = omega (arith, level_low)
 
 -- the look whose turn it is
 looked : (g : Over) (c : After-look-item g) → IsLook c.args.graph.now.bounds c.from-event.result c.look-item.result
-looked g c = c.row-look-items.ensures.each c.look-item.result (c.loop-look.look-index, c.loop-look-test.true, sym c.look-item.is)
+looked g c = search rules
 
 pub leads_on-requires : goal.leads_on-requires
 leads_on-requires g c = search rules
@@ -68,17 +68,17 @@ loop-look-preserved g c =
     rw more (elim c.if-leads_on.branch [
       | then-leads_on+in_ok-push w ↦
           let leads : LeadsOn bounds start (level_at old.levels.items) look.link = rw c.deref.ensures.value at (c.leads_on.ensures.0 w.if-leads_on.true) in
-          let ends = link_among bounds count look.link c.requires.far.named is.there in
+          let ends = link_among bounds look.link c.requires.far.named is.there in
           let end : w.from.result ≡ look.to = w.from.ensures ∙ w.number-then-leads_on.ensures.value in
           let to : w.from.result ≡ (arc_of bounds look.link).to = end ∙ sym is.to in
-          following_reaches bounds start count c.args.place level event w.from.result (take index looks) old new look h leads is.from to (rw to ends.1)
+          following_reaches look h leads is.from to (rw to ends.1)
           (ap (λ (v : Walk g.row.A.Denot). v.levels.items) w.walk-is)
           (ap (λ (v : Walk g.row.A.Denot). v.reached.items) w.walk-is ∙ w.in_ok-push.ensures.items ∙ ap (λ z. old.reached.items ++ z ∷ []) (sym end))
-      | else-leads_on w ↦ rw w.walk-is (following_passes bounds start count c.args.place level event (take index looks) old look h
+      | else-leads_on w ↦ rw w.walk-is (following_passes look h
           (λ leads. false≢true (sym w.if-leads_on.false ∙ c.leads_on.ensures.1 (rw c.deref.ensures.value leads))))
     ])
 
 pub returns : goal.returns
 returns g c =
-    following_ends c.args.graph.now c.args.start (length c.args.far.now) c.args.place c.unwrap-level.result c.from-event.result c.row-look-items.result.now c.loop-look.walk c.requires.whole c.row-look-items.ensures
+    following_ends c.requires.whole c.row-look-items.ensures
     (rw (take_all c.loop-look.look-index c.row-look-items.result.now c.loop-look-test.false) at c.loop-look.invariant)

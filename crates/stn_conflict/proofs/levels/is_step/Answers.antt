@@ -15,7 +15,7 @@ ends g c = search rules
 
 pub unwrap-begin-requires : goal.unwrap-begin-requires
 unwrap-begin-requires g c =
-    let (begin_there, _) = link_among c.args.graph.now.bounds (length c.args.far.now) c.args.link c.requires.far.named c.requires.there in
+    let (begin_there, _) = link_among c.args.graph.now.bounds c.args.link c.requires.far.named c.requires.there in
     let (level, at) = c.requires.levels.levels.every _ begin_there in
     rw (c.from.ensures ∙ c.number.ensures.value ∙ c.arc-arc.ensures.from, at) refl
 
@@ -28,7 +28,7 @@ pub returns-then-begin-end : goal.returns-then-begin-end
 returns-then-begin-end g c =
     let levels = level_at c.args.levels.now in
     let e = ends g (goal.at.returns-then-begin-end g c).After-from-2 in
-    let told = step_told c.args.graph.now.bounds c.args.start (length c.args.far.now) levels c.args.link c.unwrap-begin.result c.unwrap-end.result c.requires.levels.levels
+    let told = step_told c.requires.levels.levels
     (ap levels (sym e.begin_is) ∙ c.unwrap-begin.ensures) (ap levels (sym e.end_is) ∙ c.unwrap-end.ensures) in
     (λ t. told.1 (c.is_tight.ensures.0 t, omega (arith, c.if-begin-end.true)), λ step. c.is_tight.ensures.1 step.tight)
 
@@ -36,6 +36,6 @@ pub returns-else-begin-end : goal.returns-else-begin-end
 returns-else-begin-end g c =
     let levels = level_at c.args.levels.now in
     let e = ends g (goal.at.returns-else-begin-end g c).After-from-2 in
-    let told = step_told c.args.graph.now.bounds c.args.start (length c.args.far.now) levels c.args.link c.unwrap-begin.result c.unwrap-end.result c.requires.levels.levels
+    let told = step_told c.requires.levels.levels
     (ap levels (sym e.begin_is) ∙ c.unwrap-begin.ensures) (ap levels (sym e.end_is) ∙ c.unwrap-end.ensures) in
     (λ t. absurd (omega (arith, c.if-begin-end.false, eqb-true _ _ t)), λ step. absurd (omega (arith, c.if-begin-end.false, (told.0 step).1)))

@@ -6,9 +6,9 @@ pub loop-place-init : goal.loop-place-init
 loop-place-init g c =
     let items = c.in_ok-vec.ensures.items_if_clones_equal (search rules) in
     let place : c.from.result ≡ c.args.start = c.from.ensures ∙ c.number.ensures.value in
-    walk_of_start c.args.graph.now.bounds c.args.start (length c.args.far.now) _ c.requires.far.start_named (rw (items, place) refl) (search rules)
+    walk_of_start c.requires.far.start_named (rw (items, place) refl) (search rules)
 
 pub returns : goal.returns
 returns g c =
     let h = c.loop-place.invariant in
-    levels_of_walk c.args.graph.now.bounds c.args.far.now c.args.start c.loop-place.place c.loop-place.walk.levels.items c.loop-place.walk.reached.items c.requires.far h.whole h.counted h.steps (omega (arith, c.loop-place-test.false, c.len.ensures))
+    levels_of_walk c.requires.far h.whole h.counted h.steps (omega (arith, c.loop-place-test.false, c.len.ensures))

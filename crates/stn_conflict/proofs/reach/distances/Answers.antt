@@ -3,5 +3,4 @@ use Rattle.stn_conflict.proofs.Turned.{distances_of_turned}
 use Rattle.stn_conflict.proofs.reach.distances.Goals as goal
 
 pub returns-in-Some-2-clause-to : goal.returns-in-Some-2-clause-to
-returns-in-Some-2-clause-to g c =
-    distances_of_turned (c.args.base.now ++ c.args.extra.now) c.args.events c.args.event c.in-Some-2.to.items (rw c.in-Some-2.is at c.in_ok-to.ensures)
+returns-in-Some-2-clause-to g c = distances_of_turned (rw c.in-Some-2.is at c.in_ok-to.ensures)

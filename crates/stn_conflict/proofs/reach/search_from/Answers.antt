@@ -4,8 +4,8 @@ use Rattle.stn_conflict.proofs.reach.search_from.Goals as goal
 
 pub found-requires-clause-network : goal.found-requires-clause-network
 found-requires-clause-network g c =
-    rw (c.new-graph.ensures, c.in_ok-rows.ensures.first.faced) (network_facing c.args.direction c.args.events (c.args.base.now ++ c.args.extra.now)
-    (network_of c.args.events c.args.base.now c.args.extra.now c.requires.begins c.requires.base_named c.requires.extra_named))
+    rw (c.new-graph.ensures, c.in_ok-rows.ensures.first.faced) (network_facing c.args.direction
+    (network_of c.args.base.now c.args.extra.now c.requires.begins c.requires.base_named c.requires.extra_named))
 
 pub returns-in-Some : goal.returns-in-Some
 returns-in-Some g c =
@@ -14,4 +14,4 @@ returns-in-Some g c =
 
 pub returns-in-None : goal.returns-in-None
 returns-in-None g c = λ has.
-    (rw (c.in-None.is, c.new-graph.ensures, c.in_ok-rows.ensures.first.faced) at c.in_ok-search.ensures) (has_facing c.args.direction (c.args.base.now ++ c.args.extra.now) has)
+    (rw (c.in-None.is, c.new-graph.ensures, c.in_ok-rows.ensures.first.faced) at c.in_ok-search.ensures) (has_facing c.args.direction has)

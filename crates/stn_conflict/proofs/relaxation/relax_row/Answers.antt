@@ -29,16 +29,16 @@ loop-look-preserved g c =
     let t = tried c.args.graph.now start c.args.event c.index-far-event.result c.look-item.result old c.loop-look.by c.loop-look.fresh new fresh h.begun is most still ok.met in
     let relaxed : (k : ℕ) (look : Look) → k < index + 1 → slice_index_or looks k look ≡ look → IsRelaxedOf bounds new fresh look.link = λ k look below at.
     elim (cases_lt k index) [
-      | inl before ↦ λ stale. still_relaxed bounds start look.link old c.loop-look.fresh new fresh t.lowers t.freshens stale (h.relaxed k look before at)
+      | inl before ↦ λ stale. still_relaxed look.link t.lowers t.freshens stale (h.relaxed k look before at)
       | inr past ↦
           let here : k ≡ index = omega arith in
           let same : c.look-item.result ≡ look = c.look-item.is ∙ get_or_default looks index c.look-item.result look c.loop-look-test.true ∙ subst (λ n. slice_index_or looks n look ≡ look) here at in
           rw same at t.relaxed
     ] in
     record {
-      begun = begun_on _ _ _ h.begun ok.tables t.own;
+      begun = begun_on h.begun ok.tables t.own;
       lowers = lowers_on bounds start c.args.far.now old new h.lowers t.lowers;
-      freshens = freshens_on bounds start c.args.far.now old new h.lowers t.lowers c.args.fresh.now c.loop-look.fresh fresh h.freshens t.freshens;
+      freshens = freshens_on bounds start c.args.far.now old new h.lowers t.lowers h.freshens t.freshens;
       relaxed = relaxed;
     }
 
@@ -48,9 +48,9 @@ returns-in_err-relax g c =
     let none = c.in_err-relax.ensures.refused refl in
     let (is, most, still) = begins g (goal.at.returns-in_err-relax g c).After-relax in
     record {
-      begun = begun_on _ _ _ h.begun c.relax.ensures.tables (rw none.far_is h.begun.own);
+      begun = begun_on h.begun c.relax.ensures.tables (rw none.far_is h.begun.own);
       lowers = rw none.far_is h.lowers;
       freshens = rw (none.far_is, none.fresh_is) h.freshens;
-      refused = λ _ low floor. tried_refused _ _ _ _ _ _ _ _ _ _ h.begun is most still none low (h.lowers.floors low floor);
+      refused = λ _ low floor. tried_refused _ _ _ _ _ _ _ _ _ _ h.begun is most still none (h.lowers.floors low floor);
       relaxed = IfOk-from_err _ _ c.from_residual.ensures.0;
     }

@@ -7,7 +7,7 @@ cycle_of-requires-clause-begins g c = rw (c.new-graph.ensures, c.in_ok-rows.ensu
 
 pub cycle_of-requires-clause-named : goal.cycle_of-requires-clause-named
 cycle_of-requires-clause-named g c =
-    rw (c.new-graph.ensures, c.in_ok-rows.ensures.first.faced) (network_of c.args.events c.args.base.now c.args.extra.now c.requires.begins c.requires.base_named c.requires.extra_named).named
+    rw (c.new-graph.ensures, c.in_ok-rows.ensures.first.faced) (network_of c.args.base.now c.args.extra.now c.requires.begins c.requires.base_named c.requires.extra_named).named
 
 pub cycle_of-requires-clause-kept : goal.cycle_of-requires-clause-kept
 cycle_of-requires-clause-kept g c = rw c.new-graph.ensures (omega (arith, c.in_ok-rows.ensures.first.choice, known_within c.args.events c.args.base.now c.requires.begins))
@@ -16,7 +16,7 @@ pub returns : goal.returns
 returns g c =
     let bounds = c.args.base.now ++ c.args.extra.now in
     let found = rw (c.new-graph.ensures, c.in_ok-rows.ensures.first.faced) at c.cycle_of.ensures in
-    let told = told_of_cycle bounds c.args.events c.cycle_of.result found in
+    let told = told_of_cycle c.cycle_of.result found in
     record {
       none = found_none c.cycle_of.result _ _ found (λ cycle is. negative_no_schedule bounds _ is.negative);
       named = told _ (λ cycle is. is.named);

@@ -10,13 +10,13 @@ settle-requires g c =
     let graph = c.args.graph.now in
     rw c.before-in-loop-high.ensures (record {
       kept = c.requires.kept;
-      network = network_before graph.events middle graph.bounds (omega (arith, h.past)) c.requires.begins c.requires.named;
+      network = network_before graph.bounds (omega (arith, h.past)) c.requires.begins c.requires.named;
       search = record {
         tables = record { few = h.tables.few; far = ap length items ∙ h.long; by = h.tables.by; among = h.tables.among; fresh = h.tables.fresh };
         from = refl;
-        estimates = rw items (estimates_more (take c.loop-high.low graph.bounds) (take middle graph.bounds) c.loop-high.search.start c.loop-high.known
-            (All-take (NamesAmong (length c.loop-high.known)) middle graph.bounds (among_events graph.bounds graph.events (length c.loop-high.known) h.long c.requires.named))
-            (λ time. schedule_earlier graph.bounds c.loop-high.low middle time (omega arith)) h.known);
+        estimates = rw items (estimates_more
+            (All-take (NamesAmong (length c.loop-high.known)) middle graph.bounds (among_events graph.bounds h.long c.requires.named))
+            (λ time. schedule_earlier graph.bounds (omega arith)) h.known);
       };
     })
 

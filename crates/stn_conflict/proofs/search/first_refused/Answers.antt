@@ -7,11 +7,11 @@ settle-requires g c =
     let graph = c.args.graph.now in
     record {
       kept = c.requires.kept;
-      network = network_known graph.events graph.bounds c.requires.begins c.requires.named;
+      network = network_known c.requires.begins c.requires.named;
       search = record {
         tables = rw c.requires.tables.far at c.begin.ensures.tables;
         from = refl;
-        estimates = rw c.begin.ensures.start (c.begin.ensures.estimates graph.bounds graph.events c.requires.tables.far (network_known graph.events graph.bounds c.requires.begins c.requires.named));
+        estimates = rw c.begin.ensures.start (c.begin.ensures.estimates graph.bounds graph.events c.requires.tables.far (network_known c.requires.begins c.requires.named));
       };
     }
 
@@ -27,7 +27,7 @@ first_between-requires g c =
       named = c.requires.named;
       tables = c.settle.ensures.search.tables;
       known = rw start (c.begin.ensures.estimates (take c.args.graph.now.events bounds) c.args.graph.now.events c.requires.tables.far
-          (network_before c.args.graph.now.events c.args.graph.now.events bounds (omega arith) c.requires.begins c.requires.named));
+          (network_before bounds (omega arith) c.requires.begins c.requires.named));
       long = long;
       none = λ has. false≢true (sym c.if-settle.false ∙ c.settle.ensures.possible.1 has);
     })

@@ -8,7 +8,7 @@ refused_side-side-requires g c =
     let first = c.requires.first in
     record {
       kept = c.requires.kept;
-      network = network_before c.args.graph.now.events c.args.place c.args.graph.now.bounds first.past c.requires.begins c.requires.named;
+      network = network_before c.args.graph.now.bounds first.past c.requires.begins c.requires.named;
       tables = c.requires.tables;
       there = first.there;
       named = c.requires.named c.args.place _ first.there;
@@ -28,7 +28,7 @@ returns g c =
     let far = side.new.search.far.items in
     let arc = c.arc-arc.ensures in
     let exact = side.ensures.distances in
-    let below = (link_among bounds (length far) link (among_events bounds c.args.graph.now.events _ side.ensures.tables.far c.requires.named) first.there).0 in
+    let below = (link_among bounds link (among_events bounds side.ensures.tables.far c.requires.named) first.there).0 in
     let place : c.from.result ≡ (arc_of bounds link).from = c.from.ensures ∙ c.number.ensures.value ∙ arc.from in
     let read : c.index.result.now ≡ times_of far (arc_of bounds link).from = get_or_read far _ _ (rw place below) c.index.ensures (pos 0) ∙ ap (times_of far) place in
     let (wl, wh) = c.get.ensures.within in
@@ -39,6 +39,6 @@ returns g c =
     let culprit : IsCulprit bounds link = record { there = first.there; before = first.before; refused = first.refused; side = side.ensures.side } in
     rw reversed (cycle_of_way bounds link (reverse links) _ (times_of far (arc_of bounds link).from) arc.ordered
     (exact.tightest (arc_of bounds link).to exact.start_named) (exact.tightest (arc_of bounds link).from below)
-    (culprit, rw (c.before-before.ensures, arc.to, arc.from) at c.in_ok-links.ensures.way) c.args.graph.now.events _ (omega (arith, ints))
+    (culprit, rw (c.before-before.ensures, arc.to, arc.from) at c.in_ok-links.ensures.way) (omega (arith, ints))
     (omega (arith, length-reverse links, c.in_ok-links.ensures.short, ap length c.deref.ensures.value, side.ensures.tables.far))
     (omega (arith, ints)))

@@ -4,7 +4,7 @@ use Rattle.stn_conflict.{specs.{Arcs.bound_at, Relaxation.{AreDistances, Searche
 use Rattle.stn_conflict.proofs.search.refused_side.Goals as goal
 
 pub find-requires : goal.find-requires
-find-requires g c = rw c.before-before.ensures (record { tables = c.requires.tables; kept = c.requires.kept; network = c.requires.network; start = rw c.arc-upper.ensures.to c.requires.named.to })
+find-requires g c = search rules
 
 pub find-requires-2 : goal.find-requires-2
 find-requires-2 g c = search rules

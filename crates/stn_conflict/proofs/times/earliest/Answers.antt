@@ -9,5 +9,5 @@ returns-in_ok-opposite-in-Some g c =
     let found : AreDistancesFrom (map turned bounds) c.args.events 0 far = rw (c.in-Some.is, c.origin.ensures) at c.in_ok-far.ensures in
     let times : c.in_ok-opposite-in-Some.field-0.items ≡ map neg_ℤ far = c.in_ok-opposite-in-Some.ensures ∙ ap (map neg_ℤ) c.deref.ensures.value in (
       ap length times ∙ length-map far neg_ℤ ∙ found.long,
-      rw times (earliest_opposite bounds c.args.events far (distances_of_turned bounds c.args.events 0 far found)),
+      rw times (earliest_opposite (distances_of_turned found)),
     )

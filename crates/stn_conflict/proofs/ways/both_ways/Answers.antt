@@ -1,17 +1,17 @@
-use Rattle.std.proofs.Common.{arith}
+use Rattle.std.proofs.Common.{rules}
 use Rattle.stn_conflict.proofs.{Known.known_within, Relaxing.{network_of}}
 use Rattle.stn_conflict.proofs.ways.both_ways.Goals as goal
 
 pub way-requires-clause-network : goal.way-requires-clause-network
 way-requires-clause-network g c =
-    rw (c.new-graph.ensures, c.in_ok-rows.ensures.first.faced) (network_of c.args.events c.args.base.now c.args.extra.now c.requires.begins c.requires.base_named c.requires.extra_named)
+    rw (c.new-graph.ensures, c.in_ok-rows.ensures.first.faced) (network_of c.args.base.now c.args.extra.now c.requires.begins c.requires.base_named c.requires.extra_named)
 
 pub way-requires-2-clause-network : goal.way-requires-2-clause-network
 way-requires-2-clause-network g c =
-    rw (c.new-graph.ensures, c.in_ok-rows.ensures.first.faced) (network_of c.args.events c.args.base.now c.args.extra.now c.requires.begins c.requires.base_named c.requires.extra_named)
+    rw (c.new-graph.ensures, c.in_ok-rows.ensures.first.faced) (network_of c.args.base.now c.args.extra.now c.requires.begins c.requires.base_named c.requires.extra_named)
 
 pub way-requires-clause-kept : goal.way-requires-clause-kept
-way-requires-clause-kept g c = rw c.new-graph.ensures (omega (arith, c.in_ok-rows.ensures.first.choice, known_within c.args.events c.args.base.now c.requires.begins))
+way-requires-clause-kept g c = search (rules, known_within)
 
 pub way-requires-2-clause-kept : goal.way-requires-2-clause-kept
-way-requires-2-clause-kept g c = rw c.new-graph.ensures (omega (arith, c.in_ok-rows.ensures.first.choice, known_within c.args.events c.args.base.now c.requires.begins))
+way-requires-2-clause-kept g c = search (rules, known_within)

@@ -10,7 +10,7 @@ taken g c = search rules
 lower : (g : Over) (c : goal.In_ok-push g) → (level : ℕ) × (level_at c.in_ok-levels.levels.items (arc_of c.args.graph.now.bounds c.in-Some.link).from ≡ Some level)
     × (level_at c.in_ok-levels.levels.items c.loop-link.here ≡ Some (suc level))
 lower g c =
-    lower_by_one c.args.graph.now.bounds c.args.start (length c.args.far.now) c.loop-link.here (level_at c.in_ok-levels.levels.items) c.in-Some.link
+    lower_by_one
     c.in_ok-levels.ensures.levels (taken g c)
 
 pub arc-here-requires : goal.arc-here-requires
@@ -34,9 +34,9 @@ loop-link-preserved g c =
     let from = c.arc-here.ensures.from in
     let items = c.in_ok-push.ensures.items in
     let h = c.loop-link.invariant in
-    let (chain, all) = chain_before_way bounds c.args.start c.loop-link.here c.args.end links link step.first step.ends h.chain h.first in
+    let (chain, all) = chain_before_way c.args.end links step.first step.ends h.chain h.first in
     record {
-      within = rw from (link_among bounds (length c.args.far.now) link c.requires.far.named step.first.step.tight.there).0;
+      within = rw from (link_among bounds link c.requires.far.named step.first.step.tight.there).0;
       chain = rw (items, from) chain;
       first = rw items all;
       short = λ level at. omega (arith, ap length items, length_push links link, some_same _ level k (sym (ap (level_at levels) from) ∙ at) low, h.short _ high);
@@ -48,8 +48,8 @@ returns g c =
     let levels = c.in_ok-levels.levels.items in
     let h = c.loop-link.invariant in
     let none = MatchOption-at_none (HasNoStep bounds c.args.start c.loop-link.here) (IsFirstStepTo bounds c.args.start c.loop-link.here) c.in_default.is c.first_step.ensures in
-    let ended : c.loop-link.here ≡ c.args.start = at_start bounds c.args.start (length c.args.far.now) c.loop-link.here (level_at levels) c.in_ok-levels.ensures.levels none h.within in
-    let at = (c.in_ok-levels.ensures.levels.level c.args.start 0).1 (level_of_start bounds c.args.start) in
+    let ended : c.loop-link.here ≡ c.args.start = at_start c.in_ok-levels.ensures.levels none h.within in
+    let at = (c.in_ok-levels.ensures.levels.level c.args.start 0).1 (level_of_start) in
     record {
       way = record {
         chain = rw ended at h.chain;

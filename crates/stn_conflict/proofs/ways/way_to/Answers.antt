@@ -13,5 +13,5 @@ returns g c =
     let below : c.from.result < length far = rw place c.requires.end in
     let value : c.get.result ≡ times_of far c.args.end = c.get.ensures.value ∙ get_or_read far _ _ below c.index-far-from.is (pos 0) ∙ ap (times_of far) place in
     let (low, high) = c.get.ensures.within in
-    rw c.reverse.ensures.items (told_of_way bounds c.args.start c.args.end (length far) (reverse links) _ (times_of far c.args.end) _ (omega (arith, ints)) (omega (arith, ints), omega (arith, ints))
+    rw c.reverse.ensures.items (told_of_way (omega (arith, ints)) (omega (arith, ints), omega (arith, ints))
     (h.tightest c.args.start h.start_named) (h.tightest c.args.end c.requires.end) c.in_ok-links.ensures.way (omega (arith, length-reverse links, c.in_ok-links.ensures.short)))

@@ -1,9 +1,9 @@
-use Rattle.std.proofs.{Common.{rules, sym, ◌∙◌, arith, length-append}, lemmas.{Grind.common_steps, List.length-map, Map.Made.distinct_count-le}}
+use Rattle.std.proofs.{Common.{rules, sym, ◌∙◌, arith}, lemmas.{Grind.common_steps, List.length-map, Map.Made.distinct_count-le}}
 use Rattle.stn_records.proofs.Counts.{one_counted, none_left}
 use Rattle.stn_records.proofs.sorted.count_ids.Goals as goal
 
 pub overflow_add-count : goal.overflow_add-count
-overflow_add-count g c = grind (arith, common_steps, distinct_count-le, length-append, length-map)
+overflow_add-count g c = grind (arith, common_steps, distinct_count-le, length-map)
 
 -- one id is passed
 pub loop-id-smaller : goal.loop-id-smaller

@@ -1,9 +1,9 @@
-use Rattle.std.proofs.Common.{cond, eqb, sym, ap, ◌∙◌, ltb-true, ltb-false}
+use Rattle.std.proofs.Common.{rules, cond, eqb, sym, ap, ◌∙◌, ltb-true}
 use Rattle.stn_records.proofs.Counters.{counter_of_last, counter_of_none}
 use Rattle.stn_records.proofs.sorted.greatest_counter.Goals as goal
 
 pub returns-in_default : goal.returns-in_default
-returns-in_default g c = counter_of_none c.args.site c.args.entries.now c.end_of.result c.end_of.ensures (ltb-false _ _ (sym c.in_default.ensures.item.0))
+returns-in_default g c = search (rules, counter_of_none)
 
 pub returns-then-eq : goal.returns-then-eq
 returns-then-eq g c =

@@ -1,4 +1,4 @@
-use Rattle.std.proofs.{lemmas.Grind.common_steps, Common.{arith, [], inl, inr, append_assoc}}
+use Rattle.std.proofs.Common.{arith, inl, inr, append_assoc}
 use Rattle.stn_records.{specs.{Id.id_cmp, Sorted.merge}, proofs.{Entries.merge_ends, sorted.merged.Goals.{in_default, in_default-2, in-Less, in-Equal, in-Greater}}}
 use Rattle.stn_records.proofs.sorted.merged.Goals as goal
 
@@ -11,4 +11,4 @@ returns g c =
 
 -- the next entry is pushed
 pub loop-our-preserved : goal.loop-our-preserved
-loop-our-preserved g c = grind (arith, common_steps, in-Less, in-Equal, in-Greater, append_assoc)
+loop-our-preserved g c = grind (arith, in-Less, in-Equal, in-Greater, append_assoc)

@@ -12,8 +12,8 @@ returns g c =
     let long = length_facing direction (take s.end (s.base.now ++ s.extra.now)) in
     let place : link.place < length (s.base.now ++ s.extra.now) = omega (arith, c.requires, ap (λ (v : Searched). length v.bounds) c.self.view_is, long, length-take s.end (s.base.now ++ s.extra.now)) in
     let is : faced direction c.bound_in-bound.result ≡ bound_at c.args.self.now.bounds link.place =
-    ap (faced direction) c.bound_in-bound.ensures ∙ sym (bound_facing direction all link.place place)
-    ∙ sym (bound_listed direction all c.args.self.now.bounds s.end link.place (ap (λ (v : Searched). v.bounds) c.self.view_is) c.requires) in
+    ap (faced direction) c.bound_in-bound.ensures ∙ sym (bound_facing direction all place)
+    ∙ sym (bound_listed direction all s.end (ap (λ (v : Searched). v.bounds) c.self.view_is) c.requires) in
     record {
       from = e.from ∙ ap (λ b. (arc b link.side).from) is;
       to = e.to ∙ ap (λ b. (arc b link.side).to) is;

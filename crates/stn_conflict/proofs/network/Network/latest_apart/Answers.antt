@@ -10,7 +10,7 @@ invariant_of-self-then-not-branch g c =
     let e = rw c.deref.ensures.value at c.extend.ensures in
     let counted : c.extend.new.latest.fresh.len ≡ is.events + 1 = search rules ∙ e.late.tables.fresh in
     let filled : c.fill.new.self.items ≡ replicate (is.events + 1) true = rw counted at (c.fill.ensures.items (λ _ e. e)) in
-    record { few = old.few; network = old.network; first = e.rows; pending = pending_all is.events is.bounds.items c.extend.new.latest e.late c.fill.new.self old.network filled; tables = old.tables }
+    record { few = old.few; network = old.network; first = e.rows; pending = pending_all is.events is.bounds.items c.extend.new.latest e.late old.network filled; tables = old.tables }
 
 pub invariant_of-self-2 : goal.invariant_of-self-2
 invariant_of-self-2 g c =
@@ -26,7 +26,7 @@ returns-clause-taken g c =
     let bounds = c.args.self.now.bounds in
     let whole : c.deref.result.now ≡ bounds = c.deref.ensures.value ∙ ap (λ (l : ListedBounds). l.bounds) c.self.view_is in
     let exact : AreDistances bounds 0 far = rw whole at (c.in_ok-extend.ensures.distances c.if-not-branch.false) in
-    let taken = distances_taken bounds 0 far c.args.from c.args.to exact in
+    let taken = distances_taken {from = c.args.from} {to = c.args.to} exact in
     let long : length far ≡ c.self.inside.events + 1 = c.extend.ensures.late.tables.far in
     let events = ap (λ (l : ListedBounds). l.events) c.self.view_is in
     let end : c.get-end.result ≡ times_of far c.args.to =

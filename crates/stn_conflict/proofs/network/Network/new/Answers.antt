@@ -8,7 +8,7 @@ invariant_of-result g c =
     let whole : c.extend_from_slice.new.self.items ≡ c.args.base.now ++ c.args.extra.now =
     c.in_ok-extend_from_slice.ensures.items ∙ ap (λ l. l ++ c.args.extra.now) c.in_ok-bounds.ensures.items in
     let network : IsNetwork c.args.events c.extend_from_slice.new.self.items =
-    rw whole (network_of c.args.events c.args.base.now c.args.extra.now c.requires.begins c.requires.base_named c.requires.extra_named) in
+    rw whole (network_of c.args.base.now c.args.extra.now c.requires.begins c.requires.base_named c.requires.extra_named) in
     let long : length c.in_ok-latest.latest.far.items ≡ c.args.events + 1 = c.in_ok-latest.ensures.far ∙ ap (λ n. n + 1) c.from-2.ensures in
     let tables = c.begin.ensures.tables in
     let counted : c.begin.new.self.fresh.len ≡ c.args.events + 1 = search rules ∙ tables.fresh ∙ long in
@@ -20,6 +20,6 @@ invariant_of-result g c =
       network = network;
       first = rw c.from.ensures at (c.in_ok-rows.ensures c.extend_from_slice.new.self.items);
       pending = pending_all c.args.events c.extend_from_slice.new.self.items c.begin.new.self
-          (record { tables = rw long at tables; from = c.begin.ensures.start ∙ c.origin.ensures; estimates = estimates }) c.fill.new.self network filled;
+          (record { tables = rw long at tables; from = c.begin.ensures.start ∙ c.origin.ensures; estimates = estimates }) network filled;
       tables = rw (← c.from-3.ensures) c.in_ok-search.ensures;
     }

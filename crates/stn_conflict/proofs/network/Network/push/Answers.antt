@@ -7,7 +7,7 @@ pub freshen-requires : goal.freshen-requires
 freshen-requires g c =
     let t = c.self.invariant.pending.late.tables in
     let events = ap (λ (l : ListedBounds). l.events) c.self.view_is in
-    record { tables = tables_of _ c.self.inside.latest t; named = (omega (arith, c.requires.from, events, t.far), omega (arith, c.requires.to, events, t.far)) }
+    record { tables = tables_of c.self.inside.latest t; named = (omega (arith, c.requires.from, events, t.far), omega (arith, c.requires.to, events, t.far)) }
 
 pub invariant_of-self-2 : goal.invariant_of-self-2
 invariant_of-self-2 g c =
@@ -16,8 +16,8 @@ invariant_of-self-2 g c =
     let named : NamesEvents is.events c.args.bound = subst (λ (l : ListedBounds). NamesEvents l.events c.args.bound) (sym c.self.view_is) c.requires in
     rw c.in_ok-push.ensures.items (record {
       few = old.few;
-      network = network_more is.events is.bounds.items c.args.bound old.network named;
-      first = rows_longer Forward is.events is.bounds.items (c.args.bound ∷ []) (is.events + 1) is.rows old.first;
+      network = network_more old.network named;
+      first = rows_longer (c.args.bound ∷ []) old.first;
       pending = c.freshen.ensures is.events is.bounds.items named old.pending;
       tables = old.tables;
     })

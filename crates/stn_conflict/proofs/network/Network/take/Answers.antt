@@ -15,18 +15,18 @@ pub freshen-requires : goal.freshen-requires
 freshen-requires g c =
     let t = c.self.invariant.pending.late.tables in
     let events = ap (λ (l : ListedBounds). l.events) c.self.view_is in
-    record { tables = tables_of _ c.self.inside.latest t; named = (omega (arith, c.requires.from, events, t.far), omega (arith, c.requires.to, events, t.far)) }
+    record { tables = tables_of c.self.inside.latest t; named = (omega (arith, c.requires.from, events, t.far), omega (arith, c.requires.to, events, t.far)) }
 
 pub extend-fits-requires-clause-network : goal.extend-fits-requires-clause-network
 extend-fits-requires-clause-network g c =
     let is = c.self.inside in
     let place = (goal.at.extend-fits-requires-clause-network g c).After-deref in
-    rw (longer g place) (network_more is.events is.bounds.items c.args.bound c.self.invariant.network (named g place))
+    rw (longer g place) (network_more c.self.invariant.network (named g place))
 
 pub extend-fits-requires-clause-rows : goal.extend-fits-requires-clause-rows
 extend-fits-requires-clause-rows g c =
     let is = c.self.inside in
-    rw (longer g (goal.at.extend-fits-requires-clause-rows g c).After-deref) (rows_longer Forward is.events is.bounds.items (c.args.bound ∷ []) (is.events + 1) is.rows c.self.invariant.first)
+    rw (longer g (goal.at.extend-fits-requires-clause-rows g c).After-deref) (rows_longer (c.args.bound ∷ []) c.self.invariant.first)
 
 pub extend-fits-requires-clause-pending : goal.extend-fits-requires-clause-pending
 extend-fits-requires-clause-pending g c =
@@ -42,7 +42,7 @@ invariant_of-self-in-Ok-true g c =
     let exact = rw c.deref.ensures.value at (c.in-Ok-true.ensures.distances c.in-Ok-true.field-0-test) in
     record {
       few = old.few;
-      network = rw c.in_ok-push.ensures.items (network_more is.events is.bounds.items c.args.bound old.network (named g place));
+      network = rw c.in_ok-push.ensures.items (network_more old.network (named g place));
       first = e.rows;
       pending = pending_none is.events c.push.new.self.items c.extend-fits.new.latest e.late exact;
       tables = rw old.pending.late.tables.far at c.copy_from.ensures.tables;
@@ -65,7 +65,7 @@ invariant_of-self-2 g c =
       few = old.few;
       network = old.network;
       first = rw (rows.faced, rows.choice, rows.stand.long) at (c.cut.ensures.rows is.bounds.items (c.args.bound ∷ []) count
-          (first_own Forward is.events (is.bounds.items ++ c.args.bound ∷ []) (is.events + 1) c.extend-fits.new.rows rows));
+          (first_own rows));
       pending = record {
         late = record {
           tables = rw kept.far at again.tables;

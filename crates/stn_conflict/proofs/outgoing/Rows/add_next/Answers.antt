@@ -1,13 +1,12 @@
-use Rattle.std.{proofs.{lemmas.{Grind.common_steps, Int.ints, Bool.false≢true}, Common.{◌≡◌, ℕ, ℤ, ◌+◌, ◌*◌, ◌<◌, ◌≤◌, Bool, true, false, le-ltb, List, length, refl, sym, ◌∙◌, arith}}, specs.Prelude.{◌||◌, ◌≤ℤ◌, ◌<ℤ◌, nat_lt, int_lt}}
+use Rattle.std.{proofs.{lemmas.{Grind.common_steps, Int.ints, Bool.false≢true}, Common.{rules, ◌≡◌, ℕ, ℤ, ◌+◌, ◌*◌, ◌<◌, ◌≤◌, false, List, length, sym, ◌∙◌, arith}}, specs.Prelude.{◌||◌, ◌≤ℤ◌, nat_lt, int_lt}}
 use Rattle.stn_time.specs.Time.{horizon}
 use Rattle.stn_net.specs.Difference.{Difference}
-use Rattle.stn_conflict.{specs.{declared.{links.Link.Link, outgoing.Look.Look}, Arcs.{arc, arc_of, bound_at}, Directions.{faced, facing}, Relaxation.{IsListed, IsLook}}, proofs.{Rows.{rows_kept, rows_over, rows_push}, Steps.rank_within, Turned.{bound_facing, faced_among}, outgoing.Rows.add_next.{Given.Over, Goals.{After-side_of-arc, then-link-self+in_ok-push, else-link-self+else-weight-lt-HORIZON}}}}
+use Rattle.stn_conflict.{specs.{declared.{links.Link.Link, outgoing.Look.Look}, Arcs.{arc, arc_of, bound_at}, Directions.{faced, facing}, Relaxation.{IsListed, IsLook}}, proofs.{Rows.{rows_kept, rows_over, rows_push}, Steps.rank_within, outgoing.Rows.add_next.{Given.Over, Goals.{After-side_of-arc, then-link-self+in_ok-push, else-link-self+else-weight-lt-HORIZON}}}}
 use Rattle.stn_conflict.proofs.outgoing.Rows.add_next.Goals as goal
 
 -- the link begins at one of the events
 among : (g : Over) (c : After-side_of-arc g) → c.side_of-arc.result.from < length c.args.self.now.outgoing.items
-among g c =
-    omega (arith, faced_among (length c.args.self.now.outgoing.items) c.args.self.now.direction c.args.bound.now c.args.link.side c.requires.named)
+among g c = search rules
 
 -- what the link says of all bounds
 record Says (bounds : List Difference) (link : Link) (from to : ℕ) (weight : ℤ) : Type 0 where
@@ -18,15 +17,11 @@ record Says (bounds : List Difference) (link : Link) (from to : ℕ) (weight : �
 
 says : (g : Over) (c : After-side_of-arc g) (bounds : List Difference) → c.args.link.place < length bounds → bound_at bounds c.args.link.place ≡ c.args.bound.now
     → Says (facing c.args.self.now.direction bounds) c.args.link c.side_of-arc.result.from c.side_of-arc.result.to c.side_of-arc.result.weight
-says g c bounds there is = grind (arith, common_steps, bound_facing)
+says g c bounds there is = grind (arith, common_steps)
 
 -- a link that is left out
-unlisted : (place whole : ℕ) (weight : ℤ) → whole ≤ place → horizon ≤ℤ weight → (nat_lt place whole || int_lt weight horizon) ≡ false
-unlisted place whole weight past wide = rw (le-ltb place whole past) (by_test (int_lt weight horizon) refl)
-  where
-    by_test : (b : Bool) → int_lt weight horizon ≡ b → b ≡ false
-    by_test false is = refl
-    by_test true is = (let less : weight <ℤ horizon = grind (arith, ints) in absurd (omega (arith, ints)))
+unlisted : {place whole : ℕ} {weight : ℤ} → whole ≤ place → horizon ≤ℤ weight → (nat_lt place whole || int_lt weight horizon) ≡ false
+unlisted past wide = search rules
 
 pub returns-in_err-push-clause-rows : goal.returns-in_err-push-clause-rows
 returns-in_err-push-clause-rows g c = λ bounds there is h.
@@ -35,8 +30,7 @@ returns-in_err-push-clause-rows g c = λ bounds there is h.
       faced = h.faced;
       choice = h.choice;
       within = h.within;
-      stand = rows_kept c.args.self.now.whole (facing c.args.self.now.direction bounds) (length c.args.self.now.outgoing.items) c.args.self.now.added c.from.result
-          c.args.self.now.outgoing.items c.index_mut.result.now c.push.new.self h.stand (rw at (among g (goal.at.returns-in_err-push-clause-rows g c).After-side_of-arc)) c.index_mut.ensures.value c.in_err-push.ensures.items;
+      stand = rows_kept c.push.new.self h.stand (rw at (among g (goal.at.returns-in_err-push-clause-rows g c).After-side_of-arc)) c.index_mut.ensures.value c.in_err-push.ensures.items;
     }
 
 pub returns-clause-rows : goal.returns-clause-rows
@@ -58,11 +52,11 @@ returns-clause-rows g c = λ bounds there is h.
             faced = h.faced;
             choice = h.choice;
             within = fits;
-            stand = rows_push self.whole all count self.added w.from.result self.outgoing.items w.index_mut.result.now w.push.new.self look h.stand c.requires.next looked (rw at (among g place))
+            stand = rows_push w.push.new.self h.stand c.requires.next looked (rw at (among g place))
                 w.index_mut.ensures.value w.in_ok-push.ensures.items;
           })
       | else-link-self+else-weight-lt-HORIZON w ↦
           let none : ¬ IsListed self.whole all link = λ listed.
-          false≢true (sym (unlisted link.place self.whole arc.weight w.if-link-self.false (omega (arith, ints, c.get-weight.ensures.value, c.get-weight.ensures.within, w.if-weight-lt-HORIZON.false))) ∙ rw n.weight_is listed) in
-          rw w.self-is (record { faced = h.faced; choice = h.choice; within = fits; stand = rows_over self.whole all count self.added self.outgoing.items link h.stand c.requires.next none })
+          false≢true (sym (unlisted {weight = arc.weight} w.if-link-self.false (omega (arith, ints, c.get-weight.ensures.value, c.get-weight.ensures.within, w.if-weight-lt-HORIZON.false))) ∙ rw n.weight_is listed) in
+          rw w.self-is (record { faced = h.faced; choice = h.choice; within = fits; stand = rows_over link h.stand c.requires.next none })
     ]

@@ -21,10 +21,10 @@ loop-event-preserved g c =
     let h = c.loop-event.invariant in
     let there : event < length rows = omega (arith, c.loop-event-test.true, c.len-event-end.ensures, h.long) in
     let was : row_of rows event ≡ row_of initial event = h.rest event (omega arith) in
-    let read : c.deref.result.now ≡ row_of initial event = c.deref.ensures.value ∙ sym (row_is rows event c.index.result.now there c.index.ensures) ∙ was in
+    let read : c.deref.result.now ≡ row_of initial event = c.deref.ensures.value ∙ sym (row_is rows there c.index.ensures) ∙ was in
     let at : IsCutAt (row_of initial event) c.args.place kept = rw read at c.looks_before-kept.ensures in
     let here : row_of (set rows event new) event ≡ take kept (row_of initial event) =
-    replaced_here rows event new there ∙ c.truncate.ensures.items ∙ ap (take kept) (sym (row_is rows event c.index_mut.result.now there c.index_mut.ensures.value) ∙ was) in
+    replaced_here rows new there ∙ c.truncate.ensures.items ∙ ap (take kept) (sym (row_is rows there c.index_mut.ensures.value) ∙ was) in
     record {
       turned = h.turned;
       chosen = h.chosen;
@@ -32,9 +32,9 @@ loop-event-preserved g c =
       added = h.added;
       cut = λ x below. elim (cases_eq x event) [
         | inl same ↦ rw same (kept, at, here)
-        | inr apart ↦ (let (n, front, is) = h.cut x (omega arith) in (n, front, replaced_other rows event new x apart ∙ is))
+        | inr apart ↦ (let (n, front, is) = h.cut x (omega arith) in (n, front, replaced_other rows new apart ∙ is))
       ];
-      rest = λ x past. replaced_other rows event new x (λ same. omega arith) ∙ h.rest x (omega arith);
+      rest = λ x past. replaced_other rows new (λ same. omega arith) ∙ h.rest x (omega arith);
     }
 
 pub returns-then-place-self : goal.returns-then-place-self
@@ -42,8 +42,7 @@ returns-then-place-self g c =
     let h = c.loop-event.invariant in
     record {
       rows = λ bounds more is first.
-          rows_cut c.args.self.now.direction c.args.self.now.whole bounds more (length c.args.self.now.outgoing.items) c.args.place c.args.self.now
-          (record { direction = c.loop-event.self.direction; whole = c.loop-event.self.whole; outgoing = c.loop-event.self.outgoing; added = 2 * c.args.place }) is first h.turned h.chosen h.long
+          rows_cut more is first h.turned h.chosen h.long
           (λ x below. h.cut x (omega (arith, below, c.loop-event-test.false, c.len-event-end.ensures))) (omega arith) (λ rank before front. front) (omega (arith, c.if-place-self.true, h.added));
     }
 
@@ -52,7 +51,7 @@ returns-else-place-self g c =
     let h = c.loop-event.invariant in
     record {
       rows = λ bounds more is first.
-          rows_cut c.args.self.now.direction c.args.self.now.whole bounds more (length c.args.self.now.outgoing.items) c.args.place c.args.self.now c.loop-event.self is first h.turned h.chosen h.long
+          rows_cut more is first h.turned h.chosen h.long
           (λ x below. h.cut x (omega (arith, below, c.loop-event-test.false, c.len-event-end.ensures))) (omega (arith, c.if-place-self.false)) (λ rank before front. omega (arith, before, h.added))
           (omega (arith, h.added));
     }

@@ -6,4 +6,4 @@ use Rattle.stn_conflict.proofs.outgoing.Rows.of.Goals as goal
 pub add-requires-clause-rows : goal.add-requires-clause-rows
 add-requires-clause-rows g c =
     let none : AreFirstRows c.args.direction c.args.whole (c.args.base.now ++ c.args.extra.now) (c.args.events + 1) c.in_ok-rows.rows = c.in_ok-rows.ensures (c.args.base.now ++ c.args.extra.now) in
-    first_own c.args.direction c.args.whole (c.args.base.now ++ c.args.extra.now) (c.args.events + 1) c.in_ok-rows.rows none
+    first_own none

@@ -10,4 +10,4 @@ returns-clause-estimates g c = λ bounds events long network.
     let items : c.fill.new.self.items ≡ replicate (events + 1) horizon = rw (counted, c.horizon.ensures) at filled in
     let place : c.from.result ≡ c.args.start = c.from.ensures ∙ c.number.ensures.value in
     let zero : c.unwrap.result ≡ pos 0 = search rules in
-    network_estimates bounds events c.args.start _ (rw (items, place, zero) refl) (omega (arith, c.requires.start)) network
+    network_estimates (rw (items, place, zero) refl) (omega (arith, c.requires.start)) network

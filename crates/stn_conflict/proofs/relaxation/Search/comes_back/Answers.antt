@@ -4,7 +4,7 @@ use Rattle.stn_conflict.proofs.relaxation.Search.comes_back.Goals as goal
 
 pub returns-then-here-start : goal.returns-then-here-start
 returns-then-here-start g c = λ t times met.
-    let back = back_over c.args.graph.now.bounds c.args.start c.loop.here c.index-from.result.now c.in-Some.weight _ c.in-Some.ensures c.loop.invariant.kept times met in
+    let back = back_over c.args.graph.now.bounds c.in-Some.ensures c.loop.invariant.kept times met in
     let now = ap times c.if-here-start.true in
     let most = c.loop.invariant.most in
     let few = c.requires.tables.few in
@@ -22,6 +22,6 @@ loop-preserved g c =
       least = omega (arith, ints);
       most = omega (arith, ints);
       kept = λ times met.
-          let back = back_over c.args.graph.now.bounds c.args.start c.loop.here c.index-from.result.now c.in-Some.weight _ c.in-Some.ensures c.loop.invariant.kept times met in
+          let back = back_over c.args.graph.now.bounds c.in-Some.ensures c.loop.invariant.kept times met in
           omega (arith, ints);
     }

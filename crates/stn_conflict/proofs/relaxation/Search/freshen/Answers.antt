@@ -14,7 +14,7 @@ returns g c = λ events bounds named old.
       late = record {
         tables = record { few = t.few; far = t.far; by = t.by; among = t.among; fresh = length-set (set self.fresh.items bound.from true) bound.to true ∙ length-set self.fresh.items bound.from true ∙ t.fresh };
         from = old.late.from;
-        estimates = estimates_more bounds (bounds ++ bound ∷ []) 0 self.far.items (All-push (NamesAmong (length self.far.items)) bounds bound old.late.estimates.named (omega (arith, t.far, named.from), omega (arith, t.far, named.to)))
+        estimates = estimates_more (All-push (NamesAmong (length self.far.items)) bounds bound old.late.estimates.named (omega (arith, t.far, named.from), omega (arith, t.far, named.to)))
             (schedule_before bounds (bound ∷ [])) old.late.estimates;
       };
       relaxed = relaxed_push events bounds bound self.far.items self.fresh.items (omega (arith, t.fresh, named.from)) (omega (arith, t.fresh, named.to)) old.relaxed;

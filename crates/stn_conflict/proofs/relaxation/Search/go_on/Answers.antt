@@ -3,7 +3,7 @@ use Rattle.stn_conflict.proofs.Searches.{begun_of, found_all, found_none, still_
 use Rattle.stn_conflict.proofs.relaxation.Search.go_on.Goals as goal
 
 pub relax_until_met-requires-clause-begun : goal.relax_until_met-requires-clause-begun
-relax_until_met-requires-clause-begun g c = begun_of c.args.graph.now c.args.self.now c.requires.network c.requires.kept c.requires.search
+relax_until_met-requires-clause-begun g c = begun_of c.requires.network c.requires.kept c.requires.search
 
 pub returns : goal.returns
 returns g c =

@@ -21,7 +21,7 @@ relax_until_met-requires-clause-begun g c =
     let t = begun.tables in
     let (low, floor, under) = c.requires.floor in
     let start : c.from.result ≡ self.start = c.from.ensures ∙ c.number-2.ensures.value in
-    begun_on c.args.graph.now self.start _ begun (record {
+    begun_on begun (record {
       few = rw t.far t.few;
       far = length-set self.far.items _ _;
       by = length-set self.by.items _ _ ∙ t.by ∙ sym t.far;
@@ -34,7 +34,7 @@ relax_until_met-requires-clause-begun g c =
           let low_at = ap low (same ∙ l.at) in
           let less = l.less in
           absurd (omega (arith, ints))
-      | inr differs ↦ fallen_other self.far.items c.from-place.result c.args.most l.there l.less self.start differs ∙ begun.own
+      | inr differs ↦ fallen_other self.far.items c.from-place.result c.args.most l.there l.less differs ∙ begun.own
     ])
 
 pub relax_until_met-requires-clause-relaxed : goal.relax_until_met-requires-clause-relaxed
@@ -54,12 +54,12 @@ pub returns-clause-floors : goal.returns-clause-floors
 returns-clause-floors g c = λ low floor under.
     let l = lowered g (goal.at.returns-clause-floors g c).After-index_mut in
     c.relax_until_met.ensures.lowers.floors low
-    (floor_kept c.args.self.now.far.items c.from-place.result c.args.most l.there l.less c.args.graph.now.bounds c.args.self.now.start low floor (rw l.at under))
+    (floor_kept c.args.self.now.far.items c.from-place.result c.args.most l.there l.less floor (rw l.at under))
 
 pub returns-clause-met : goal.returns-clause-met
 returns-clause-met g c =
     let l = lowered g (goal.at.returns-clause-met g c).After-index_mut in
     let (low, floor, under) = c.requires.floor in
     unrefused c.relax_until_met.result (AreRelaxed c.args.graph.now.bounds (times_of c.relax_until_met.new.self.far.items)) (λ e. c.relax_until_met.ensures.refused e low
-    (floor_kept c.args.self.now.far.items c.from-place.result c.args.most l.there l.less c.args.graph.now.bounds c.args.self.now.start low floor (rw l.at under)))
+    (floor_kept c.args.self.now.far.items c.from-place.result c.args.most l.there l.less floor (rw l.at under)))
     c.relax_until_met.ensures.met

@@ -2,7 +2,7 @@ use Rattle.std.proofs.{Common.{rules, refl}, lemmas.List.with_items_is}
 use Rattle.stn_conflict.proofs.relaxation.Search.relax_from.Goals as goal
 
 pub relax_row-requires : goal.relax_row-requires
-relax_row-requires g c = rw (c.deref_mut.ensures.value, c.deref_mut-2.ensures.value, c.deref_mut-3.ensures.value) c.requires
+relax_row-requires g c = search rules
 
 pub returns : goal.returns
 returns g c =

@@ -1,4 +1,4 @@
-use Rattle.std.{proofs.{Common.{◌≡◌, ◌+◌, ◌<◌, length, refl, ap, sym, ◌∙◌, arith}, lemmas.Int.ints}, specs.Prelude.{pos, ◌<ℤ◌, All}}
+use Rattle.std.{proofs.{Common.{rules, ◌≡◌, ◌+◌, ◌<◌, length, refl, ap, sym, ◌∙◌, arith}, lemmas.Int.ints}, specs.Prelude.{pos, ◌<ℤ◌, All}}
 use Rattle.stn_net.specs.{Schedule.times_of}
 use Rattle.stn_conflict.{specs.Relaxation.{Lowers, NamesAmong}, proofs.{Lowering.{fallen_fresh, lowers_none, lowers_on}, Relaxing.all_met, Sweeps.{above, above_least, above_most, fewer_above, some_highest}, relaxation.Search.relax_until_met.{Given.Over, Goals.{After-sweep, then-self-count-via-then-self-count, then-self-count-via-else-self-count+then-goes_round}}}}
 use Rattle.stn_conflict.proofs.relaxation.Search.relax_until_met.Goals as goal
@@ -7,7 +7,7 @@ pub loop-event-init : goal.loop-event-init
 loop-event-init g c = record {
   begun = c.requires.begun;
   start = refl;
-  lowers = lowers_none c.args.graph.now.bounds c.args.self.now.start c.args.self.now.far.items;
+  lowers = lowers_none;
   relaxed = c.requires.relaxed;
   few = omega arith;
   counted = λ x below now top highest.
@@ -17,7 +17,7 @@ loop-event-init g c = record {
 
 -- the sweep lowers the estimates as one from the same start
 next : (g : Over) (c : After-sweep g) → Lowers c.args.graph.now.bounds c.args.self.now.start c.loop-event.self.far.items c.sweep.new.self.far.items
-next g c = rw (← c.loop-event.invariant.start) c.sweep.ensures.lowers
+next g c = search rules
 
 pub loop-event-preserved : goal.loop-event-preserved
 loop-event-preserved g c =
@@ -43,7 +43,7 @@ loop-event-preserved g c =
       few = omega (arith, e.sweeps, c.count.ensures, h.few, c.if-self-count.false);
       counted = λ x below now top highest.
           let fewer = fewer_above c.args.graph.now.whole c.args.graph.now.events bounds start first mid far fresh top e.begun.kept e.begun.network highest h.lowers step named own ok.relaxed
-          (λ y within. ok.stale y (omega arith)) x (fallen_fresh bounds start mid far fresh x step (omega arith) (ok.stale x below) now) in
+          (λ y within. ok.stale y (omega arith)) (fallen_fresh fresh step (omega arith) (ok.stale x below) now) in
           let less : above (c.args.graph.now.events + 1) top far <ℤ above (c.args.graph.now.events + 1) top mid = rw long at fewer in
           omega (arith, ints, h.counted c.in-Some.event (omega (arith, there, h.begun.tables.fresh)) was top highest, e.sweeps);
     }
@@ -74,5 +74,5 @@ pub returns-clause-met : goal.returns-clause-met
 returns-clause-met g c =
     let h = c.loop-event.invariant in
     let b = h.begun in
-    all_met c.args.graph.now.whole c.args.graph.now.bounds c.args.graph.now.events c.loop-event.self.far.items c.loop-event.self.fresh.items b.kept b.network b.named h.relaxed
+    all_met c.loop-event.self.far.items c.loop-event.self.fresh.items b.kept b.network b.named h.relaxed
     (λ x below. c.in_default.ensures x (omega (arith, b.tables.fresh)))

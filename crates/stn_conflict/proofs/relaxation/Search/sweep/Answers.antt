@@ -34,8 +34,8 @@ loop-index-preserved g c =
             start = w.relax_from.ensures.start ∙ h.start;
             sweeps = w.relax_from.ensures.sweeps ∙ h.sweeps;
             lowers = lowers_on bounds start old mid far h.lowers step;
-            relaxed = row_relaxed c.args.graph.now.whole bounds start event mid fresh far new.fresh.items h.relaxed step e.freshens ok.relaxed;
-            swept = swept_more bounds start c.args.onward count index event old mid fresh far new.fresh.items turn there h.lowers step e.freshens h.swept;
+            relaxed = row_relaxed c.args.graph.now.whole fresh h.relaxed step e.freshens ok.relaxed;
+            swept = swept_more c.args.onward count fresh turn there h.lowers step e.freshens h.swept;
           })
       | else-index w ↦
           let stale = sym (get_or_read fresh event _ there c.index.ensures true) ∙ w.if-index.false in
@@ -45,7 +45,7 @@ loop-index-preserved g c =
             sweeps = h.sweeps;
             lowers = h.lowers;
             relaxed = h.relaxed;
-            swept = swept_over c.args.onward count index event old mid fresh turn stale h.swept;
+            swept = swept_over c.args.onward count old mid fresh turn stale h.swept;
           })
     ]
 
@@ -63,8 +63,8 @@ returns g c =
       lowers = h.lowers;
       refused = λ e. absurd (false≢true e);
       relaxed = h.relaxed;
-      stale = λ x below same. all_swept c.args.onward count c.args.self.now.far.items far fresh
-          (rw all at h.swept) x (omega (arith, c.count-count.ensures)) same;
+      stale = λ x below same. all_swept c.args.onward c.args.self.now.far.items far fresh
+          (rw all at h.swept) (omega (arith, c.count-count.ensures)) same;
     }
 
 pub returns-in_err-relax_from-clause-lowers : goal.returns-in_err-relax_from-clause-lowers

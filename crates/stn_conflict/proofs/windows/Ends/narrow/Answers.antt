@@ -15,7 +15,7 @@ lower-requires-clause-begun g c =
       tables = are.tables;
       network = can.network;
       kept = omega (arith, are.rows_are.first.choice);
-      named = named_facing direction (c.args.events + 1) given (among_events given c.args.events (c.args.events + 1) refl c.requires.network.named);
+      named = named_facing direction given (among_events given refl c.requires.network.named);
       start_named = omega (arith, are.start);
       own = ap (times_of self.search.far.items) are.start ∙ old_own _ _ _ _ _ can;
     })
@@ -38,5 +38,4 @@ pub returns : goal.returns
 returns g c = λ bounds taken single are possible.
     let self = c.args.self.now in
     let e = rw (c.new-graph.ensures, append-nil c.args.given.now, are.start, c.to.ensures.value, c.side_of-most.ensures.weight) at c.lower.ensures in
-    ends_narrowed self.rows.direction c.args.events c.args.given.now bounds c.args.bound.now self taken single are c.requires.single c.requires.named c.requires.network possible
-    (record { rows = self.rows; search = c.lower.new.self }) refl e.begun.tables e.start (ap (times_of c.lower.new.self.far.items) (sym e.start) ∙ e.begun.own) e.met e.fall e.here e.floors
+    ends_narrowed self.rows.direction c.args.events c.args.given.now bounds c.args.bound.now self taken single are c.requires.single c.requires.named c.requires.network possible refl e.begun.tables e.start (ap (times_of c.lower.new.self.far.items) (sym e.start) ∙ e.begun.own) e.met e.fall e.here e.floors

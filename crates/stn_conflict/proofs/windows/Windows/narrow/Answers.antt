@@ -25,7 +25,7 @@ invariant_of-self-2 g c =
       within = omega (arith, old.within, length-append bounds (bound ∷ []));
       network = rw first old.network;
       named = All-push (NamesEvents is.events) bounds bound old.named named;
-      single = single_push is.given bounds bound c.requires.single old.single;
+      single = single_push bounds bound c.requires.single old.single;
       latest_are = rw onward at (latest bounds refl old.single (subst (λ d. IsEnds d is.events is.given is.bounds.items is.latest) (sym onward) old.latest_are) possible);
       earliest_are = rw back at (earliest bounds refl old.single (subst (λ d. IsEnds d is.events is.given is.bounds.items is.earliest) (sym back) old.earliest_are) possible);
     })

@@ -17,5 +17,5 @@ returns g c =
     let first : c.neg.result ≡ neg_ℤ (times_of early c.args.event) = c.neg.ensures ∙ ap neg_ℤ (get_or_read early _ _ (rw at in_early) c.index.ensures (pos 0) ∙ ap (times_of early) at) in
     let last : c.index-2.result.now ≡ times_of late c.args.event = get_or_read late _ _ (rw at in_late) c.index-2.ensures (pos 0) ∙ ap (times_of late) at in
     let window = window_of_ends is.bounds.items c.args.event (times_of early c.args.event) (times_of late c.args.event)
-    (tightest_of_turned is.bounds.items 0 c.args.event (times_of early c.args.event) (h.earliest_are.far.tightest c.args.event in_early)) (h.latest_are.far.tightest c.args.event in_late) in
+    (tightest_of_turned (h.earliest_are.far.tightest c.args.event in_early)) (h.latest_are.far.tightest c.args.event in_late) in
     rw (first, last) (subst (λ (l : ListedBounds). IsWindow l.bounds c.args.event (neg_ℤ (times_of early c.args.event)) (times_of late c.args.event)) c.self.view_is window)

@@ -1,4 +1,4 @@
-use Rattle.std.proofs.{Common.{◌≡◌, ◌↔◌, ltb, ap, subst, ◌∙◌, arith, IsTrue}, lemmas.Bool.{ltb-true, lt-ltb}}
+use Rattle.std.proofs.{Common.{ltb, ap, subst, ◌∙◌, arith}, lemmas.Bool.{ltb-true, lt-ltb}}
 use Rattle.stn_records.specs.Content.{IsSound, known_count}
 use Rattle.stn_records.proofs.records.Records.is_full.Goals as goal
 
