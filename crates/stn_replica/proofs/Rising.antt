@@ -1,18 +1,17 @@
 -- The walk over the records that have become live.
-use Rattle.std.{proofs.{Common.{rules, ◌≡◌, Bool, true, false, not, ◌&&◌, List, [], ◌∷◌, filter, Option, Some, None, is_some, ◌↔◌, refl, sym, ap, subst, All}, lemmas.{Bool.{false≢true, and_parts}, List.Elements.{All-head, All-nil, filter_passes, recursion_from_All}}}, specs.{List.AllByRecursion, Map.Iter.TakesFirst, FinMap.{entries, find, get}}}
+use Rattle.std.{proofs.{Common.{rules, ◌≡◌, Bool, true, not, ◌&&◌, List, [], ◌∷◌, filter, Option, Some, None, is_some, ◌↔◌, refl, sym, subst, All}, lemmas.{Bool.{false≢true, and_parts}, List.Elements.{All-head, All-nil, filter_passes, recursion_from_All}}}, specs.{List.AllByRecursion, Map.Iter.TakesFirst, FinMap.{entries, find, get}}}
 use Rattle.stn_records.{specs.{Id.{SiteCounter, id_cmp}, declared.record.Record.Record, Content.{Content, is_live, is_replaced, live_of}, Sorted.without_ids, ContentLaws.{ids_total, ids_exact}}, proofs.{Gets.entries_from_get, Live.found_where_live}}
 use Rattle.stn_site.{specs.{Bounds.bounds_of, Growth.{is_risen, risen, KeepsLive}}, proofs.Live.{there_where_live, risen_from_bounds}}
 use Rattle.stn_replica.specs.{Walk.from_next, Work.GainsLive}
 
 -- an entry that is taken out is still ahead
-pub next_taken : {X : Type 0} (s t : List X) (r : Option X) → TakesFirst (λ (entry : X). entry) s r t → from_next r t ≡ s
-next_taken s t None h = sym h.0
-next_taken s t (Some x) h = sym h
+pub next_taken : {X : Type 0} {s : List X} (t : List X) (r : Option X) → TakesFirst (λ (entry : X). entry) s r t → from_next r t ≡ s
+next_taken t r h = search rules
 
 -- where none was live before, all have become live
 pub without_none : (records : List (SiteCounter × Record)) → without_ids {Y = Record} records [] ≡ records
 without_none [] = refl
-without_none (entry ∷ records) = ap (λ rest. entry ∷ rest) (without_none records)
+without_none (entry ∷ records) = cc (without_none records)
 
 -- one filter after another
 filter_twice : {X : Type 0} (p q both : X → Bool) (xs : List X) → AllByRecursion (λ x. both x ≡ (p x && q x)) xs → filter q (filter p xs) ≡ filter both xs
@@ -52,6 +51,5 @@ gains_first old new None rest none = (
 )
 
 -- each live record still is exactly where none has become live on the way back
-pub keeps_where_none_back : (old new : Content) (back : Bool) → (back ≡ true) ↔ GainsLive new old → (not back ≡ true) ↔ KeepsLive old new
-keeps_where_none_back old new true told = search rules
-keeps_where_none_back old new false told = search rules
+pub keeps_where_none_back : (old new : Content) {back : Bool} → (back ≡ true) ↔ GainsLive new old → (not back ≡ true) ↔ KeepsLive old new
+keeps_where_none_back old new told = search rules

@@ -5,9 +5,9 @@ use Rattle.stn_replica.specs.Rows.{in_turn}
 
 module _ {A : Type 0} where
   -- a bound more in a row is a bound more
-  pub in_turn_pushed : (rows : List (Vec Difference A)) (i : ℕ) (none new : Vec Difference A) (bound : Difference) → i < length rows
+  pub in_turn_pushed : (rows : List (Vec Difference A)) {i : ℕ} (none new : Vec Difference A) (bound : Difference) → i < length rows
       → new.items ≡ (get_or rows i none).items ++ bound ∷ [] → IsPermutation (in_turn rows ++ bound ∷ []) (in_turn (set rows i new))
-  in_turn_pushed rows i none new bound within items =
+  in_turn_pushed rows {i} none new bound within items =
       let old : Vec Difference A = get_or rows i none in
       let front = in_turn (take i rows) in
       let behind = in_turn (drop (suc i) rows) in
@@ -21,15 +21,15 @@ module _ {A : Type 0} where
       (IsPermutation-append_right (front ++ old.items) (behind ++ bound ∷ []) (bound ∷ [] ++ behind) (IsPermutation-append_comm behind (bound ∷ [])))))
 
   -- the bounds up to a place stand in the rows, and then the next one too
-  pub in_rows_next : (bounds : List Difference) (i : ℕ) (bound : Difference) (old new : List (Vec Difference A)) → i < length bounds → bound ≡ get_or bounds i bound
+  pub in_rows_next : (bounds : List Difference) {i : ℕ} {bound : Difference} (old new : List (Vec Difference A)) → i < length bounds → bound ≡ get_or bounds i bound
       → IsPermutation (take i bounds) (in_turn old) → IsPermutation (in_turn old ++ bound ∷ []) (in_turn new) → IsPermutation (take (i + 1) bounds) (in_turn new)
-  in_rows_next bounds i bound old new within is so_far more =
+  in_rows_next bounds {i} {bound} old new within is so_far more =
       subst (λ l. IsPermutation l (in_turn new)) (sym (take_more bounds i bound within ∙ ap (λ b. take i bounds ++ b ∷ []) (sym is)))
       (IsPermutation-trans (take i bounds ++ bound ∷ []) (in_turn old ++ bound ∷ []) (in_turn new) (IsPermutation-append_left (bound ∷ []) (take i bounds) (in_turn old) so_far) more)
 
 -- each bound of a list that has those of another, in some order, names the events that they name
-pub named_of : (events : ℕ) (bounds found items : List Difference) (i : ℕ) (bound : Difference) → All (NamesEvents events) bounds → IsPermutation bounds found
+pub named_of : {events : ℕ} {bounds found items : List Difference} {i : ℕ} {bound : Difference} → All (NamesEvents events) bounds → IsPermutation bounds found
     → items ≡ found → i < length items → bound ≡ get_or items i bound → NamesEvents events bound
-named_of events bounds found items i bound named moved same within here =
+named_of {events} {bounds} {found} {items} {i} {bound} named moved same within here =
     let each : All (NamesEvents events) items = subst (All (NamesEvents events)) (sym same) (All-permutation (NamesEvents events) bounds found moved named) in
     subst (NamesEvents events) (sym here) (each i bound within)

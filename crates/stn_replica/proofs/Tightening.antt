@@ -17,7 +17,7 @@ pub record IsTightenedBy (records seen ahead : List (SiteCounter × Record)) (fi
 module _ {records seen ahead rest : List (SiteCounter × Record)} {e : SiteCounter × Record} {first now : Table} (p : IsTightenedBy records seen ahead first now) (next : ahead ≡ e ∷ rest) where
   -- the next of the records is one of them
   pub next_among : records ≡ seen ++ e ∷ rest
-  next_among = p.parts ∙ ap (λ records. seen ++ records) next
+  next_among = cc
 
   pub next_named : All (λ entry. NamesEvents first.events entry.1.bound) records → NamesEvents now.events e.1.bound
   next_named named =
@@ -25,10 +25,10 @@ module _ {records seen ahead rest : List (SiteCounter × Record)} {e : SiteCount
       subst (λ events. NamesEvents events e.1.bound) (sym p.events) (All-head P e rest (All-right P seen (e ∷ rest) (subst (All P) next_among named)))
 
   -- the matrix takes it
-  pub next_taken : (more : Table) → ((bounds : List Difference) → IsExact bounds now → IsExact (bounds ++ e.1.bound ∷ []) more)
+  pub next_taken : {more : Table} → ((bounds : List Difference) → IsExact bounds now → IsExact (bounds ++ e.1.bound ∷ []) more)
       → more.events ≡ now.events → more.steps ≡ min (now.steps + 1) 18446744073709551615
       → IsTightenedBy records (seen ++ e ∷ []) rest first more
-  next_taken more taken events steps =
+  next_taken {more} taken events steps =
       let longer = length-append seen (e ∷ []) in
       record {
         parts = next_among ∙ sym (append_assoc seen (e ∷ []) rest);

@@ -1,5 +1,5 @@
 -- What an amendment under a new id leaves, and why it is refused.
-use Rattle.std.{proofs.{Common.{rules, ◌≡◌, suc, ◌≤◌, true, false, cond, Some, None}, lemmas.Bool.ne_eqb}, specs.{Prelude.{option_map, ◌==◌}, Bool.then_some, FinMap.get}}
+use Rattle.std.{proofs.Common.{rules, ◌≡◌, suc, ◌≤◌, true, false, cond, Some, None}, specs.{Prelude.{option_map, ◌==◌}, Bool.then_some, FinMap.get}}
 use Rattle.stn_net.specs.Difference.{Difference}
 use Rattle.stn_records.{specs.{Id.{SiteCounter, most_counter, same_ids}, Refusals.{amendment_refusal, clashes, is_too_much}, Content.{most_known, Content, IsSound, is_known, known_count, next_counter, with_amendment}}, proofs.Limits.amended_count}
 use Rattle.stn_records.specs.declared.faults.RecordsFault.TheVariants as records
@@ -31,7 +31,7 @@ module _ (s : Content) (id old : SiteCounter) (bound : Difference) (unknown : is
 
   -- which happens where as many are known as may be
   pub next_amended : known_count s ≤ most_known → option_map of_records_fault (amendment_refusal s id old bound) ≡ then_some (known_count s == most_known) Full
-  next_amended most = search (rules, full_where_too_much, ne_eqb, too_much_where_full)
+  next_amended most = search (rules, full_where_too_much, too_much_where_full)
 
 -- an amendment under the site's next id is refused only for want of room
 pub amended_next : (held : Held) (id old : SiteCounter) (bound : Difference) → IsSound held.state → next_counter held.state held.site ≤ most_counter

@@ -83,10 +83,6 @@ withdrawn held id = search rules
 pub or_none : {X : Type 0} (o p : Option X) → option_or o p ≡ None → (o ≡ None) × (p ≡ None)
 or_none o p e = search rules
 
--- and an id that may be withdrawn is known
-pub accepted_known : (held : Held) (id : SiteCounter) → withdraw_refusal held id ≡ None → is_known held.state id ≡ true
-accepted_known held id e = search rules
-
--- and its old id is known
+-- the old id of an amendment that is accepted is known
 pub amended_known : (held : Held) (old : SiteCounter) (bound : Difference) → amend_refusal held old bound ≡ None → is_known held.state old ≡ true
 amended_known held old bound e = search rules

@@ -1,44 +1,32 @@
 -- What refuses a step, and what an accepted step tells.
-use Rattle.std.{proofs.{Common.{rules, ◌≡◌, ◌≢◌, ℕ, ◌<◌, ◌≤◌, Bool, true, not, ◌&&◌, leb, Option, Some, None, length, ap, sym, ◌∙◌, arith}, lemmas.Bool.Decides.nat_tests}, specs.{Prelude.{unwrap_or, option_map}, Bool.{Decides, then_some}, Option.option_or}}
-use Rattle.stn_refusal.specs.{declared.{code.Code.TheVariants.{NoSite, NoPacket, Unknown}, failure.Failure.Failure}, Refusals.{refused, out_of_memory}}
+use Rattle.std.{proofs.Common.{rules, ◌≡◌, ◌≢◌, ℕ, ◌≤◌, true, not, ◌&&◌, leb, Option, Some, None, arith}, specs.{Prelude.{unwrap_or, option_map}, Bool.Decides, Option.option_or}}
+use Rattle.stn_refusal.specs.{declared.{code.Code.TheVariants.NoSite, failure.Failure.Failure}, Refusals.{refused, out_of_memory}}
 use Rattle.stn_records.specs.Content.{Content}
 use Rattle.stn_site.specs.{declared.{faults.ReplicaFault.ReplicaFault, change.Change.Change}, Change.change_refusal, Failures.replica_failure, Refusals.take_refusal}
 use Rattle.stn_site.specs.declared.faults.ReplicaFault.TheVariants as replica_fault
-use Rattle.stn_world.{specs.{World.{World, most_packets, HasSite, has_site, HasPacket, has_packet, held_at, content_at, packet_at}, Steps.{changed, merged, sent, delivered, missing, step_refusal, IsAccepted, send_refusal}}, proofs.Parts.{IsSentOf, part_decides}}
+use Rattle.stn_world.{specs.{World.{World, HasSite, has_site, HasPacket, held_at, content_at, packet_at}, Steps.{changed, merged, sent, delivered, missing, step_refusal, IsAccepted}}, proofs.Parts.{IsSentOf, part_decides}}
 
-both : (a b n : ℕ) → (leb a b && leb b n) ≡ true → (a ≤ b) × (b ≤ n)
-both a b n e = (grind (arith, nat_tests), grind (arith, nat_tests))
+both : {a b n : ℕ} → (leb a b && leb b n) ≡ true → (a ≤ b) × (b ≤ n)
+both e = search rules
 
-within : (a b n : ℕ) → a ≤ b → b ≤ n → (leb a b && leb b n) ≡ true
-within a b n least most = grind arith
+within : {a b n : ℕ} → a ≤ b → b ≤ n → (leb a b && leb b n) ≡ true
+within least most = grind arith
 
 pub site_decides : (world : World) (site : ℕ) → Decides (has_site world site) (HasSite world site)
 site_decides world site = search rules
 
-pub packet_decides : (world : World) (number : ℕ) → Decides (has_packet world number) (HasPacket world number)
-packet_decides world number = search rules
-
--- a site that is there, and one that is not
-pub at_site : (world : World) (site : ℕ) (refusal : Option Failure) → HasSite world site → option_or (missing world site) refusal ≡ refusal
-at_site world site refusal there = ap (λ b. option_or (then_some (not b) (refused NoSite)) refusal) ((site_decides world site).1 there)
-
 pub no_site : (world : World) (site : ℕ) (refusal : Option Failure) → ¬ HasSite world site → option_or (missing world site) refusal ≡ Some (refused NoSite)
 no_site world site refusal missing = search rules
 
--- a packet that is there, and one that is not
-pub at_packet : (world : World) (number : ℕ) (refusal : Option Failure) → HasPacket world number → option_or (then_some (not (has_packet world number)) (refused NoPacket)) refusal ≡ refusal
-at_packet world number refusal there = ap (λ b. option_or (then_some (not b) (refused NoPacket)) refusal) ((packet_decides world number).1 there)
-
 -- the fault of a call at a site that is not there
-pub site_missing : (world : World) (site : ℕ) (refusal : Option Failure) (failure : Failure) → failure ≡ refused NoSite → ¬ HasSite world site
+pub site_missing : {world : World} {site : ℕ} (refusal : Option Failure) {failure : Failure} → failure ≡ refused NoSite → ¬ HasSite world site
     → failure ≡ unwrap_or (option_or (missing world site) refusal) out_of_memory
-site_missing world site refusal failure is gone = is ∙ ap (λ o. unwrap_or o out_of_memory) (sym (no_site world site refusal gone))
+site_missing {world} {site} refusal is gone = cc (no_site world site refusal gone)
 
 -- a fault of a replica is the world's
-pub refused_by : (refusal : Option ReplicaFault) (fault : ReplicaFault) → fault ≡ unwrap_or refusal replica_fault.Memory
+pub refused_by : (refusal : Option ReplicaFault) {fault : ReplicaFault} → fault ≡ unwrap_or refusal replica_fault.Memory
     → replica_failure fault ≡ unwrap_or (option_map replica_failure refusal) out_of_memory
-refused_by None fault e = ap replica_failure e
-refused_by (Some cause) fault e = ap replica_failure e
+refused_by refusal e = search rules
 
 -- a change is accepted where the site is there and its replica accepts it
 pub accepted_change : (world : World) (site : ℕ) (asked : Change) → IsAccepted world (changed site asked) → HasSite world site × (change_refusal (held_at world site) asked ≡ None)
@@ -48,31 +36,26 @@ pub accepted_merge : (world : World) (site other : ℕ) → IsAccepted world (me
 accepted_merge world site other e = search rules
 
 -- a site that merges itself
-pub merge_itself : (world : World) (site other : ℕ) → HasSite world site → HasSite world other → site ≡ other → IsAccepted world (merged site other)
-merge_itself world site other there other_there same = search rules
+pub merge_itself : {world : World} {site other : ℕ} → HasSite world site → HasSite world other → site ≡ other → IsAccepted world (merged site other)
+merge_itself there other_there same = search rules
 
 -- two sites
-pub merge_refusal : (world : World) (site other : ℕ) → HasSite world site → HasSite world other → site ≢ other
+pub merge_refusal : {world : World} {site other : ℕ} → HasSite world site → HasSite world other → site ≢ other
     → step_refusal world (merged site other) ≡ option_map replica_failure (take_refusal (held_at world site) (content_at world other))
-merge_refusal world site other there other_there apart = search rules
+merge_refusal there other_there apart = search rules
 
 -- the other site is not there
-pub other_missing : (world : World) (site other : ℕ) (failure : Failure) → HasSite world site → failure ≡ refused NoSite → ¬ HasSite world other
+pub other_missing : {world : World} {site other : ℕ} {failure : Failure} → HasSite world site → failure ≡ refused NoSite → ¬ HasSite world other
     → failure ≡ unwrap_or (step_refusal world (merged site other)) out_of_memory
-other_missing world site other failure there is gone = search rules
+other_missing there is gone = search rules
 
 -- ---- sendings
 pub accepted_sending : (world : World) (site : ℕ) (part : Content) → IsAccepted world (sent site part) → HasSite world site × IsSentOf part (content_at world site)
 accepted_sending world site part e = search (rules, part_decides)
 
 -- a site sends a part of what it holds
-pub sending_free : (world : World) (site : ℕ) (part : Content) → HasSite world site → IsSentOf part (content_at world site) → IsAccepted world (sent site part)
-sending_free world site part there inside = search (rules, part_decides)
-
--- where there is room for a packet more
-pub send_with_room : (world : World) (site : ℕ) (held : Bool) → HasSite world site → length world.packets < most_packets
-    → send_refusal world site held ≡ then_some (not held) (refused Unknown)
-send_with_room world site held there room = search rules
+pub sending_free : {world : World} {site : ℕ} {part : Content} → HasSite world site → IsSentOf part (content_at world site) → IsAccepted world (sent site part)
+sending_free there inside = search (rules, part_decides)
 
 -- ---- deliveries
 pub accepted_delivery : (world : World) (site number : ℕ) → IsAccepted world (delivered site number)
@@ -81,4 +64,4 @@ accepted_delivery world site number e = search rules
 
 pub delivery_refusal : (world : World) (site number : ℕ) → HasSite world site → HasPacket world number
     → step_refusal world (delivered site number) ≡ option_map replica_failure (take_refusal (held_at world site) (packet_at world number))
-delivery_refusal world site number there packet_there = at_site world site _ there ∙ at_packet world number _ packet_there
+delivery_refusal world site number there packet_there = search rules

@@ -1,5 +1,5 @@
 -- The copies of a world's sites, each seen as what it holds.
-use Rattle.std.{proofs.{Common.{rules, ◌≡◌, ◌≢◌, ℕ, zero, suc, ◌+◌, ◌-◌, ◌<◌, List, [], ◌∷◌, length, map, set, get_or, refl, ap, sym, ◌∙◌, subst, arith}, lemmas.List.{map-set, Edits.{get_or-remove_below, get_or-remove_above}}, Math.ListN.get_or-map}, specs.{List.{insert, remove}, Prelude.Result}}
+use Rattle.std.{proofs.{Common.{rules, ◌≡◌, ◌≢◌, ℕ, zero, suc, ◌+◌, ◌-◌, ◌<◌, List, [], ◌∷◌, length, map, set, get_or, refl, sym, subst, arith}, lemmas.List.{map-set, Edits.{get_or-remove_below, get_or-remove_above}}, Math.ListN.get_or-map}, specs.{List.{insert, remove}, Prelude.Result}}
 use Rattle.stn_lift.specs.PlanSource.{PlanSource}
 use Rattle.stn_records.specs.Content.{Content}
 use Rattle.stn_site.specs.Held.{Held}
@@ -9,12 +9,12 @@ use Rattle.stn_world.{specs.{Sites.world_of, Whole.IsSoundWorld, World.{World, H
 module _ {C : Type 0} (held : C → Held) where
   -- ---- a copy at a place
   pub got : (copies : List C) (place : ℕ) (one : C) → one ≡ get_or copies place one → held one ≡ get_or (map held copies) place (held one)
-  got copies place one same = ap held same ∙ sym (get_or-map held copies place one)
+  got copies place one same = cc (get_or-map held copies place one)
 
   pub placed : {world : World} {source : PlanSource} {packets : List Content} {place site : ℕ} (copies : List C) (one : C)
       → world_of source (map held copies) packets ≡ world → IsSoundWorld source (map held copies) packets → place ≡ site - 1 → HasSite world site → one ≡ get_or copies place one
       → IsPlaced world source (map held copies) packets place site (held one)
-  placed {place = place} copies one is sound at there same = record { is = is; sound = sound; at = at; there = there; same = got copies place one same }
+  placed {place = place} copies one is sound at there same = search (rules, got)
 
   -- ---- a copy that changes
   pub taken : {T : Type 0} {world : World} {source : PlanSource} {packets : List Content} {call : Step} {Given : T → Type 0} {result : Result T Failure} (copies : List C) (place : ℕ) (new : C)
@@ -24,14 +24,13 @@ module _ {C : Type 0} (held : C → Held) where
 
   pub stayed : {world : World} {source : PlanSource} {packets : List Content} {place site : ℕ} (copies : List C) (one new : C) → IsPlaced world source (map held copies) packets place site (held one)
       → new ≡ one → world_of source (map held (set copies place new)) packets ≡ world
-  stayed {source = source} {packets = packets} {place = place} copies one new at same =
-      ap (λ (l : List Held). world_of source l packets) (map-set held copies place new) ∙ world_stayed at (held new) (ap held same)
+  stayed {source = source} {packets = packets} {place = place} copies one new at same = search (rules, map-set, world_stayed)
 
   -- ---- a copy that is taken out, and put back
   pub put_back : (copies : List C) (place : ℕ) (new : C) → place < length copies → insert (remove copies place) place new ≡ set copies place new
   put_back [] place new there = absurd (omega arith)
   put_back (one ∷ copies) zero new there = refl
-  put_back (one ∷ copies) (suc place) new there = ap (λ rest. one ∷ rest) (put_back copies place new (omega arith))
+  put_back (one ∷ copies) (suc place) new there = cc (put_back copies place new (omega arith))
 
   pub beside : (copies : List C) (out place at : ℕ) (one : C) → out < length copies → place ≢ out → (place < out → at ≡ place) → (out < place → at + 1 ≡ place)
       → one ≡ get_or (remove copies out) at one → one ≡ get_or copies place one

@@ -1,24 +1,18 @@
 -- The sites of a world stay parts of a whole.
-use Rattle.std.{proofs.{Common.{rules, ◌≡◌, ◌≢◌, ◌↔◌, ◌⊎◌, inl, inr, ⊎_elim, ℕ, zero, suc, ◌-◌, Bool, true, false, not, ◌||◌, is_some, Option, Some, None, List, [], ◌∷◌, ◌++◌, set, get_or, refl, ap, sym, subst, ◌∙◌, arith}, lemmas.{Bool.{false≢true, or_cases}, Grind.common_steps, List.get_or-set_same}}, specs.Prelude.⊤}
-use Rattle.std.specs.FinMap as fin
+use Rattle.std.{proofs.{Common.{rules, ◌≡◌, ◌≢◌, ◌↔◌, ◌⊎◌, inl, inr, ⊎_elim, ℕ, ◌-◌, Bool, true, false, not, is_some, Option, Some, None, List, [], ◌∷◌, ◌++◌, set, get_or, refl, ap, sym, subst, ◌∙◌, arith}, lemmas.{Bool.{false≢true, or_cases}, Grind.common_steps}}, specs.Prelude.⊤}
 use Rattle.stn_site.{proofs.{Flags.get_or-replicate_same, Items.{nothing_there, addition_items, amendment_items, withdrawal_brought}}, specs.{Bounds.RecordsName, Held.Held, Calls.{Accepted, added, amended, withdrew, took, Brought}, Change.{change_call, change_refusal}, declared.change.Change.Change}}
 use Rattle.stn_net.specs.Difference.{Difference, NamesEvents}
 use Rattle.stn_lift.specs.PlanSource.{PlanSource, events_of}
-use Rattle.stn_records.{specs.{Id.SiteCounter, declared.record.Record.Record, Content.{Content, Item, addition, withdrawal, replacement, HasItem, is_known, is_replaced, no_content, plain, with_tombstone, dispute_contents, joined_contents, IsPart, IsAmendment, AllAmend}, ContentLaws.{ids_total, ids_exact, contents_join, contents_dispute, contents_undisputed}}, proofs.{Replaced.replaced_cases, Counters.next_is_new, Gets.entries_from_get}}
+use Rattle.stn_records.{specs.{Id.SiteCounter, declared.record.Record.Record, Content.{Content, Item, addition, withdrawal, replacement, HasItem, is_known, no_content, plain, dispute_contents, joined_contents, IsPart, IsAmendment, AllAmend}, ContentLaws.{ids_total, ids_exact, contents_join, contents_dispute, contents_undisputed}}, proofs.{Replaced.replaced_cases, Counters.next_is_new, Gets.entries_from_get}}
 use Rattle.stn_world.{specs.{World.{World, HasSite, IsRecordOf, opening_world, content_at, packet_at, held_at, next_id_at, with_content, content_after, with_call, send}, Steps.{Step, changed, merged, sent, delivered, after, IsAccepted}, Whole.{IsWhole, IsCoherent}}, proofs.{Parts.sent_inside, Accepted.{accepted_change, accepted_merge, accepted_delivery, accepted_sending}}}
 
 -- a place of a list that was set has the new element, or what it had
-set_cases : {X : Type 0} (xs : List X) (i j : ℕ) (x d : X) → ((get_or (set xs i x) j d ≡ x) × (get_or xs i d ≡ get_or xs j d)) ⊎ (get_or (set xs i x) j d ≡ get_or xs j d)
-set_cases [] i j x d = inr refl
-set_cases (y ∷ xs) zero zero x d = inl (refl, refl)
-set_cases (y ∷ xs) zero (suc j) x d = inr refl
-set_cases (y ∷ xs) (suc i) zero x d = inr refl
-set_cases (y ∷ xs) (suc i) (suc j) x d = set_cases xs i j x d
+set_cases : {X : Type 0} (xs : List X) (i j : ℕ) {x : X} (d : X) → ((get_or (set xs i x) j d ≡ x) × (get_or xs i d ≡ get_or xs j d)) ⊎ (get_or (set xs i x) j d ≡ get_or xs j d)
+set_cases xs i j d = grind (arith, common_steps)
 
 -- what was true of each site's content, and is of the new one
 pub each_site : (P : Content → Type 0) (world : World) (at : ℕ) (content : Content) (site : ℕ) → P content → P (content_at world site) → P (content_at (with_content world at content) site)
-each_site P world at content site new old =
-    ⊎_elim (λ e. subst P (sym e.0) new) (λ e. subst P (sym e) old) (set_cases world.sites (at - 1) (site - 1) content no_content)
+each_site P world at content site new old = search (rules, set_cases)
 
 -- a site keeps what it held, where the new content has what the old one had
 pub kept : (world : World) (at : ℕ) (content : Content) (site : ℕ) (item : Item) → IsPart (content_at world at) content → HasItem (content_at world site) item → HasItem (content_at (with_content world at content) site) item
@@ -26,34 +20,30 @@ kept world at content site item grows there = search (rules, set_cases)
 
 -- ---- entries
 -- an entry that amends does so in a larger state
-amends_more : (old new : Content) (id entry : SiteCounter) → IsPart old new → IsAmendment old.additions id entry → IsAmendment new.additions id entry
-amends_more old new id entry grows is = record { added = (is.added.0, grows (addition id (plain is.added.0)) is.added.1); other = is.other }
+amends_more : (old new : Content) {id entry : SiteCounter} → IsPart old new → IsAmendment old.additions id entry → IsAmendment new.additions id entry
+amends_more old new {id} grows is = record { added = (is.added.0, grows (addition id (plain is.added.0)) is.added.1); other = is.other }
 
 -- each entry amends where new ones come with their records
 amends_made : (old new : Content) (New : Item → Type 0) → ((item : Item) → HasItem new item ↔ (HasItem old item ⊎ New item)) → AllAmend old
     → ((id entry : SiteCounter) → New (replacement id entry) → ((bound : Difference) × New (addition id (plain bound))) × (id ≢ entry)) → AllAmend new
 amends_made old new New grown amends news id entry there = ⊎_elim
-    (λ was. amends_more old new id entry (λ item h. (grown item).1 (inl h)) (amends id entry was))
+    (λ was. amends_more old new (λ item h. (grown item).1 (inl h)) (amends id entry was))
     (λ h. let one = news id entry h in record { added = (one.0.0, (grown (addition id (plain one.0.0))).1 (inr one.0.1)); other = one.1 })
     ((grown (replacement id entry)).0 there)
 
 -- ---- known ids
 -- an id that is known was added, withdrawn or replaced
-pub known_items : (s : Content) (id : SiteCounter) → is_known s id ≡ true
+pub known_items : (s : Content) {id : SiteCounter} → is_known s id ≡ true
     → ((one : Record) × HasItem s (addition id one)) ⊎ (HasItem s (withdrawal id) ⊎ ((other : SiteCounter) × HasItem s (replacement other id)))
-known_items s id known = ⊎_elim (λ e. inl (held (fin.get s.additions id) e)) (λ e. inr (replaced_cases s id e)) (or_cases _ _ known)
-  where
-    held : (o : Option Record) → is_some o ≡ true → (one : Record) × (o ≡ Some one)
-    held None e = absurd (false≢true e)
-    held (Some one) e = (one, refl)
+known_items s known = search (rules, replaced_cases, or_cases)
 
 pub items_known : (s : Content) (id : SiteCounter) (one : Record) → HasItem s (addition id one) → is_known s id ≡ true
-items_known s id one there = ap (λ (o : Option Record). is_some o || is_replaced s id) there
+items_known s id one there = cc
 
 -- in the whole each id has a record that a site or a packet knows
 pub held_record : (world : World) (all part : Content) (id : SiteCounter) → IsWhole world all → IsPart part all → is_known part id ≡ true → (one : Record) × HasItem all (addition id one)
 held_record world all part id whole inside known =
-    ⊎_elim (λ h. (h.0, inside (addition id h.0) h.1)) (λ gone. ⊎_elim (λ h. whole.made id (inside (withdrawal id) h)) (λ h. whole.replaced h.0 id (inside (replacement h.0 id) h.1)) gone) (known_items part id known)
+    ⊎_elim (λ h. (h.0, inside (addition id h.0) h.1)) (λ gone. ⊎_elim (λ h. whole.made id (inside (withdrawal id) h)) (λ h. whole.replaced h.0 id (inside (replacement h.0 id) h.1)) gone) (known_items part known)
 
 -- a site's next id is new everywhere
 pub next_unknown : (world : World) (all : Content) (site : ℕ) → IsWhole world all → is_known all (next_id_at world site) ≡ false
@@ -67,7 +57,7 @@ next_unknown world all site whole = none (is_known all (next_id_at world site)) 
     none true e = let added = held_record world all all (next_id_at world site) whole (λ item h. h) e in absurd (here added.0 added.1)
 
 pub content_here : (world : World) (site : ℕ) (content : Content) → HasSite world site → content_at (with_content world site content) site ≡ content
-content_here world site content there = let least = there.least in let most = there.most in get_or-set_same world.sites (site - 1) content no_content (omega arith)
+content_here world site content there = search rules
 
 -- two parts of a whole agree on every id
 pub parts_agree : (a b all : Content) → IsPart a all → IsPart b all → dispute_contents a b ≡ None
@@ -90,24 +80,20 @@ IsNewTo s (took other) = dispute_contents s other ≡ None
 -- so it leaves the items that were there and those that it brought
 call_items : (s : Content) (call : Accepted) → IsNewTo s call → (item : Item) → HasItem (content_after s call) item ↔ (HasItem s item ⊎ Brought call item)
 call_items s (added id one) new = addition_items s id one new
-call_items s (amended id old bound) new = amendment_items s id old bound new.0 new.1
-call_items s (withdrew id) new = withdrawal_brought s (with_tombstone s id) id refl
+call_items s (amended id old bound) new = search (rules, amendment_items)
+call_items s (withdrew id) new = search (rules, withdrawal_brought)
 call_items s (took other) new = contents_join.union s other (joined_contents s other) (contents_undisputed s other new)
 
--- a change does so under an id that is not known
-change_new : (s : Content) (asked : Change) (id : SiteCounter) → AllAmend s → is_known s id ≡ false → IsNewTo s (change_call asked id)
-change_new s asked id amends unknown = grind (arith, common_steps)
-
+-- a change under an id that is not known leaves the items that were there and those that it brings
 pub change_items_of : (s : Content) (asked : Change) (id : SiteCounter) → AllAmend s → is_known s id ≡ false
     → (item : Item) → HasItem (content_after s (change_call asked id)) item ↔ (HasItem s item ⊎ Brought (change_call asked id) item)
-change_items_of s asked id amends unknown = call_items s (change_call asked id) (change_new s asked id amends unknown)
+change_items_of s asked id amends unknown = search (rules, call_items)
 
 -- as one at a site is
 pub changed_items : (world : World) → IsCoherent world → (site : ℕ) (asked : Change) (item : Item)
     → HasItem (content_after (content_at world site) (change_call asked (next_id_at world site))) item
     ↔ (HasItem (content_at world site) item ⊎ Brought (change_call asked (next_id_at world site)) item)
-changed_items world coherent site asked =
-    change_items_of (content_at world site) asked (next_id_at world site) (coherent.1.sites_amend site) (next_is_new (content_at world site) site (next_id_at world site).counter refl)
+changed_items world coherent site asked = search (rules, change_items_of, next_is_new)
 
 -- as what a site takes in is
 pub taken_items : (world : World) (all : Content) → IsWhole world all → (site : ℕ) (other : Content) → IsPart other all
@@ -117,22 +103,22 @@ taken_items world all whole site other inside = call_items (content_at world sit
 -- ---- items of a change
 -- each record and each entry that a change brings is one of the id
 pub record_new : (asked : Change) (id other : SiteCounter) (one : Record) → Brought (change_call asked id) (addition other one) → other ≡ id
-record_new asked id other one e = grind (arith, common_steps)
+record_new asked id other one e = grind (arith)
 
 pub entry_new : (asked : Change) (id other second : SiteCounter) → Brought (change_call asked id) (replacement other second) → other ≡ id
-entry_new asked id other second e = grind (arith, common_steps)
+entry_new asked id other second e = grind (arith)
 
 -- ---- items that a site makes
 -- what a site holds grows by new items, and with it the whole: records about the plan's events that are the site's own or held by theirs, withdrawals of ids that have a
 -- record, and entries of such records that replace ids that have one
-made_whole : (world : World) (all more : Content) (site : ℕ) (content : Content) (New : Item → Type 0) → IsWhole world all → HasSite world site
+made_whole : {world : World} {all more : Content} {site : ℕ} (content : Content) (New : Item → Type 0) → IsWhole world all → HasSite world site
     → ((item : Item) → HasItem more item ↔ (HasItem all item ⊎ New item))
     → ((item : Item) → HasItem content item ↔ (HasItem (content_at world site) item ⊎ New item))
     → ((id : SiteCounter) (one : Record) → New (addition id one) → (HasItem (content_at world id.site) (addition id one) ⊎ (id.site ≡ site)) × IsRecordOf (events_of world.source) one)
     → ((id : SiteCounter) → New (withdrawal id) → (one : Record) × HasItem all (addition id one))
     → ((id old : SiteCounter) → New (replacement id old) → ((one : Record) × HasItem all (addition old one)) × (((bound : Difference) × New (addition id (plain bound))) × (id ≢ old)))
     → IsWhole (with_content world site content) more
-made_whole world all more site content New whole there larger grown records gone entries = record {
+made_whole {world} {all} {more} {site} content New whole there larger grown records gone entries = record {
   sites = λ at. each_site (λ (c : Content). IsPart c more) world site content at (λ item h. (larger item).1 (⊎_elim (λ was. inl (whole.sites site item was)) inr ((grown item).0 h))) (λ item h. lifts item (whole.sites at item h));
   packets = λ number item h. lifts item (whole.packets number item h);
   own = λ id one h. ⊎_elim (λ was. stays id one (whole.own id one was)) (λ new. ⊎_elim (stays id one) (λ is.
@@ -164,7 +150,7 @@ IsOwn (took other) = ⊥
 IsOwn call = Unit {0}
 
 pub own_call : (asked : Change) (id : SiteCounter) → IsOwn (change_call asked id)
-own_call asked id = grind (arith, common_steps)
+own_call asked id = grind (arith)
 
 -- each entry that it brings comes with its record
 entry_amends : (call : Accepted) (id old : SiteCounter) → IsOwn call → Brought call (replacement id old) → (bound : Difference) × Brought call (addition id (plain bound))
@@ -175,28 +161,28 @@ entry_amends (took content) id old own e = absurd own
 
 -- what an accepted change adds is a record of the plan, and what it withdraws or replaces is known
 module _ (held : Held) (asked : Change) (next : SiteCounter) (free : change_refusal held asked ≡ None) where
-  record_proper : (id : SiteCounter) (one : Record) → Brought (change_call asked next) (addition id one) → IsRecordOf (events_of held.source) one
-  record_proper id one e = grind (arith, common_steps)
+  record_proper : (id : SiteCounter) {one : Record} → Brought (change_call asked next) (addition id one) → IsRecordOf (events_of held.source) one
+  record_proper id e = grind (arith)
 
   gone_known : (id : SiteCounter) → Brought (change_call asked next) (withdrawal id) → is_known held.state id ≡ true
-  gone_known id e = grind (arith, common_steps)
+  gone_known id e = grind (arith)
 
   old_known : (id old : SiteCounter) → Brought (change_call asked next) (replacement id old) → is_known held.state old ≡ true
-  old_known id old e = grind (arith, common_steps)
+  old_known id old e = grind (arith)
 
 -- so it brings such items
-pub changed_whole : (world : World) (all : Content) (site : ℕ) → IsWhole world all → (asked : Change) → HasSite world site → change_refusal (held_at world site) asked ≡ None
+pub changed_whole : {world : World} {all : Content} {site : ℕ} → IsWhole world all → (asked : Change) → HasSite world site → change_refusal (held_at world site) asked ≡ None
     → IsWhole (with_call world site (change_call asked (next_id_at world site))) (content_after all (change_call asked (next_id_at world site)))
-changed_whole world all site whole asked there free =
+changed_whole {world} {all} {site} whole asked there free =
     let held = held_at world site in
     let next = next_id_at world site in
     let call = change_call asked next in
     let known : (id : SiteCounter) → is_known held.state id ≡ true → (one : Record) × HasItem all (addition id one) = (λ id is. held_record world all held.state id whole (whole.sites site) is) in
     let new : is_known held.state next ≡ false = next_is_new held.state site next.counter refl in
-    made_whole world all (content_after all call) site (content_after held.state call) (Brought call) whole there
+    made_whole (content_after held.state call) (Brought call) whole there
     (change_items_of all asked next whole.amends (next_unknown world all site whole))
     (changed_items world (all, whole) site asked)
-    (λ id one e. (inr (ap (λ (i : SiteCounter). i.site) (record_new asked next id one e)), record_proper held asked next free id one e))
+    (λ id one e. (inr (ap (λ (i : SiteCounter). i.site) (record_new asked next id one e)), record_proper held asked next free id e))
     (λ id e. known id (gone_known held asked next free id e))
     (λ id old e. let is = old_known held asked next free id old e in (
       known old is,
@@ -205,15 +191,15 @@ changed_whole world all site whole asked there free =
 
 -- ---- merges
 -- each record of a part is about the plan's events
-pub part_named : (world : World) (all part : Content) → IsWhole world all → IsPart part all → RecordsName (events_of world.source) part
-part_named world all part whole inside =
+pub part_named : {world : World} {all : Content} (part : Content) → IsWhole world all → IsPart part all → RecordsName (events_of world.source) part
+part_named {world} part whole inside =
     entries_from_get ids_total ids_exact part.additions (λ entry. NamesEvents (events_of world.source) entry.1.bound)
     (λ id one there. (whole.records id one (inside (addition id one) there)).bound.named)
 
 -- a site takes in another part of the whole
-pub joined_whole : (world : World) (all : Content) (site : ℕ) (other : Content) → HasSite world site → IsWhole world all → IsPart other all → AllAmend other → IsWhole (with_content world site (joined_contents (content_at world site) other)) all
-joined_whole world all site other there whole inside amends =
-    made_whole world all all site (joined_contents (content_at world site) other) (HasItem other) whole there
+pub joined_whole : {world : World} {all : Content} {site : ℕ} (other : Content) → HasSite world site → IsWhole world all → IsPart other all → AllAmend other → IsWhole (with_content world site (joined_contents (content_at world site) other)) all
+joined_whole {world} {all} {site} other there whole inside amends =
+    made_whole (joined_contents (content_at world site) other) (HasItem other) whole there
     (λ item. (inl, λ h. ⊎_elim (λ was. was) (inside item) h)) (taken_items world all whole site other inside)
     (λ id one h. let at = inside (addition id one) h in (inl (whole.own id one at), whole.records id one at))
     (λ id h. whole.made id (inside (withdrawal id) h))
@@ -221,18 +207,15 @@ joined_whole world all site other there whole inside amends =
 
 -- ---- packets
 -- a place of a longer list has the new element, or what it had
-last_cases : {X : Type 0} (xs : List X) (i : ℕ) (x d : X) → (get_or (xs ++ x ∷ []) i d ≡ x) ⊎ (get_or (xs ++ x ∷ []) i d ≡ get_or xs i d)
-last_cases [] zero x d = inl refl
-last_cases [] (suc i) x d = inr refl
-last_cases (y ∷ xs) zero x d = inr refl
-last_cases (y ∷ xs) (suc i) x d = last_cases xs i x d
+last_cases : {X : Type 0} (xs : List X) (i : ℕ) {x : X} (d : X) → (get_or (xs ++ x ∷ []) i d ≡ x) ⊎ (get_or (xs ++ x ∷ []) i d ≡ get_or xs i d)
+last_cases xs i d = grind (arith, common_steps)
 
 -- and so has a property of all packets
 pub each_packet : (P : Content → Type 0) (world : World) (part : Content) (number : ℕ) → P part → P (packet_at world number) → P (packet_at (send world part) number)
-each_packet P world part number new old = ⊎_elim (λ e. subst P (sym e) new) (λ e. subst P (sym e) old) (last_cases world.packets (number - 1) part no_content)
+each_packet P world part number new old = search (rules, last_cases)
 
-pub sent_whole : (world : World) (all part : Content) → IsWhole world all → IsPart part all → AllAmend part → IsWhole (send world part) all
-sent_whole world all part whole inside amends = record {
+pub sent_whole : {world : World} {all : Content} (part : Content) → IsWhole world all → IsPart part all → AllAmend part → IsWhole (send world part) all
+sent_whole {world} {all} part whole inside amends = record {
   sites = whole.sites;
   packets = λ number. each_packet (λ (c : Content). IsPart c all) world part number inside (whole.packets number);
   own = whole.own;
@@ -253,18 +236,18 @@ whole_after world (sent site part) all = all
 whole_after world (delivered site number) all = all
 
 pub step_whole : (world : World) (all : Content) (step : Step) → IsAccepted world step → IsWhole world all → IsWhole (after world step) (whole_after world step all)
-step_whole world all (changed site asked) accepted whole = let is = accepted_change world site asked accepted in changed_whole world all site whole asked is.0 is.1
-step_whole world all (merged site other) accepted whole = joined_whole world all site (content_at world other) (accepted_merge world site other accepted).0 whole (whole.sites other) (whole.sites_amend other)
+step_whole world all (changed site asked) accepted whole = let is = accepted_change world site asked accepted in changed_whole whole asked is.0 is.1
+step_whole world all (merged site other) accepted whole = joined_whole (content_at world other) (accepted_merge world site other accepted).0 whole (whole.sites other) (whole.sites_amend other)
 step_whole world all (sent site part) accepted whole =
     let is = (accepted_sending world site part accepted).1 in
-    sent_whole world all part whole (λ item there. whole.sites site item (sent_inside part (content_at world site) is item there)) (search rules)
-step_whole world all (delivered site number) accepted whole = joined_whole world all site (packet_at world number) (accepted_delivery world site number accepted).0 whole (whole.packets number) (whole.packets_amend number)
+    sent_whole part whole (λ item there. whole.sites site item (sent_inside part (content_at world site) is item there)) (search rules)
+step_whole world all (delivered site number) accepted whole = joined_whole (packet_at world number) (accepted_delivery world site number accepted).0 whole (whole.packets number) (whole.packets_amend number)
 
 pub coherent_after : (world : World) (step : Step) → IsAccepted world step → IsCoherent world → IsCoherent (after world step)
 coherent_after world step accepted coherent = (whole_after world step coherent.0, step_whole world coherent.0 step accepted coherent.1)
 
 pub nothing_at_first : (source : PlanSource) (sites site : ℕ) → content_at (opening_world source sites) site ≡ no_content
-nothing_at_first source sites site = get_or-replicate_same sites no_content (site - 1)
+nothing_at_first source sites site = search (rules, get_or-replicate_same)
 
 nothing_amends : AllAmend no_content
 nothing_amends id old there = absurd (nothing_there (replacement id old) there)

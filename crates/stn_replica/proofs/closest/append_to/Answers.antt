@@ -1,4 +1,4 @@
-use Rattle.std.proofs.Common.{rules, []}
+use Rattle.std.proofs.Common.{rules}
 use Rattle.stn_replica.proofs.Rows.{in_turn_pushed}
 use Rattle.stn_replica.proofs.closest.append_to.Goals as goal
 

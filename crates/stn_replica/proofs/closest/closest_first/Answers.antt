@@ -1,4 +1,4 @@
-use Rattle.std.{proofs.{Common.{rules, [], sym, subst, ◌∙◌, arith}, lemmas.List.{take_all, Sorted.IsPermutation-trans}}, specs.List.Sorted.IsPermutation}
+use Rattle.std.{proofs.{Common.{rules, sym, subst, ◌∙◌, arith}, lemmas.List.{take_all, Sorted.IsPermutation-trans}}, specs.List.Sorted.IsPermutation}
 use Rattle.stn_lift.specs.PlanSource.{events_of}
 use Rattle.stn_replica.{specs.Rows.in_turn, proofs.Rows.{in_rows_next, named_of}}
 use Rattle.stn_replica.proofs.closest.closest_first.Goals as goal
@@ -8,20 +8,20 @@ loop-bound-init g c = search rules
 
 pub planned-requires : goal.planned-requires
 planned-requires g c =
-    let named = named_of (events_of c.args.base.now) c.args.bounds.now c.in_ok-spread.spread.items c.deref-bound-items.result.now c.loop-bound.bound-index c.bound-item.result
+    let named = named_of
     c.requires c.in_ok-spread.ensures c.deref-bound-items.ensures.value c.loop-bound-test.true c.bound-item.is in
     omega (arith, named.from, c.from.ensures.value)
 
 pub planned-requires-in-loop-bound : goal.planned-requires-in-loop-bound
 planned-requires-in-loop-bound g c =
-    let named = named_of (events_of c.args.base.now) c.args.bounds.now c.in_ok-spread.spread.items c.deref-bound-items.result.now c.loop-bound.bound-index c.bound-item.result
+    let named = named_of
     c.requires c.in_ok-spread.ensures c.deref-bound-items.ensures.value c.loop-bound-test.true c.bound-item.is in
     omega (arith, named.to, c.to.ensures.value)
 
 pub loop-bound-preserved : goal.loop-bound-preserved
 loop-bound-preserved g c = record {
   long = c.append_to.ensures.long ∙ c.loop-bound.invariant.long;
-  so_far = in_rows_next c.deref-bound-items.result.now c.loop-bound.bound-index c.bound-item.result c.loop-bound.rows.items c.append_to.new.rows.items c.loop-bound-test.true
+  so_far = in_rows_next c.deref-bound-items.result.now c.loop-bound.rows.items c.append_to.new.rows.items c.loop-bound-test.true
       c.bound-item.is c.loop-bound.invariant.so_far c.in_ok-append_to.ensures.more;
 }
 

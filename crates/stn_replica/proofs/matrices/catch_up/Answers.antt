@@ -6,7 +6,7 @@ use Rattle.stn_replica.proofs.matrices.catch_up.Goals as goal
 
 pub returns-then-not-keeps_live-clause-sound : goal.returns-then-not-keeps_live-clause-sound
 returns-then-not-keeps_live-clause-sound g c = λ source p.
-    sound_rebuilt source c.args.before.now c.args.after.now c.args.opening.now c.args.current.now c.rebuild.new.current c.args.possible c.rebuild.result
+    sound_rebuilt
     p (subst (λ n. RecordsName n c.args.after.now) p.current_events c.requires.named) c.rebuild.ensures.settled c.rebuild.ensures.events c.rebuild.ensures.counted
 
 pub tighten_each-requires-clause-named : goal.tighten_each-requires-clause-named
@@ -16,11 +16,11 @@ tighten_each-requires-clause-named g c =
 
 pub returns-then-possible-clause-sound : goal.returns-then-possible-clause-sound
 returns-then-possible-clause-sound g c = λ source p.
-    sound_taken source c.args.before.now c.args.after.now c.args.opening.now c.args.current.now c.tighten_each.new.matrix c.args.possible c.tighten_each.result
+    sound_taken
     p c.if-possible.true (c.if-not-keeps_live.ensures.0 refl) c.requires.extends (subst (λ n. RecordsName n c.args.after.now) p.current_events c.requires.named)
     (rw c.between.ensures at c.tighten_each.ensures.settled) c.tighten_each.ensures.events c.tighten_each.ensures.counted
 
 pub returns-else-possible-clause-sound : goal.returns-else-possible-clause-sound
 returns-else-possible-clause-sound g c = λ source p.
-    sound_taken_in_conflict source c.args.before.now c.args.after.now c.args.opening.now c.args.current.now c.args.possible
+    sound_taken_in_conflict
     p c.if-possible.false (c.if-not-keeps_live.ensures.0 refl) c.requires.extends (subst (λ n. RecordsName n c.args.after.now) p.current_events c.requires.named)

@@ -13,11 +13,11 @@ pub returns-then-possible-clause-settled : goal.returns-then-possible-clause-set
 returns-then-possible-clause-settled g c = λ one there bounds settled.
     let found = c.get.ensures ∙ ap (λ m. get m c.args.id) (c.additions.ensures ∙ ap (λ (s : Content). s.additions) c.state.ensures.value) in
     let same : c.unwrap-one.result ≡ one = same_Some c.unwrap-one.result one (sym c.unwrap-one.ensures ∙ found ∙ there) in
-    let exact = settled_exact bounds c.args.current.now c.args.possible c.if-possible.true settled in
+    let exact = settled_exact c.if-possible.true settled in
     subst (λ (r : Record). IsSettled (bounds ++ r.bound ∷ []) c.tighten.new.self c.tighten.result) same
-    (settled_tightened bounds c.unwrap-one.result.bound c.tighten.new.self c.tighten.result (c.tighten.ensures.possible bounds exact) (c.tighten.ensures.exact bounds exact))
+    (settled_tightened bounds c.unwrap-one.result.bound (c.tighten.ensures.possible bounds exact) (c.tighten.ensures.exact bounds exact))
 
 pub returns-else-possible-clause-settled : goal.returns-else-possible-clause-settled
 returns-else-possible-clause-settled g c = λ one there bounds settled.
     subst (λ possible. IsSettled (bounds ++ one.bound ∷ []) c.args.current.now possible) (sym c.if-possible.false)
-    (λ s. settled_conflict bounds c.args.current.now c.args.possible c.if-possible.false settled (s.0, schedule_before bounds (one.bound ∷ []) s.0 s.1))
+    (λ s. settled_conflict c.args.current.now c.if-possible.false settled (s.0, schedule_before bounds (one.bound ∷ []) s.0 s.1))

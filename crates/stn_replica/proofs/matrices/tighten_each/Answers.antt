@@ -11,7 +11,7 @@ returns-then-not-tighten-clause-settled g c = λ bounds exact.
 
 pub loop-record-preserved : goal.loop-record-preserved
 loop-record-preserved g c =
-    next_taken c.loop-record.invariant c.in-Some.ensures.steps c.tighten.new.self
+    next_taken c.loop-record.invariant c.in-Some.ensures.steps
     (λ bounds exact. c.if-not-tighten.ensures.exact bounds exact refl) c.if-not-tighten.ensures.events (c.if-not-tighten.ensures.counted refl)
 
 pub returns-clause-settled : goal.returns-clause-settled

@@ -1,4 +1,4 @@
-use Rattle.std.{proofs.{Common.{◌≡◌, Bool, List, ◌∷◌, Option, Some, cond, not, find, option_map, sym, ap, subst, ◌∙◌, All}, lemmas.List.Elements.{All-filter, All-head, All-tail, All-same}}, specs.FinMap.entries}
+use Rattle.std.{proofs.{Common.{◌≡◌, Bool, List, ◌∷◌, Option, Some, cond, not, find, option_map, ap, subst, ◌∙◌, All}, lemmas.List.Elements.{All-filter, All-head, All-tail, All-same}}, specs.FinMap.entries}
 use Rattle.stn_net.specs.Schedule.{NamesTimes, times_of}
 use Rattle.stn_records.specs.{Id.SiteCounter, declared.record.Record.Record, Content.{is_replaced, live_of}}
 use Rattle.stn_site.specs.Names.{is_met}
@@ -7,7 +7,7 @@ use Rattle.stn_site.proofs.site_plan.first_broken_record.Goals as goal
 -- the first of the records ahead is the one that is asked for, where it is broken, and is passed where it is not
 next_asked : (p : SiteCounter × Record → Bool) (ahead rest : List (SiteCounter × Record)) (e : SiteCounter × Record) (told : Bool) (first : Option (SiteCounter × Record)) → ahead ≡ e ∷ rest → told ≡ p e → find p ahead ≡ first
     → cond told (Some e) (find p rest) ≡ first
-next_asked p ahead rest e told first steps is here = ap (λ b. cond b (Some e) (find p rest)) is ∙ sym (ap (find p) steps) ∙ here
+next_asked p ahead rest e told first steps is here = cc
 
 pub loop-id-init : goal.loop-id-init
 loop-id-init g c =

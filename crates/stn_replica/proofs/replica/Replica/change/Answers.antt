@@ -16,10 +16,10 @@ invariant_of-self-then-is_live g c =
     let kept = sym (c.stops_live-stops.ensures ∙ ap (stops_live asked) c.records.ensures.value) ∙ c.if-stops.false in
     let live = ap (λ (s : Content). is_live s c.in_ok-id.id) (sym c.records-records.ensures.value) ∙ sym c.if-is_live.ensures in
     let change = c.in_ok-id.ensures in
-    let more = grown_by_change c.self.inside.plan c.change.new.self asked c.in_ok-id.id change.leaves change.id change.accepted kept live in
+    let more = grown_by_change asked change.leaves change.id change.accepted kept live in
     let took = c.tighten_by-self-inside.ensures in
     sound_with_one c.self.inside.plan c.change.new.self c.self.inside.opening c.self.inside.current c.tighten_by-self-inside.new.current c.self.inside.possible c.tighten_by-self-inside.result c.records-records.result.now
-    c.self.invariant change.leaves.source c.records-records.ensures.named c.records-records.ensures.value c.in_ok-id.id more.0 more.1 (record { settled = took.settled; events = took.events; counted = took.counted })
+    c.self.invariant change.leaves.source c.records-records.ensures.named c.records-records.ensures.value more.1 (record { settled = took.settled; events = took.events; counted = took.counted })
 
 pub invariant_of-self-else-is_live : goal.invariant_of-self-else-is_live
 invariant_of-self-else-is_live g c =
@@ -27,7 +27,7 @@ invariant_of-self-else-is_live g c =
     let kept = sym (c.stops_live-stops.ensures ∙ ap (stops_live asked) c.records.ensures.value) ∙ c.if-stops.false in
     let dead = ap (λ (s : Content). is_live s c.in_ok-id.id) (sym c.records-records.ensures.value) ∙ sym c.if-is_live.ensures in
     let change = c.in_ok-id.ensures in
-    unlive_by_change c.self.inside.plan c.change.new.self asked c.in_ok-id.id c.self.inside.opening c.self.inside.current c.self.inside.possible change.leaves change.accepted kept dead c.self.invariant
+    unlive_by_change asked c.in_ok-id.id change.leaves change.accepted kept dead c.self.invariant
 
 pub returns-clause-work : goal.returns-clause-work
 returns-clause-work g c =
@@ -40,12 +40,12 @@ returns-clause-work g c =
     let first = ap (λ (h : Held). h.state) (sym c.self.view_is) in
     elim c.if-stops.branch [
       | then-stops w ↦
-          spares_fallen c.args.self.now c.if-stops.self old.state new.state (falls_by_change old new asked c.in_ok-id.id change.leaves (stops ∙ w.if-stops.true)) first (ap (λ (h : Held). h.state) w.self-is)
+          spares_fallen c.args.self.now c.if-stops.self (falls_by_change asked c.in_ok-id.id change.leaves (stops ∙ w.if-stops.true)) first (ap (λ (h : Held). h.state) w.self-is)
       | else-stops+then-is_live w ↦
           let live = ap (λ (s : Content). is_live s c.in_ok-id.id) (sym c.records-records.ensures.value) ∙ sym w.if-is_live.ensures in
-          let more = grown_by_change old new asked c.in_ok-id.id change.leaves change.id change.accepted (stops ∙ w.if-stops.false) live in
+          let more = grown_by_change asked change.leaves change.id change.accepted (stops ∙ w.if-stops.false) live in
           let steps = ap (λ (h : Held). h.steps) w.self-is in
-          spares_added c.args.self.now c.if-stops.self old.state new.state c.in_ok-id.id more.0 more.1 first (ap (λ (h : Held). h.state) w.self-is)
+          spares_added c.args.self.now c.if-stops.self more.1 first (ap (λ (h : Held). h.state) w.self-is)
           (omega (arith, w.tighten_by-self-inside.ensures.least, before, steps)) (omega (arith, w.tighten_by-self-inside.ensures.most, before, steps))
       | else-stops+else-is_live w ↦
           spares_same c.args.self.now c.if-stops.self (ap (λ (h : Held). h.steps) w.self-is ∙ ap (λ (h : Held). h.steps) c.self.view_is)

@@ -4,5 +4,5 @@ use Rattle.stn_replica.proofs.replica.Replica.window.Goals as goal
 
 pub returns-then-self : goal.returns-then-self
 returns-then-self g c =
-    let exact = settled_exact (all_bounds (c.self.inside.plan.source) c.self.inside.plan.state) c.self.inside.current c.self.inside.possible c.if-self.true c.self.invariant.settled in
+    let exact = settled_exact c.if-self.true c.self.invariant.settled in
     rw (← c.self.view_is) (exact.possible, c.window.ensures _ exact)

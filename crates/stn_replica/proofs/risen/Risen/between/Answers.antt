@@ -8,5 +8,5 @@ invariant_of-result g c = search (rules, live_sorted)
 
 pub returns : goal.returns
 returns g c =
-    let before : from_next c.next-next_before.result c.next-next_before.new.self ≡ live_of c.args.before.now = next_taken _ _ _ c.next-next_before.ensures.steps ∙ c.live_records-were.ensures.live in
+    let before : from_next c.next-next_before.result c.next-next_before.new.self ≡ live_of c.args.before.now = next_taken _ _ c.next-next_before.ensures.steps ∙ c.live_records-were.ensures.live in
     search (rules, risen_are)

@@ -1,11 +1,11 @@
-use Rattle.std.{proofs.Common.{◌≡◌, refl, ap, ◌∙◌}, specs.Rc.rc_value}
+use Rattle.std.{proofs.Common.{◌≡◌, refl}, specs.Rc.rc_value}
 use Rattle.stn_net.specs.Schedule.{IsSchedule, times_of}
 use Rattle.stn_lift.specs.PlanSource.{base_bounds}
 use Rattle.stn_site.proofs.{Broken.{broken_in_plan, broken_in_records, none_broken}, site_plan.SitePlan.check.{Given.Over, Goals.After-bounds}}
 use Rattle.stn_site.proofs.site_plan.SitePlan.check.Goals as goal
 
 bounds_are : (g : Over) (c : After-bounds g) → c.bounds.result.now ≡ base_bounds (rc_value c.self.inside.base)
-bounds_are g c = c.bounds.ensures.value ∙ ap base_bounds c.deref.ensures
+bounds_are g c = cc
 
 pub returns-in-Some : goal.returns-in-Some
 returns-in-Some g c =

@@ -1,4 +1,4 @@
-use Rattle.std.{proofs.{Common.{refl, sym, subst, ◌∙◌}, lemmas.Result.err_from_is_err_and}, specs.Rc.rc_value}
+use Rattle.std.{proofs.{lemmas.Grind.common_steps, Common.{arith, refl, sym, subst}}, specs.Rc.rc_value}
 use Rattle.stn_net.specs.Difference.{NamesEvents}
 use Rattle.stn_lift.specs.PlanSource.{events_of}
 use Rattle.stn_records.specs.{declared.record.Record.Record, Content.with_record, Refusals.addition_refusal}
@@ -13,18 +13,7 @@ invariant_of-self-2 g c =
     (named_added (events_of (rc_value c.self.inside.base)) c.self.inside.records (with_record c.self.inside.records c.in_ok-id.id one) c.in_ok-id.id one refl c.self.invariant named)
 
 pub returns-in_err-add : goal.returns-in_err-add
-returns-in_err-add g c =
-    let p = err_from_is_err_and c.from_residual-in_err-add.result c.from_residual-in_err-add.ensures.1 in
-    let held : Held = record { site = c.self.inside.site; source = rc_value c.self.inside.base; state = c.self.inside.records; steps = 0 } in
-    let left = rw (← c.self.view_is) at c.in_ok-id.ensures.left in
-    let unknown = rw (← c.self.view_is) at c.in_ok-id.ensures.unknown in
-    let one : Record = record { mark = c.args.mark; bound = c.args.bound } in
-    rw (p.1, p.2, ← c.self.view_is) (record {
-      leaves = tt;
-      accepted = tt;
-      fault = told (addition_refusal held.state c.in_ok-id.id one) (next_refusal held) (next_added held one c.in_ok-id.id left unknown) c.in_err-add.field-0.0 c.in_err-add.ensures.fault;
-      kept = λ i. record held { state = c.in_err-add.ensures.kept i };
-    })
+returns-in_err-add g c = grind (arith, common_steps, told, next_added)
 
 pub returns : goal.returns
 returns g c =

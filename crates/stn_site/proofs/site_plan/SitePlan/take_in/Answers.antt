@@ -1,4 +1,4 @@
-use Rattle.std.{proofs.{Common.{◌≡◌, Some, refl, sym, ap, subst, ◌∙◌}, lemmas.{Bool.false≢true, Result.err_from_is_err_and}}, specs.{Rc.rc_value, Prelude.unwrap_or}}
+use Rattle.std.{proofs.{Common.{Some, refl, sym, ap, subst, ◌∙◌}, lemmas.{Bool.false≢true, Result.err_from_is_err_and}}, specs.{Rc.rc_value, Prelude.unwrap_or}}
 use Rattle.stn_lift.specs.PlanSource.{events_of}
 use Rattle.stn_records.{specs.Refusals.join_refusal as records_take, proofs.Holding.joined_is}
 use Rattle.stn_site.{specs.{Bounds.RecordsName, Held.Held, Refusals.take_refusal, declared.faults.ReplicaFault.TheVariants.Memory}, proofs.{Named.{named_held, named_joined}, Refused.{told, let_through, taken_in, can_hold, unnamed_take}}}

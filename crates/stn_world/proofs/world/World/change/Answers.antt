@@ -13,8 +13,8 @@ taken : (g : Over) (c : goal.After-map_err g)
 taken g c =
     let a = c.change.ensures in
     let asked = c.args.asked.now in
-    let given = subst (λ (next : SiteCounter). IfOk c.change.result (λ id. id ≡ change_id asked next)) (next_id_at-held c.args.self.now c.args.site (g.C.SiteCopy.held c.index_mut-copy.result.now) (held (placed g c))) a.id in
-    copy.taken g.C.SiteCopy.held c.self.inside.copies.items c.in_ok-place.place c.change.new.self (change_taken (placed g c) asked c.change.result (g.C.SiteCopy.held c.change.new.self) c.map_err.result (record { free = a.accepted; leaves = a.leaves; given = given; fault = a.fault; kept = on_err_weaker c.change.result (λ same. ap g.C.SiteCopy.held same) a.kept; same = c.map_err.ensures.cases }))
+    let given = subst (λ (next : SiteCounter). IfOk c.change.result (λ id. id ≡ change_id asked next)) (next_id_at-held (held (placed g c))) a.id in
+    copy.taken g.C.SiteCopy.held c.self.inside.copies.items c.in_ok-place.place c.change.new.self (change_taken (placed g c) c.change.result (g.C.SiteCopy.held c.change.new.self) c.map_err.result (record { free = a.accepted; leaves = a.leaves; given = given; fault = a.fault; kept = on_err_weaker c.change.result (λ same. ap g.C.SiteCopy.held same) a.kept; same = c.map_err.ensures.cases }))
 
 pub invariant_of-self : goal.invariant_of-self
 invariant_of-self g c = (taken g c).sound

@@ -1,4 +1,4 @@
-use Rattle.std.{proofs.{Common.{◌≡◌, Result, Ok, Err, refl, set, ◌∙◌, map, ap}, lemmas.Result.on_err_weaker}, specs.{Prelude.{⊤, IfOk}, Rc.rc_value}}
+use Rattle.std.{proofs.{Common.{rules, ◌≡◌, Result, refl, set, ◌∙◌, map, ap}, lemmas.Result.on_err_weaker}, specs.{Prelude.{⊤, IfOk}, Rc.rc_value}}
 use Rattle.stn_site.specs.{Calls.took, Refusals.take_refusal}
 use Rattle.stn_world.{specs.{Steps.{delivered, IsDeliveryFailure}, World.packet_at}, proofs.{Accepted.delivery_refusal, Merges.delivery_agrees, Sites.{part_there, packet_there}, Calls.{IsPlaced, IsAnswer, IsTaken, held, take_taken, take_agreed}, world.World.deliver.Given.Over}}
 use Rattle.stn_world.proofs.Copies as copy
@@ -8,11 +8,10 @@ placed : (g : Over) (c : goal.After-map_err g) → IsPlaced c.args.self.now (rc_
 placed g c = copy.placed g.C.SiteCopy.held c.self.inside.copies.items c.index_mut.result.now c.self.view_is c.self.invariant c.in_ok-place.ensures.place c.in_ok-place.ensures.there c.index_mut.ensures.value
 
 packet : (g : Over) (c : goal.After-map_err g) → c.index.result.now ≡ packet_at c.args.self.now c.args.packet
-packet g c = packet_there c.args.self.now _ (map g.C.SiteCopy.held c.self.inside.copies.items) c.in_ok-from.from c.args.packet c.index.result.now c.self.view_is c.in_ok-from.ensures.place c.in_ok-from.ensures.there c.index.ensures
+packet g c = packet_there (map g.C.SiteCopy.held c.self.inside.copies.items) c.self.view_is c.in_ok-from.ensures.place c.in_ok-from.ensures.there c.index.ensures
 
 given : {T E : Type 0} (r : Result T E) → IfOk r (λ _. ⊤)
-given (Ok x) = tt
-given (Err e) = tt
+given r = search rules
 
 answer : (g : Over) (c : goal.After-map_err g) → IsAnswer (g.C.SiteCopy.held c.index_mut.result.now) (take_refusal (g.C.SiteCopy.held c.index_mut.result.now) c.index.result.now) (λ _. took c.index.result.now) (λ _. ⊤) c.take.result (g.C.SiteCopy.held c.take.new.self) c.map_err.result
 answer g c = record { free = c.take.ensures.accepted; leaves = c.take.ensures.leaves; given = given c.take.result; fault = c.take.ensures.fault; kept = on_err_weaker c.take.result (λ same. ap g.C.SiteCopy.held same) c.take.ensures.kept; same = c.map_err.ensures.cases }
@@ -31,9 +30,9 @@ returns g c =
     record {
       step = (taken g c).step;
       again = λ there sent inside.
-          let same = c.take.ensures.again (part_there c.args.self.now c.args.site (g.C.SiteCopy.held c.index_mut.result.now) c.index.result.now (packet_at c.args.self.now c.args.packet) (held (placed g c)) (packet g c) inside) in
+          let same = c.take.ensures.again (part_there (held (placed g c)) (packet g c) inside) in
           (c.map_err.ensures.variant ∙ same.0, copy.stayed g.C.SiteCopy.held c.self.inside.copies.items c.index_mut.result.now c.take.new.self (placed g c) same.1);
       agreed = take_agreed (placed g c) (delivered c.args.site c.args.packet) c.index.result.now (packet_at c.args.self.now c.args.packet) (packet g c)
           (delivery_refusal c.args.self.now c.args.site c.args.packet c.in_ok-place.ensures.there c.in_ok-from.ensures.there) IsDeliveryFailure (delivery_agrees c.args.self.now c.args.site c.args.packet) c.take.result
-          (g.C.SiteCopy.held c.take.new.self) c.map_err.result (answer g c);
+          {new = (g.C.SiteCopy.held c.take.new.self)} {result = c.map_err.result} (answer g c);
     }

@@ -18,8 +18,8 @@ loop-before-preserved g c =
     in
     let made : c.unwrap-site.result ≡ l.before + 1 = grind (arith, common_steps) in
     let number : (held one).site ≡ suc l.before = omega (arith, c.in_ok-copy.ensures.site, made) in
-    let source = started_source (rc_value c.args.base) l.before (map held l.copies.items) (held c.index.result.now) l.invariant.2 l.invariant.0 (got held l.copies.items 0 c.index.result.now c.index.ensures) in
-    let more = started_more (rc_value c.args.base) l.before (map held l.copies.items) (held one) l.invariant.2 number
+    let source = started_source l.invariant.2 l.invariant.0 (got held l.copies.items 0 c.index.result.now c.index.ensures) in
+    let more = started_more (held one) l.invariant.2 number
     (c.in_ok-copy.ensures.source ∙ source) c.in_ok-copy.ensures.empty in
     let count : suc l.before ≡ l.before + 1 = omega arith in search rules
 
@@ -31,4 +31,4 @@ invariant_of-result g c =
     let held = g.C.SiteCopy.held in
     let all : c.loop-before.before ≡ c.args.sites = omega (arith, c.loop-before.invariant.1) in
     subst (λ (l : List Content). IsSoundWorld (rc_value c.args.base) (map held c.loop-before.copies.items) l) (sym c.new-2.ensures.items)
-    (started_sound (rc_value c.args.base) c.loop-before.before (map held c.loop-before.copies.items) c.loop-before.invariant.2 c.loop-before.invariant.0 (omega (arith, all, c.requires.sites.most)))
+    (started_sound c.loop-before.invariant.2 c.loop-before.invariant.0 (omega (arith, all, c.requires.sites.most)))

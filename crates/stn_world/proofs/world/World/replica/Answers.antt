@@ -4,7 +4,7 @@ use Rattle.stn_world.proofs.world.World.replica.Goals as goal
 
 pub index-requires : goal.index-requires
 index-requires g c =
-    omega (arith, place_within c.args.self.now _ (map g.C.SiteCopy.held c.self.inside.copies.items) c.in-Ok.place c.self.view_is c.in-Ok.ensures.within, length-map c.self.inside.copies.items g.C.SiteCopy.held)
+    omega (arith, place_within (map g.C.SiteCopy.held c.self.inside.copies.items) c.self.view_is c.in-Ok.ensures.within, length-map c.self.inside.copies.items g.C.SiteCopy.held)
 
 pub returns-in-Ok : goal.returns-in-Ok
 returns-in-Ok g c =

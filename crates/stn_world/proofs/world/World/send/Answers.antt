@@ -7,7 +7,7 @@ use Rattle.stn_world.proofs.world.World.send.Goals as goal
 
 -- the part that was made
 made : (g : Over) (c : In_ok-part g) → c.part.result ≡ Ok c.in_ok-part.part
-made g c = part_made c.part.result c.map_err.result c.in_ok-part.part c.map_err.ensures.cases c.in_ok-part.was
+made g c = part_made c.map_err.ensures.cases c.in_ok-part.was
 
 is_part : (g : Over) (c : In_ok-part g) → c.in_ok-part.part ≡ part_of c.records.result.now c.args.records.now c.args.tombstones.now
 is_part g c = subst (λ part. IfOk part (λ one. one ≡ part_of c.records.result.now c.args.records.now c.args.tombstones.now)) (made g c) c.part.ensures.part
@@ -18,8 +18,8 @@ returns-in_err-part g c =
     let held = held_there c.args.self.now _ (map g.C.SiteCopy.held c.self.inside.copies.items) _ c.args.site (g.C.SiteCopy.held c.index.result.now) c.self.view_is c.self.invariant.sites c.in_ok-place.ensures.place c.in_ok-place.ensures.there (copy.got g.C.SiteCopy.held c.self.inside.copies.items c.in_ok-place.place c.index.result.now c.index.ensures) in
     rw (p.1, p.2) (record {
       step = (
-        part_refused c.args.self.now c.args.site c.in_ok-place.ensures.there c.in_ok-number.ensures.room c.records.result.now c.args.records.now c.args.tombstones.now _ c.part.result c.in_err-part.field-0.0
-            (c.records.ensures.value ∙ c.plan.ensures.state ∙ held.state) c.part.ensures.unknown c.map_err.result c.map_err.ensures.cases c.in_err-part.was,
+        part_refused c.args.self.now c.args.site c.in_ok-place.ensures.there c.in_ok-number.ensures.room c.args.records.now c.args.tombstones.now _ c.part.result
+            (c.records.ensures.value ∙ c.plan.ensures.state ∙ held.state) c.part.ensures.unknown c.map_err.ensures.cases c.in_err-part.was,
         refl,
       );
     })
@@ -31,7 +31,7 @@ returns-in_err-push g c =
     let all = holds_there c.records.result.now (content_at c.args.self.now c.args.site) c.args.records.now c.args.tombstones.now (c.records.ensures.value ∙ c.plan.ensures.state ∙ held.state) (c.part.ensures.held (λ unknown. ok_not_err (sym (made g (goal.at.returns-in_err-push g c).In_ok-part) ∙ unknown))) in
     rw (p.1, p.2) (record {
       step = (
-        send_memory c.args.self.now c.args.site c.in_ok-place.ensures.there c.in_ok-number.ensures.room (holds_all (content_at c.args.self.now c.args.site) c.args.records.now c.args.tombstones.now) all,
+        send_memory c.args.self.now c.args.site c.in_ok-place.ensures.there c.in_ok-number.ensures.room all,
         ap (λ (l : List Content). world_of (rc_value c.self.inside.base) (map g.C.SiteCopy.held c.self.inside.copies.items) l) c.in_err-push.ensures.items ∙ c.self.view_is,
       );
     })
@@ -48,4 +48,4 @@ returns g c =
     let state = c.records.ensures.value ∙ c.plan.ensures.state ∙ (held placed).state in
     let same = is_part g (goal.at.returns g c).In_ok-part ∙ ap (λ (s : Content). part_of s c.args.records.now c.args.tombstones.now) state in
     let all = holds_there c.records.result.now (content_at c.args.self.now c.args.site) c.args.records.now c.args.tombstones.now state (c.part.ensures.held (λ unknown. ok_not_err (sym (made g (goal.at.returns g c).In_ok-part) ∙ unknown))) in
-    record { step = sent_taken placed c.in_ok-number.ensures.room _ c.in_ok-part.part _ same (part_free c.args.self.now c.args.site c.args.records.now c.args.tombstones.now c.in_ok-place.ensures.there) c.in_ok-push.ensures.items _ all c.in_ok-number.number c.in_ok-number.ensures.number }
+    record { step = sent_taken placed c.in_ok-number.ensures.room _ c.in_ok-part.part _ same (part_free c.args.self.now c.args.site c.args.records.now c.args.tombstones.now c.in_ok-place.ensures.there) c.in_ok-push.ensures.items all {number = c.in_ok-number.number} c.in_ok-number.ensures.number }

@@ -5,16 +5,14 @@ use Rattle.stn_world.proofs.Copies as copy
 use Rattle.stn_world.proofs.world.World.send_all.Goals as goal
 
 pub returns-in_err-whole : goal.returns-in_err-whole
-returns-in_err-whole g c =
-    let p = err_from_is_err_and c.from_residual-in_err-whole.result c.from_residual-in_err-whole.ensures.1 in
-    search rules
+returns-in_err-whole g c = search (rules, err_from_is_err_and)
 
 pub returns-in_err-push : goal.returns-in_err-push
 returns-in_err-push g c =
     let p = err_from_is_err_and c.from_residual-in_err-push.result c.from_residual-in_err-push.ensures.1 in
     rw (p.1, p.2) (record {
       step = (
-        send_memory c.args.self.now c.args.site c.in_ok-place.ensures.there c.in_ok-number.ensures.room true refl,
+        send_memory c.args.self.now c.args.site c.in_ok-place.ensures.there c.in_ok-number.ensures.room refl,
         ap (λ (l : List Content). world_of (rc_value c.self.inside.base) (map g.C.SiteCopy.held c.self.inside.copies.items) l) c.in_err-push.ensures.items ∙ c.self.view_is,
       );
     })
@@ -28,4 +26,4 @@ pub returns : goal.returns
 returns g c =
     let placed = copy.placed g.C.SiteCopy.held c.self.inside.copies.items c.index.result.now c.self.view_is c.self.invariant c.in_ok-place.ensures.place c.in_ok-place.ensures.there c.index.ensures in
     let same = c.in_ok-whole.ensures ∙ (c.records.ensures.value ∙ c.plan.ensures.state ∙ (held placed).state) in
-    record { step = sent_taken placed c.in_ok-number.ensures.room _ c.in_ok-whole.whole _ same (all_free c.args.self.now c.args.site c.in_ok-place.ensures.there) c.in_ok-push.ensures.items true refl c.in_ok-number.number c.in_ok-number.ensures.number }
+    record { step = sent_taken placed c.in_ok-number.ensures.room _ c.in_ok-whole.whole _ same (all_free c.args.self.now c.args.site c.in_ok-place.ensures.there) c.in_ok-push.ensures.items refl c.in_ok-number.ensures.number }
