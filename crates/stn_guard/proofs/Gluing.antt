@@ -9,39 +9,39 @@ abbrev glued : (ℕ → ℕ) → (ℕ → ℕ → ℤ) → ℕ → ℤ
 glued owner times event = cond (eqb event 0) (pos 0) (times (owner event) event)
 
 -- what is at a site takes the time that the site gives it
-glued_at : (owner : ℕ → ℕ) (times : ℕ → ℕ → ℤ) (site event : ℕ) → times site 0 ≡ pos 0 → is_at owner site event ≡ true → glued owner times event ≡ times site event
-glued_at owner times site event origin at = search rules
+glued_at : (owner : ℕ → ℕ) (times : ℕ → ℕ → ℤ) {site event : ℕ} → times site 0 ≡ pos 0 → is_at owner site event ≡ true → glued owner times event ≡ times site event
+glued_at owner times origin at = search rules
 
 -- so they meet what the site's times meet of the site's own bounds
-glued_meets : (owner : ℕ → ℕ) (times : ℕ → ℕ → ℤ) (site : ℕ) (bound : Difference) → times site 0 ≡ pos 0 → is_owned owner site bound ≡ true
+glued_meets : (owner : ℕ → ℕ) (times : ℕ → ℕ → ℤ) {site : ℕ} (bound : Difference) → times site 0 ≡ pos 0 → is_owned owner site bound ≡ true
     → Meets (times site) bound → Meets (glued owner times) bound
-glued_meets owner times site bound origin own met = search rules
+glued_meets owner times bound origin own met = search rules
 
 -- times that meet the site's own bounds
-pub own_met : (owner : ℕ → ℕ) (site : ℕ) (bounds : List Difference) (time : ℕ → ℤ) → IsSchedule (own_bounds owner site bounds) time
+pub own_met : (owner : ℕ → ℕ) (site : ℕ) (bounds : List Difference) {time : ℕ → ℤ} → IsSchedule (own_bounds owner site bounds) time
     → All (λ bound. is_owned owner site bound ≡ true → Meets time bound) bounds
-own_met owner site bounds time schedule = All-passing (is_owned owner site) (Meets time) bounds schedule.met
+own_met owner site bounds {time} schedule = All-passing (is_owned owner site) (Meets time) bounds schedule.met
 
-pub own_schedule : (owner : ℕ → ℕ) (site : ℕ) (bounds : List Difference) (time : ℕ → ℤ) → time 0 ≡ pos 0
+pub own_schedule : (owner : ℕ → ℕ) (site : ℕ) (bounds : List Difference) {time : ℕ → ℤ} → time 0 ≡ pos 0
     → All (λ bound. is_owned owner site bound ≡ true → Meets time bound) bounds → IsSchedule (own_bounds owner site bounds) time
-own_schedule owner site bounds time origin met = record { origin = origin; met = All-filter_passing (is_owned owner site) (Meets time) bounds met }
+own_schedule owner site bounds origin met = search (rules, All-filter_passing)
 
-glued_met : (owner : ℕ → ℕ) (times : ℕ → ℕ → ℤ) (site : ℕ) (bounds : List Difference) → IsSchedule (own_bounds owner site bounds) (times site)
+glued_met : (owner : ℕ → ℕ) (times : ℕ → ℕ → ℤ) {site : ℕ} (bounds : List Difference) → IsSchedule (own_bounds owner site bounds) (times site)
     → All (λ bound. is_owned owner site bound ≡ true → Meets (glued owner times) bound) bounds
-glued_met owner times site bounds schedule =
+glued_met owner times {site} bounds schedule =
     All-weaker (λ bound. is_owned owner site bound ≡ true → Meets (times site) bound) (λ bound. is_owned owner site bound ≡ true → Meets (glued owner times) bound)
-    (λ bound met own. glued_meets owner times site bound schedule.origin own (met own)) bounds (own_met owner site bounds (times site) schedule)
+    (λ bound met own. glued_meets owner times bound schedule.origin own (met own)) bounds (own_met owner site bounds schedule)
 
 -- where each site's times meet its own bounds of the guarded ones, all of them together are a schedule
-glued_schedule : (owner : ℕ → ℕ) (bounds guard : List Difference) (times : ℕ → ℕ → ℤ) → Guards owner bounds guard
+glued_schedule : {owner : ℕ → ℕ} {bounds guard : List Difference} {times : ℕ → ℕ → ℤ} → Guards owner bounds guard
     → ((site : ℕ) → IsSchedule (own_bounds owner site (bounds ++ guard)) (times site)) → IsSchedule (bounds ++ guard) (glued owner times)
-glued_schedule owner bounds guard times guards each = guards.enough (glued owner times)
-    (λ site. own_schedule owner site (bounds ++ guard) (glued owner times) refl (glued_met owner times site (bounds ++ guard) (each site)))
+glued_schedule {owner} {bounds} {guard} {times} guards each = guards.enough (glued owner times)
+    (λ site. own_schedule owner site (bounds ++ guard) refl (glued_met owner times (bounds ++ guard) (each site)))
 
-own_front : (owner : ℕ → ℕ) (site : ℕ) (bounds more : List Difference) (time : ℕ → ℤ) → IsSchedule (own_bounds owner site (bounds ++ more)) time
+own_front : (owner : ℕ → ℕ) (site : ℕ) (bounds more : List Difference) {time : ℕ → ℤ} → IsSchedule (own_bounds owner site (bounds ++ more)) time
     → IsSchedule (own_bounds owner site bounds) time
-own_front owner site bounds more time schedule = own_schedule owner site bounds time schedule.origin
-    (All-left (λ bound. is_owned owner site bound ≡ true → Meets time bound) bounds more (own_met owner site (bounds ++ more) time schedule))
+own_front owner site bounds more {time} schedule = own_schedule owner site bounds schedule.origin
+    (All-left (λ bound. is_owned owner site bound ≡ true → Meets time bound) bounds more (own_met owner site (bounds ++ more) schedule))
 
 -- sites that keep to bounds of their own have a schedule together
 pub glue : (owner : ℕ → ℕ) (bounds guard : List Difference) (added : ℕ → List Difference) (sites : List ℕ) → Guards owner bounds guard
@@ -50,10 +50,10 @@ pub glue : (owner : ℕ → ℕ) (bounds guard : List Difference) (added : ℕ �
     → HasSchedule ((bounds ++ guard) ++ flat_map added sites)
 glue owner bounds guard added sites guards own each =
     let times : ℕ → ℕ → ℤ = λ site. (each site).0 in
-    let whole = glued_schedule owner bounds guard times guards (λ site. own_front owner site (bounds ++ guard) (added site) (times site) (each site).1) in
+    let whole = glued_schedule guards (λ site. own_front owner site (bounds ++ guard) (added site) (each site).1) in
     let here : (site : ℕ) → All (Meets (glued owner times)) (added site) = (λ site k d h.
     All-right (λ bound. is_owned owner site bound ≡ true → Meets (glued owner times) bound) (bounds ++ guard) (added site)
-    (glued_met owner times site ((bounds ++ guard) ++ added site) (each site).1) k d h (own site k d h)) in (
+    (glued_met owner times ((bounds ++ guard) ++ added site) (each site).1) k d h (own site k d h)) in (
       glued owner times,
       record {
         origin = refl;
@@ -66,9 +66,9 @@ glue owner bounds guard added sites guards own each =
 abbrev chosen : (ℕ → ℤ) → (ℕ → ℤ) → ℕ → ℕ → ℕ → ℤ
 chosen one other site which = cond (eqb which site) one other
 
-chosen_schedule : (owner : ℕ → ℕ) (bounds : List Difference) (one other : ℕ → ℤ) (site which : ℕ) → IsSchedule (own_bounds owner site bounds) one
+chosen_schedule : (owner : ℕ → ℕ) {bounds : List Difference} {one other : ℕ → ℤ} (site which : ℕ) → IsSchedule (own_bounds owner site bounds) one
     → IsSchedule bounds other → IsSchedule (own_bounds owner which bounds) (chosen one other site which)
-chosen_schedule owner bounds one other site which mine whole = elim (eqb_tells which site) [
+chosen_schedule owner {bounds} {one} {other} site which mine whole = elim (eqb_tells which site) [
   | inl same ↦ subst (λ t. IsSchedule (own_bounds owner which bounds) (cond t one other)) (sym same.0)
       (subst (λ s. IsSchedule (own_bounds owner s bounds) one) (sym same.1) mine)
   | inr differs ↦ subst (λ t. IsSchedule (own_bounds owner which bounds) (cond t one other)) (sym differs.0)
@@ -83,11 +83,11 @@ own_windows owner bounds guard guards event time = (
   (λ own.
       let times : ℕ → ℕ → ℤ = chosen own.0 guards.possible.0 (owner event) in
       let each : (site : ℕ) → IsSchedule (own_bounds owner site (bounds ++ guard)) (times site) =
-      (λ site. chosen_schedule owner (bounds ++ guard) own.0 guards.possible.0 (owner event) site own.1 guards.possible.1) in
+      (λ site. chosen_schedule owner (owner event) site own.1 guards.possible.1) in
       let mine : times (owner event) event ≡ own.0 event = ap (λ t. cond t own.0 guards.possible.0 event) (eq-eqb (owner event) (owner event) refl) in (
         glued owner times,
-        glued_schedule owner bounds guard times guards each,
-        glued_at owner times (owner event) event (each (owner event)).origin (at_owner owner event) ∙ mine ∙ own.2,
+        glued_schedule guards each,
+        glued_at owner times (each (owner event)).origin (at_owner owner event) ∙ mine ∙ own.2,
       )),
 )
 

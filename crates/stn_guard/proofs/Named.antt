@@ -8,8 +8,8 @@ windows_more : (named : List Bool) (ends : ℕ → ℤ × ℤ) (before : ℕ) �
 windows_more named ends before = filter_of_map_range_with_len_more (is_kept named) (λ event. window_bound event (ends event)) 1 before (before + 1) (omega arith)
 
 -- they depend on the ends of their events alone
-windows_same : (named : List Bool) (one other : ℕ → ℤ × ℤ) (events : ℕ) → ((event : ℕ) → event ≤ events → one event ≡ other event) → windows_of named one events ≡ windows_of named other events
-windows_same named one other events same = search (rules, same_in_range)
+windows_same : (named : List Bool) {one other : ℕ → ℤ × ℤ} {events : ℕ} → ((event : ℕ) → event ≤ events → one event ≡ other event) → windows_of named one events ≡ windows_of named other events
+windows_same named same = search (rules, same_in_range)
 
 -- the windows of the first events, in these bounds
 pub record AreNamedTo (bounds : List Difference) (named : List Bool) (before : ℕ) (found : List Difference) : Type 0 where
@@ -18,8 +18,8 @@ pub record AreNamedTo (bounds : List Difference) (named : List Bool) (before : �
   pub found_are : found ≡ windows_of named ends before
 
 -- the origin stands at 0
-pub origin_alone : (bounds : List Difference) (named : List Bool) (found : List Difference) → HasSchedule bounds → found ≡ windows_of named (λ _. (pos 0, pos 0)) 0 → AreNamedTo bounds named 0 found
-origin_alone bounds named found possible none = record {
+pub origin_alone : {bounds : List Difference} {named : List Bool} {found : List Difference} → HasSchedule bounds → found ≡ windows_of named (λ _. (pos 0, pos 0)) 0 → AreNamedTo bounds named 0 found
+origin_alone {bounds} possible none = record {
   ends = λ _. (pos 0, pos 0);
   true_ends = λ event most. subst (λ e. IsWindow bounds e (pos 0) (pos 0)) (omega arith) at_origin;
   found_are = none;
@@ -32,9 +32,9 @@ origin_alone bounds named found possible none = record {
     )
 
 -- one event more
-pub named_more : (bounds : List Difference) (named : List Bool) (before : ℕ) (window : Difference) (old new : List Difference) → AreNamedTo bounds named before old
+pub named_more : {bounds : List Difference} {named : List Bool} {before : ℕ} {window : Difference} {old new : List Difference} → AreNamedTo bounds named before old
     → (ends : ℤ × ℤ) × IsWindow bounds (before + 1) ends.0 ends.1 × (window ≡ window_bound (before + 1) ends) → new ≡ old ++ kept named window → AreNamedTo bounds named (before + 1) new
-named_more bounds named before window old new so_far (ends, is, window_is) more =
+named_more {bounds} {named} {before} {window} so_far (ends, is, window_is) more =
     let last : cond (eqb (before + 1) (before + 1)) ends (so_far.ends (before + 1)) ≡ ends = at_last (before + 1) (before + 1) refl in
     record {
       ends = λ event. cond (eqb event (before + 1)) ends (so_far.ends event);
@@ -42,7 +42,7 @@ named_more bounds named before window old new so_far (ends, is, window_is) more 
         | inl same ↦ subst (λ (e : ℤ × ℤ). IsWindow bounds event e.0 e.1) (sym (at_last event (before + 1) same)) (subst (λ x. IsWindow bounds x ends.0 ends.1) (sym same) is)
         | inr apart ↦ subst (λ (e : ℤ × ℤ). IsWindow bounds event e.0 e.1) (sym (at_others event (omega arith))) (so_far.true_ends event (omega arith))
       ];
-      found_are = more ∙ ap (λ front. front ++ kept named window) (so_far.found_are ∙ windows_same named so_far.ends (λ event. cond (eqb event (before + 1)) ends (so_far.ends event)) before (λ event most. sym (at_others event most)))
+      found_are = more ∙ ap (λ front. front ++ kept named window) (so_far.found_are ∙ windows_same named (λ event most. sym (at_others event most)))
           ∙ ap (λ w. windows_of named (λ event. cond (eqb event (before + 1)) ends (so_far.ends event)) before ++ kept named w) (window_is ∙ ap (window_bound (before + 1)) (sym last))
           ∙ sym (windows_more named (λ event. cond (eqb event (before + 1)) ends (so_far.ends event)) before);
     }

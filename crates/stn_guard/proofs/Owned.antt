@@ -1,4 +1,4 @@
-use Rattle.std.{proofs.{Common.{rules, ◌≡◌, ℕ, true, not, ◌&&◌, eqb, List, [], ◌∷◌, get_or, filter, inl, inr, refl, sym, ap, subst, ◌∙◌}, lemmas.{Bool.{false≢true, and_parts, and_from, or_left, or_right, eq-eqb, Decides.eqb_tells}, List.Elements.{All-from_recursion, recursion_from_All, All-nil, All-cons, All-head, All-tail, All-append}}}, specs.Prelude.{◌⊎◌, ◌≢◌, All, flat_map}}
+use Rattle.std.{proofs.{Common.{rules, ◌≡◌, ℕ, true, not, List, [], ◌∷◌, get_or, filter, inl, inr, ap, subst}, lemmas.{Bool.{and_from, Decides.eqb_tells}, List.Elements.{All-from_recursion, recursion_from_All, All-nil, All-cons, All-head, All-tail, All-append}}}, specs.Prelude.{◌⊎◌, ◌≢◌, All, flat_map}}
 use Rattle.stn_time.proofs.Each.{All-left, All-right}
 use Rattle.stn_net.specs.Difference.{Difference}
 use Rattle.stn_site.proofs.Live.{All-passing, All-filter_passing}
@@ -31,17 +31,17 @@ module _ (owner : ℕ → ℕ) (bounds : List Difference) (P : Arc → Type 0) w
 
 -- an event is at its owner, and the origin at each site
 pub at_owner : (owner : ℕ → ℕ) (event : ℕ) → is_at owner (owner event) event ≡ true
-at_owner owner event = or_right (eqb event 0) (eqb (owner event) (owner event)) (eq-eqb (owner event) (owner event) refl)
+at_owner owner event = search rules
 
-pub at_origin : (owner : ℕ → ℕ) (site event : ℕ) → event ≡ 0 → is_at owner site event ≡ true
-at_origin owner site event e = or_left (eqb event 0) (eqb (owner event) site) (eq-eqb event 0 e)
+pub at_origin : (owner : ℕ → ℕ) (site : ℕ) {event : ℕ} → event ≡ 0 → is_at owner site event ≡ true
+at_origin owner site e = cc
 
 -- a bound is its events' owner's own, or shared
 pub own_or_shared : (owner : ℕ → ℕ) (bound : Difference) → ((site : ℕ) × (is_owned owner site bound ≡ true)) ⊎ (is_shared owner bound ≡ true)
 own_or_shared owner bound = elim (eqb_tells bound.from 0) [
-  | inl origin ↦ inl (owner bound.to, and_from _ _ (at_origin owner (owner bound.to) bound.from origin.1) (at_owner owner bound.to))
+  | inl origin ↦ inl (owner bound.to, and_from _ _ (at_origin owner (owner bound.to) origin.1) (at_owner owner bound.to))
   | inr from ↦ elim (eqb_tells bound.to 0) [
-    | inl origin ↦ inl (owner bound.from, and_from _ _ (at_owner owner bound.from) (at_origin owner (owner bound.from) bound.to origin.1))
+    | inl origin ↦ inl (owner bound.from, and_from _ _ (at_owner owner bound.from) (at_origin owner (owner bound.from) origin.1))
     | inr to ↦ elim (eqb_tells (owner bound.from) (owner bound.to)) [
       | inl same ↦ inl (owner bound.to, and_from _ _ (subst (λ site. is_at owner site bound.from ≡ true) same.1 (at_owner owner bound.from)) (at_owner owner bound.to))
       | inr differ ↦ inr (and_from _ _ (ap not from.0) (and_from _ _ (ap not to.0) (ap not differ.0)))
@@ -51,13 +51,7 @@ own_or_shared owner bound = elim (eqb_tells bound.from 0) [
 
 -- neither event of a shared bound is the origin, and they have different owners
 pub shared_parts : (owner : ℕ → ℕ) (bound : Difference) → is_shared owner bound ≡ true → (bound.from ≢ 0) × (bound.to ≢ 0) × (owner bound.from ≢ owner bound.to)
-shared_parts owner bound shared =
-    let parts = and_parts (not (eqb bound.from 0)) (not (eqb bound.to 0) && not (eqb (owner bound.from) (owner bound.to))) shared in
-    let more = and_parts (not (eqb bound.to 0)) (not (eqb (owner bound.from) (owner bound.to))) parts.1 in
-    (not_equal bound.from 0 parts.0, not_equal bound.to 0 more.0, not_equal (owner bound.from) (owner bound.to) more.1)
-  where
-    not_equal : (a b : ℕ) → not (eqb a b) ≡ true → a ≢ b
-    not_equal a b e same = false≢true (sym (ap not (eq-eqb a b same)) ∙ e)
+shared_parts owner bound shared = search rules
 
 -- a shared bound is no site's own
 pub shared_not_own : (owner : ℕ → ℕ) (bound : Difference) (site : ℕ) → is_shared owner bound ≡ true → is_owned owner site bound ≡ true → ⊥

@@ -7,5 +7,5 @@ module _ {X : Type 0} (f : ℕ → X) (events : ℕ) where
   all_in_range P each k d below = search (rules, length-map-range_with_len, get_or-map-range_with_len)
 
   -- functions that agree on each event
-  pub same_in_range : (g : ℕ → X) → ((event : ℕ) → 0 < event → event ≤ events → f event ≡ g event) → map f (range_with_len 1 events) ≡ map g (range_with_len 1 events)
-  same_in_range g same = search (rules, same_lists, length-map-range_with_len, get_or-map-range_with_len)
+  pub same_in_range : {g : ℕ → X} → ((event : ℕ) → 0 < event → event ≤ events → f event ≡ g event) → map f (range_with_len 1 events) ≡ map g (range_with_len 1 events)
+  same_in_range same = search (rules, same_lists, length-map-range_with_len, get_or-map-range_with_len)

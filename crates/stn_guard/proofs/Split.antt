@@ -1,12 +1,11 @@
 -- What splitting an arc leaves.
-use Rattle.std.{proofs.{Common.{rules, ◌≡◌, ℕ, ℤ, pos, negsuc, ◌+ℤ◌, ◌-ℤ◌, ◌≤ℤ◌, ◌<ℤ◌, Bool, true, false, cond, List, [], ◌∷◌, ◌++◌, refl, sym, subst, arith, append-nil}, lemmas.{Int.{ints, clamps}, List.Elements.{All-from_recursion, recursion_from_All, All-cons, All-head, All-tail, All-weaker}}}, specs.{Prelude.All, Int.{int_min, int_max, int_div_euclid}}}
+use Rattle.std.{proofs.{Common.{rules, ◌≡◌, ℕ, ℤ, pos, ◌+ℤ◌, ◌-ℤ◌, ◌≤ℤ◌, ◌<ℤ◌, Bool, true, false, cond, List, [], ◌∷◌, ◌++◌, refl, sym, subst, arith}, lemmas.{Int.{ints, clamps}, List.Elements.{All-from_recursion, recursion_from_All, All-cons, All-head, All-tail, All-weaker}}}, specs.{Prelude.All, Int.{int_min, int_max, int_div_euclid}}}
 use Rattle.stn_net.{proofs.{Closure.schedule_before, Schedules.{met_behind, schedule_with}, WindowEnds.lesser_schedule}, specs.{Difference.Difference, Schedule.{Meets, IsSchedule, HasSchedule}, Windows.Window.{IsInWindow, IsWindow}}}
 use Rattle.stn_guard.specs.{declared.splitting.Arc.Arc, Making.{window_bound, is_implied, split_time, IsSplit, AreSplit}, Splitting.{Implies, LeavesTime}}
 
 -- half of a number, rounded down
-pub half_of : (z : ℤ) → ((int_div_euclid z (pos 2) +ℤ int_div_euclid z (pos 2)) ≤ℤ z) × (z ≤ℤ ((int_div_euclid z (pos 2) +ℤ int_div_euclid z (pos 2)) +ℤ pos 1))
-half_of (pos n) = (omega (arith, ints), omega (arith, ints))
-half_of (negsuc n) = (omega (arith, ints), omega (arith, ints))
+pub half_of : {z : ℤ} → ((int_div_euclid z (pos 2) +ℤ int_div_euclid z (pos 2)) ≤ℤ z) × (z ≤ℤ ((int_div_euclid z (pos 2) +ℤ int_div_euclid z (pos 2)) +ℤ pos 1))
+half_of = search rules
 
 -- what is known of the windows of an arc's events
 pub record HasEnds (bounds : List Difference) (arc : Arc) (from to : ℤ × ℤ) : Type 0 where
@@ -16,25 +15,25 @@ pub record HasEnds (bounds : List Difference) (arc : Arc) (from to : ℤ × ℤ)
   pub to_window : IsWindow bounds arc.to to.0 to.1
 
 -- a window is not empty
-pub window_ordered : (bounds : List Difference) (event : ℕ) (first last : ℤ) → HasSchedule bounds → IsWindow bounds event first last → first ≤ℤ last
-window_ordered bounds event first last possible window =
+pub window_ordered : {bounds : List Difference} {event : ℕ} {first last : ℤ} → HasSchedule bounds → IsWindow bounds event first last → first ≤ℤ last
+window_ordered {event} possible window =
     let there = (window (possible.0 event)).0 (possible.0, possible.1, refl) in
     omega (arith, ints)
 
 -- the first and the last time of a window are taken
-pub takes_first : (bounds : List Difference) (event : ℕ) (first last : ℤ) → HasSchedule bounds → IsWindow bounds event first last → IsInWindow bounds event first
-takes_first bounds event first last possible window = (window first).1 (omega (arith, ints), window_ordered bounds event first last possible window)
+pub takes_first : {bounds : List Difference} {event : ℕ} {first last : ℤ} → HasSchedule bounds → IsWindow bounds event first last → IsInWindow bounds event first
+takes_first {bounds} {event} {first} {last} possible window = (window first).1 (omega (arith, ints), window_ordered possible window)
 
-pub takes_last : (bounds : List Difference) (event : ℕ) (first last : ℤ) → HasSchedule bounds → IsWindow bounds event first last → IsInWindow bounds event last
-takes_last bounds event first last possible window = (window last).1 (window_ordered bounds event first last possible window, omega (arith, ints))
+pub takes_last : {bounds : List Difference} {event : ℕ} {first last : ℤ} → HasSchedule bounds → IsWindow bounds event first last → IsInWindow bounds event last
+takes_last {bounds} {event} {first} {last} possible window = (window last).1 (window_ordered possible window, omega (arith, ints))
 
 -- where the windows don't imply the arc, the time in the middle leaves both events a time
-pub middle_leaves_time : (bounds : List Difference) (arc : Arc) (from to : ℤ × ℤ) → HasEnds bounds arc from to → arc.weight <ℤ (to.1 -ℤ from.0)
+pub middle_leaves_time : {bounds : List Difference} {arc : Arc} {from to : ℤ × ℤ} → HasEnds bounds arc from to → arc.weight <ℤ (to.1 -ℤ from.0)
     → LeavesTime arc from to (split_time arc from to)
-middle_leaves_time bounds arc from to ends wider =
-    let to_ordered = window_ordered bounds arc.to to.0 to.1 ends.possible ends.to_window in
-    let from_ordered = window_ordered bounds arc.from from.0 from.1 ends.possible ends.from_window in
-    let first = takes_first bounds arc.to to.0 to.1 ends.possible ends.to_window in
+middle_leaves_time {bounds} {arc} {from} {to} ends wider =
+    let to_ordered = window_ordered ends.possible ends.to_window in
+    let from_ordered = window_ordered ends.possible ends.from_window in
+    let first = takes_first ends.possible ends.to_window in
     let met = ends.implied first.0 first.1 in
     let there = (ends.from_window (first.0 arc.from)).0 (first.0, first.1, refl) in
     let at = first.2 in
@@ -45,7 +44,7 @@ middle_leaves_time bounds arc from to ends wider =
     let to_greatest : greatest ≤ℤ to.1 = omega (arith, ints, clamps) in
     let from_greatest : greatest ≤ℤ (from.1 +ℤ arc.weight) = omega (arith, ints, clamps) in
     let ordered : least ≤ℤ greatest = omega (arith, ints, clamps) in
-    let middle = half_of (least +ℤ greatest) in
+    let middle = half_of {z = (least +ℤ greatest)} in
     record {
       to_first = omega (arith, ints, middle.0, middle.1);
       to_last = omega (arith, ints, middle.0, middle.1);
@@ -73,15 +72,15 @@ module _ (bounds : List Difference) (arc : Arc) (from to : ℤ × ℤ) (time : �
   abbrev KeepsSplit : (ℕ → ℤ) → Type 0
   KeepsSplit times = ((to.0 ≤ℤ times arc.to) × (times arc.to ≤ℤ time)) × (((time -ℤ arc.weight) ≤ℤ times arc.from) × (times arc.from ≤ℤ from.1))
 
-  split_schedule : (times : ℕ → ℤ) → IsSchedule bounds times → KeepsSplit times → IsSchedule (bounds ++ splitting arc from to time) times
-  split_schedule times schedule keeps =
+  split_schedule : {times : ℕ → ℤ} → IsSchedule bounds times → KeepsSplit times → IsSchedule (bounds ++ splitting arc from to time) times
+  split_schedule {times} schedule keeps =
       let origin = schedule.origin in
       schedule_with bounds (splitting arc from to time) times schedule
       (All-from_recursion (Meets times) (splitting arc from to time)
       ((omega (arith, ints, keeps.0.0), omega (arith, ints, keeps.0.1)), ((omega (arith, ints, keeps.1.0), omega (arith, ints, keeps.1.1)), tt)))
 
-  split_kept : (times : ℕ → ℤ) → IsSchedule (bounds ++ splitting arc from to time) times → KeepsSplit times
-  split_kept times schedule =
+  split_kept : {times : ℕ → ℤ} → IsSchedule (bounds ++ splitting arc from to time) times → KeepsSplit times
+  split_kept {times} schedule =
       let met = recursion_from_All (Meets times) (splitting arc from to time) (met_behind bounds (splitting arc from to time) times schedule) in
       let origin = schedule.origin in
       ((omega (arith, ints, met.0.0), omega (arith, ints, met.0.1)), (omega (arith, ints, met.1.0.0), omega (arith, ints, met.1.0.1)))
@@ -89,8 +88,8 @@ module _ (bounds : List Difference) (arc : Arc) (from to : ℤ × ℤ) (time : �
   -- some schedule meets both
   pub splitting_possible : HasEnds bounds arc from to → LeavesTime arc from to time → HasSchedule (bounds ++ splitting arc from to time)
   splitting_possible ends leaves =
-      let early = takes_first bounds arc.to to.0 to.1 ends.possible ends.to_window in
-      let late = takes_last bounds arc.from from.0 from.1 ends.possible ends.from_window in
+      let early = takes_first ends.possible ends.to_window in
+      let late = takes_last ends.possible ends.from_window in
       let delay = time -ℤ to.0 in
       let first = leaves.to_first in
       let both : ℕ → ℤ = λ event. int_min (late.0 event) (early.0 event +ℤ delay) in
@@ -103,22 +102,22 @@ module _ (bounds : List Difference) (arc : Arc) (from to : ℤ × ℤ) (time : �
       let from_there = (ends.from_window (both arc.from)).0 (both, schedule, refl) in
       let to_by : both arc.to ≤ℤ time = omega (arith, ints, clamps) in
       let from_by : (time -ℤ arc.weight) ≤ℤ both arc.from = omega (arith, ints, clamps) in
-      (both, split_schedule both schedule ((to_there.0, to_by), (from_by, from_there.1)))
+      (both, split_schedule schedule ((to_there.0, to_by), (from_by, from_there.1)))
 
   splitting_left : HasSchedule (bounds ++ splitting arc from to time) → IsLeft bounds arc (bounds ++ splitting arc from to time)
   splitting_left possible = record {
     possible = possible;
     before = schedule_before bounds (splitting arc from to time);
     apart = λ one other is_one is_other.
-        let early = (split_kept one is_one).1.0 in
-        let late = (split_kept other is_other).0.1 in
+        let early = (split_kept is_one).1.0 in
+        let late = (split_kept is_other).0.1 in
         omega (arith, ints, early, late);
     after = λ times one other schedule is_one from_same is_other to_same.
-        split_schedule times schedule (rw (from_same, to_same) ((split_kept other is_other).0, (split_kept one is_one).1));
+        split_schedule schedule (rw (from_same, to_same) ((split_kept is_other).0, (split_kept is_one).1));
   }
 
-implied_left : (bounds : List Difference) (arc : Arc) (from to : ℤ × ℤ) → HasEnds bounds arc from to → (to.1 -ℤ from.0) ≤ℤ arc.weight → IsLeft bounds arc bounds
-implied_left bounds arc from to ends within = record {
+implied_left : {bounds : List Difference} {arc : Arc} {from to : ℤ × ℤ} → HasEnds bounds arc from to → (to.1 -ℤ from.0) ≤ℤ arc.weight → IsLeft bounds arc bounds
+implied_left {arc} {from} {to} ends within = record {
   possible = ends.possible;
   before = λ time schedule. schedule;
   apart = λ one other is_one is_other.
@@ -128,18 +127,18 @@ implied_left bounds arc from to ends within = record {
   after = λ time from to schedule is_from from_same is_to to_same. schedule;
 }
 
-left_at : (bounds : List Difference) (arc : Arc) (from to : ℤ × ℤ) (test : Bool) → is_implied arc from to ≡ test → HasEnds bounds arc from to
+left_at : {bounds : List Difference} {arc : Arc} {from to : ℤ × ℤ} (test : Bool) → is_implied arc from to ≡ test → HasEnds bounds arc from to
     → IsLeft bounds arc (bounds ++ cond test [] (splitting arc from to (split_time arc from to)))
-left_at bounds arc from to true e ends = subst (IsLeft bounds arc) (sym (append-nil bounds)) (implied_left bounds arc from to ends (grind (arith, ints)))
-left_at bounds arc from to false e ends = search (rules, ints, middle_leaves_time, splitting_left, splitting_possible)
+left_at true e ends = search (rules, implied_left)
+left_at false e ends = search (rules, ints, middle_leaves_time, splitting_left, splitting_possible)
 
-pub ends_of_split : (bounds : List Difference) (arc : Arc) (next : List Difference) (split : IsSplit bounds arc next) → HasSchedule bounds → Implies bounds arc → HasEnds bounds arc split.from split.to
-ends_of_split bounds arc next split possible implied = record { possible = possible; implied = implied; from_window = split.from_window; to_window = split.to_window }
+pub ends_of_split : {bounds : List Difference} {arc : Arc} {next : List Difference} (split : IsSplit bounds arc next) → HasSchedule bounds → Implies bounds arc → HasEnds bounds arc split.from split.to
+ends_of_split split possible implied = search rules
 
-pub split_left : (bounds : List Difference) (arc : Arc) (next : List Difference) → IsSplit bounds arc next → HasSchedule bounds → Implies bounds arc → IsLeft bounds arc next
-split_left bounds arc next split possible implied =
+pub split_left : {bounds : List Difference} {arc : Arc} {next : List Difference} → IsSplit bounds arc next → HasSchedule bounds → Implies bounds arc → IsLeft bounds arc next
+split_left {bounds} {arc} {next} split possible implied =
     subst (IsLeft bounds arc) (sym split.split_is)
-    (left_at bounds arc split.from split.to (is_implied arc split.from split.to) refl (ends_of_split bounds arc next split possible implied))
+    (left_at (is_implied arc split.from split.to) refl (ends_of_split split possible implied))
 
 -- the same once all arcs are split
 pub record AreLeft (bounds : List Difference) (arcs : List Arc) (split : List Difference) : Type 0 where
@@ -149,13 +148,13 @@ pub record AreLeft (bounds : List Difference) (arcs : List Arc) (split : List Di
   pub after : (time : ℕ → ℤ) → IsSchedule bounds time
       → All (λ arc. IsInWindow split arc.from (time arc.from) × IsInWindow split arc.to (time arc.to)) arcs → IsSchedule split time
 
-pub are_left : (bounds : List Difference) (arcs : List Arc) (split : List Difference) → AreSplit bounds arcs split → HasSchedule bounds → All (Implies bounds) arcs → AreLeft bounds arcs split
-are_left bounds [] split are possible implied = search rules
-are_left bounds (arc ∷ arcs) split are possible implied =
+pub are_left : {bounds : List Difference} (arcs : List Arc) {split : List Difference} → AreSplit bounds arcs split → HasSchedule bounds → All (Implies bounds) arcs → AreLeft bounds arcs split
+are_left [] are possible implied = search rules
+are_left {bounds} (arc ∷ arcs) {split} are possible implied =
     let next = are.0 in
-    let first = split_left bounds arc next are.1 possible (All-head (Implies bounds) arc arcs implied) in
+    let first = split_left are.1 possible (All-head (Implies bounds) arc arcs implied) in
     let still : All (Implies next) arcs = All-weaker (Implies bounds) (Implies next) (λ other given time schedule. given time (first.before time schedule)) arcs (All-tail (Implies bounds) arc arcs implied) in
-    let rest = are_left next arcs split are.2 first.possible still in
+    let rest = are_left arcs are.2 first.possible still in
     record {
       possible = rest.possible;
       before = λ time schedule. first.before time (rest.before time schedule);

@@ -27,11 +27,11 @@ windows_named owner bounds named ends events long are =
     at : ℕ → Difference
     at event = window_bound event (ends event)
 
-pub whole_guard : (owner : ℕ → ℕ) (events : ℕ) (base extra : List Difference) (middle new : ListedBounds) (named : List Bool) (guard : List Difference)
+pub whole_guard : {owner : ℕ → ℕ} {events : ℕ} (base extra : List Difference) {middle new : ListedBounds} {named : List Bool} {guard : List Difference}
     → Splits (shared_arcs owner base) (record { events = events; bounds = base ++ extra }) middle → Splits (shared_arcs owner extra) middle new
     → length named ≡ new.events + 1 → AreNamed owner (base ++ extra) named → AreNamedWindows new named guard → IsGuardOf owner events (base ++ extra) guard
-whole_guard owner events base extra middle new named guard first second long are found =
-    let splits = splits_on (shared_arcs owner base) (shared_arcs owner extra) (record { events = events; bounds = base ++ extra }) middle new first second in
+whole_guard {owner} {events} base extra {middle} {new} {named} {guard} first second long are found =
+    let splits = splits_on first second in
     subst (λ n. IsGuardOf owner n (base ++ extra) guard) splits.events (record {
       split = new.bounds;
       are_split = subst (λ arcs. AreSplit (base ++ extra) arcs new.bounds) (sym (arcs_append owner base extra)) splits.split;
@@ -43,33 +43,31 @@ whole_guard owner events base extra middle new named guard first second long are
     })
 
 -- each bound of a part has owners
-owned : (owners : List ℕ) (events : ℕ) (bounds : List Difference) → length owners ≡ events + 1 → All (NamesEvents events) bounds → All (HasOwners owners) bounds
-owned owners events bounds long named = search rules
+owned : {owners : List ℕ} {events : ℕ} (bounds : List Difference) → length owners ≡ events + 1 → All (NamesEvents events) bounds → All (HasOwners owners) bounds
+owned bounds long named = search rules
 
 -- the sides of both parts can be split
-can_both : (owner : ℕ → ℕ) (events : ℕ) (base extra : List Difference) → HasSchedule (base ++ extra) → All (NamesEvents events) (base ++ extra)
+can_both : (owner : ℕ → ℕ) {events : ℕ} (base extra : List Difference) → HasSchedule (base ++ extra) → All (NamesEvents events) (base ++ extra)
     → CanSplit (shared_arcs owner base ++ shared_arcs owner extra) (record { events = events; bounds = base ++ extra })
-can_both owner events base extra possible named =
-    subst (λ arcs. CanSplit arcs (record { events = events; bounds = base ++ extra })) (arcs_append owner base extra) (can_shared owner events (base ++ extra) possible named)
+can_both owner {events} base extra possible named =
+    subst (λ arcs. CanSplit arcs (record { events = events; bounds = base ++ extra })) (arcs_append owner base extra) (can_shared owner possible named)
 
-pub can_first : (owner : ℕ → ℕ) (events : ℕ) (base extra : List Difference) → HasSchedule (base ++ extra) → All (NamesEvents events) (base ++ extra)
+pub can_first : (owner : ℕ → ℕ) {events : ℕ} (base extra : List Difference) → HasSchedule (base ++ extra) → All (NamesEvents events) (base ++ extra)
     → CanSplit (shared_arcs owner base) (record { events = events; bounds = base ++ extra })
-can_first owner events base extra possible named =
-    can_front (shared_arcs owner base) (shared_arcs owner extra) (record { events = events; bounds = base ++ extra }) (can_both owner events base extra possible named)
+can_first owner {events} base extra possible named = can_front (shared_arcs owner extra) (can_both owner base extra possible named)
 
-pub can_second : (owner : ℕ → ℕ) (events : ℕ) (base extra : List Difference) (new : ListedBounds) → HasSchedule (base ++ extra) → All (NamesEvents events) (base ++ extra)
+pub can_second : (owner : ℕ → ℕ) {events : ℕ} (base extra : List Difference) {new : ListedBounds} → HasSchedule (base ++ extra) → All (NamesEvents events) (base ++ extra)
     → Splits (shared_arcs owner base) (record { events = events; bounds = base ++ extra }) new → CanSplit (shared_arcs owner extra) new
-can_second owner events base extra new possible named splits = search (rules, can_behind, can_both)
+can_second owner base extra possible named splits = search (rules, can_behind, can_both)
 
 -- once arcs were split, there is a schedule still
-pub still_possible : (arcs : List Arc) (old new : ListedBounds) → CanSplit arcs old → Splits arcs old new → HasSchedule new.bounds
-still_possible arcs old new can splits = (are_left old.bounds arcs new.bounds splits.split can.possible can.implied).possible
+pub still_possible : {arcs : List Arc} {old new : ListedBounds} → CanSplit arcs old → Splits arcs old new → HasSchedule new.bounds
+still_possible can splits = search (rules, are_left)
 
 -- what is noted of both parts, in a list that was false
-pub noted : (owner : ℕ → ℕ) (base extra : List Difference) (n : ℕ) (items none first again second last : List Bool) → items ≡ replicate n false → none ≡ items
+pub noted : (owner : ℕ → ℕ) (base extra : List Difference) (n : ℕ) {items none first again second last : List Bool} → items ≡ replicate n false → none ≡ items
     → length first ≡ length none → ((event : ℕ) → event < length none → get_or first event false ≡ (get_or none event false || names_event owner base event))
     → again ≡ first
     → length second ≡ length again → ((event : ℕ) → event < length again → get_or second event false ≡ (get_or again event false || names_event owner extra event))
     → last ≡ second → AreNamed owner (base ++ extra) last
-noted owner base extra n items none first again second last filled is long these same still those end =
-    search (rules, get_or-replicate_same, named_both)
+noted owner base extra n filled is long these same still those end = search (rules, get_or-replicate_same, named_both)

@@ -1,10 +1,10 @@
 -- Orders that are kept, and those that are left out.
-use Rattle.std.proofs.{Common.{rules, ◌≡◌, inl, inr, ⊎_elim, ℕ, ℤ, List, [], ◌∷◌, ◌++◌, sym, ap, subst, ◌∙◌, append_assoc, All}, lemmas.List.Elements.{All-nil, All-cons, All-head, All-tail}}
+use Rattle.std.proofs.{Common.{rules, ◌≡◌, inl, inr, ⊎_elim, ℕ, ℤ, List, [], ◌∷◌, ◌++◌, sym, ap, subst, append_assoc, All}, lemmas.List.Elements.{All-nil, All-cons, All-head, All-tail}}
 use Rattle.stn_net.{specs.{Difference.Difference, Schedule.{Meets, IsSchedule}}, proofs.{Closure.schedule_before, Schedules.{met_behind, schedule_with}}}
 use Rattle.stn_loosen.specs.Loosened.{Imply, AreKept}
 
 kept_same : (bounds kept others : List Difference) (first : Difference) → kept ≡ first ∷ others → bounds ++ kept ≡ (bounds ++ first ∷ []) ++ others
-kept_same bounds kept others first is = ap (λ l. bounds ++ l) is ∙ sym (append_assoc bounds (first ∷ []) others)
+kept_same bounds kept others first is = cc (append_assoc bounds (first ∷ []) others)
 
 -- what is kept of more
 pub AreKept-join : (bounds first second one other : List Difference) → AreKept bounds first one → AreKept (bounds ++ one) second other → AreKept bounds (first ++ second) (one ++ other)
@@ -42,4 +42,4 @@ module _ (bounds orders kept : List Difference) (are : AreKept bounds orders kep
   kept_schedule s = schedule_with bounds kept time (schedule_before bounds orders time s) (kept_hold (Meets time) bounds orders kept are (met_behind bounds orders time s))
 
   pub whole_schedule : IsSchedule (bounds ++ kept) time → IsSchedule (bounds ++ orders) time
-  whole_schedule s = schedule_with bounds orders time (schedule_before bounds kept time s) (λ k d below. all_implied bounds orders kept are k d below time s)
+  whole_schedule s = search (rules, schedule_with, schedule_before, all_implied)

@@ -1,5 +1,5 @@
 -- Parts of lists, and the key that a closure gives.
-use Rattle.std.{proofs.{Common.{◌≡◌, List, ◌++◌, All}, lemmas.Fn.always_returns_same}, specs.Fn.{Called, ComputesKey}}
+use Rattle.std.{proofs.{Common.{rules, ◌≡◌, List, ◌++◌, All}, lemmas.Fn.always_returns_same}, specs.Fn.{Called, ComputesKey}}
 use Rattle.stn_time.proofs.Each.{All-left, All-right}
 use denote.{Param.Members.Mut, Ref.Bor}
 
@@ -17,4 +17,4 @@ module _ {X : Type 0} (xs ys zs : List X) (P : X → Type 0) (all : All P (xs ++
 -- a key that the calls of a closure give
 pub key_given : {X K F : Type 0} {g : Mut F (Bor X × Unit {0}) K} {f : F} (key : X → K) (Q : (X → K) → Type 0) → ((other : X → K) → ComputesKey g other f → Q other)
     → ((a : Bor X × Unit {0}) (r : K) (f' : F) → Called g f a r f' → (r ≡ key a.0.now) × (f' ≡ f)) → Q key
-key_given {g = g} {f = f} key Q clause calls = clause key (always_returns_same g (λ a r. r ≡ key a.0.now) f calls)
+key_given {g = g} {f = f} key Q clause calls = search (rules, always_returns_same)

@@ -12,8 +12,7 @@ lasts_at (step ∷ steps) all zero = all.0.duration
 lasts_at (step ∷ steps) all (suc place) = lasts_at steps all.1 place
 
 pub durations_last : (source : PlanSource) → All (λ bound. pos 0 ≤ℤ bound.lo) (durations_of source)
-durations_last (bare steps) = All-nil (λ (bound : Difference). pos 0 ≤ℤ bound.lo)
-durations_last (files domain plan) = search (rules, duration_at, length-duration_bounds, lasts_at, activities_timed)
+durations_last source = search (rules, duration_at, length-duration_bounds, lasts_at, activities_timed)
 
 -- a time lies from 0 to the horizon
 abbrev IsWithin : ℤ → Type 0

@@ -1,13 +1,13 @@
 -- Records that are made one after the other.
-use Rattle.std.proofs.{Common.{rules, ◌≡◌, ℕ, ◌+◌, ◌<◌, ◌≤◌, inr, List, [], ◌∷◌, ◌++◌, map, length, take, drop, get_or, refl, sym, ap, subst, ◌∙◌, arith, append_assoc, append-nil, length-append}, lemmas.List.{length-map, length-take-le, map_more, map-append, take_more, take-append-drop}}
-use Rattle.stn_refusal.specs.declared.{code.Code.TheVariants.{Full, NotRobust}, failure.Failure.Failure}
-use Rattle.stn_net.{specs.{Difference.Difference, Horizon.horizon_bounds, Schedule.{Meets, IsSchedule, HasSchedule}}, proofs.{Closure.schedule_before, Schedules.{met_behind, schedule_with}}}
+use Rattle.std.proofs.{Common.{rules, ◌≡◌, ℕ, ◌+◌, ◌<◌, ◌≤◌, inr, List, [], ◌∷◌, ◌++◌, map, length, take, drop, get_or, refl, sym, ap, subst, ◌∙◌, arith, append_assoc, append-nil, length-append}, lemmas.List.{length-map, map_more, map-append, take_more, take-append-drop}}
+use Rattle.stn_refusal.specs.declared.{code.Code.TheVariants.Full, failure.Failure.Failure}
+use Rattle.stn_net.{specs.{Difference.Difference, Schedule.{Meets, IsSchedule, HasSchedule}}, proofs.{Closure.schedule_before, Schedules.{met_behind, schedule_with}}}
 use Rattle.stn_records.specs.Content.{most_known}
 use Rattle.stn_loosen.{specs.{Slack.{Slack, loose}, Making.{Loosening, made_bounds, with_more, AreMadeBehind, IsCauseOf, IsCauseWith}, Stepped.{IsCauseBehind, IsCauseIn}}, proofs.{Refused.refused_for, Lists.{in_first, in_second}, Kept.{AreKept-join, kept_schedule}}}
 
 -- all bounds, where there are more
 pub bounds_more : (made : Loosening) (more : List Difference) → made_bounds (with_more made more) ≡ made_bounds made ++ more
-bounds_more made more = sym (append_assoc (horizon_bounds made.events) made.records more)
+bounds_more made more = search (rules, append_assoc)
 
 -- with a schedule of all bounds and more, all bounds have one
 front_schedule : (made : Loosening) (more : List Difference) → HasSchedule (made_bounds (with_more made more)) → HasSchedule (made_bounds made)
@@ -33,13 +33,10 @@ module _ (slack : Slack) (old now : Loosening) (durations : List Difference) (pl
       front_schedule (with_more now (bound ∷ [])) rest (subst (λ m. HasSchedule (made_bounds m)) whole possible)
 
   pub duration_room : length old.records + length durations ≤ most_known → length now.records < most_known
-  duration_room few =
-      let first = map (loose slack) (take place durations) in
-      let many : length first ≡ place = length-map (take place durations) (loose slack) ∙ length-take-le place durations (omega (arith, within)) in
-      omega (arith, few, within, many, ap (λ (m : Loosening). length m.records) made, length-append old.records first)
+  duration_room few = search (rules, length-map, length-append)
 
 pub nothing_more : (made : Loosening) → made ≡ with_more made []
-nothing_more made = ap (λ l. record made { records = l }) (sym (append-nil made.records))
+nothing_more made = search rules
 
 pub none_made : (old : Loosening) → AreMadeBehind old [] old
 none_made old = ([], nothing_more old, refl)
@@ -48,7 +45,7 @@ module _ (old middle : Loosening) (first second : List Difference) (made : AreMa
   pub made_behind : (new : Loosening) → AreMadeBehind middle second new → AreMadeBehind old (first ++ second) new
   made_behind new other = search (rules, append_assoc, AreKept-join)
 
-  -- what can be made behind these, and more, can be made behind the first
+  -- what can be made after these, and more, can be made after the first
   pub possible_behind : (others : List Difference) → HasSchedule (made_bounds (with_more old (first ++ (second ++ others)))) → HasSchedule (made_bounds (with_more middle second))
   possible_behind others s =
       let front = made_bounds old in
@@ -60,11 +57,11 @@ module _ (old middle : Loosening) (first second : List Difference) (made : AreMa
       (s.0, subst (λ l. IsSchedule l s.0) (sym (bounds_more middle second)) (schedule_with (made_bounds middle) second s.0 there (in_second first second others (Meets s.0) met)))
 
   pub cause_behind : (others : List Difference) (failure : Failure) → IsCauseBehind middle second failure → IsCauseBehind old (first ++ (second ++ others)) failure
-  cause_behind others = refused_for NotRobust (λ none s. none (possible_behind others s))
+  cause_behind others = search (rules, refused_for, possible_behind)
 
 -- where all bounds have no schedule, they have none with more
 pub cause_now : (made : Loosening) (others : List Difference) (failure : Failure) → IsCauseIn (made_bounds made) failure → IsCauseBehind made others failure
-cause_now made others = refused_for NotRobust (λ none s. none (front_schedule made others s))
+cause_now made others = search (rules, refused_for, front_schedule)
 
 -- so no more can be made of these
 pub cause_in : (old new : Loosening) (bounds : List Difference) → AreMadeBehind old bounds new → (failure : Failure) → IsCauseIn (made_bounds new) failure → IsCauseBehind old bounds failure
@@ -76,10 +73,10 @@ module _ (stand_for : List Difference → List Difference) (join : (some others 
     (old now : Loosening) (bounds : List Difference) (place : ℕ) (sofar : AreMadeBehind old (stand_for (take place bounds)) now)
     (bound : Difference) (within : place < length bounds) (here : bound ≡ get_or bounds place bound) where
   next : stand_for (take (place + 1) bounds) ≡ stand_for (take place bounds) ++ stand_for (bound ∷ [])
-  next = ap stand_for (take_more bounds place bound within ∙ ap (λ b. take place bounds ++ b ∷ []) (sym here)) ∙ join (take place bounds) (bound ∷ [])
+  next = search (rules, take_more)
 
   all : stand_for bounds ≡ stand_for (take place bounds) ++ (stand_for (bound ∷ []) ++ stand_for (drop (place + 1) bounds))
-  all = search (rules, take-append-drop, next, append_assoc) depth 9
+  all = search (rules, take-append-drop, next, append_assoc)
 
   pub made_next : (new : Loosening) → AreMadeBehind now (stand_for (bound ∷ [])) new → AreMadeBehind old (stand_for (take (place + 1) bounds)) new
   made_next new made = subst (λ l. AreMadeBehind old l new) (sym next) (made_behind old now (stand_for (take place bounds)) (stand_for (bound ∷ [])) sofar new made)

@@ -1,5 +1,5 @@
 -- The records of the robust plan, made behind those of the loosened plan.
-use Rattle.std.{proofs.{lemmas.{Grind.common_steps, List.{take_at, drop_at, length-map, Elements.All-append}}, Common.{rules, arith, ◌≡◌, ◌≤◌, ℕ, true, Some, inl, inr, List, ◌++◌, length, take, drop, refl, sym, ap, subst, ◌∙◌, append_assoc}}, specs.Prelude.All}
+use Rattle.std.{proofs.{lemmas.{Grind.common_steps, List.{take_at, drop_at, length-map, Elements.All-append}}, Common.{rules, arith, ◌≡◌, ◌≤◌, ℕ, true, List, ◌++◌, length, take, drop, refl, sym, ap, subst, ◌∙◌, append_assoc}}, specs.Prelude.All}
 use Rattle.stn_net.{proofs.Widest.horizon_named, specs.{Difference.{Difference, NamesEvents}, Horizon.horizon_bounds, Schedule.HasSchedule}}
 use Rattle.stn_refusal.specs.declared.failure.Failure.{Failure}
 use Rattle.stn_lift.specs.PlanSource.{PlanSource, events_of, IsSoundSource}
@@ -29,16 +29,16 @@ pub record AreParted (source : PlanSource) (slack : Slack) (old : Loosening) (du
 
 module _ {source : PlanSource} {slack : Slack} {old : Loosening} {durations bounds : List Difference} (p : AreParted source slack old durations bounds) where
   many : length (loose_durations slack source) ≡ p.steps
-  many = length-map (durations_of source) (loose slack) ∙ sym p.count
+  many = cc (length-map (durations_of source) (loose slack))
 
   durations_first : durations ≡ loose_durations slack source
-  durations_first = p.durations_are ∙ ap (take p.steps) p.are.made.whole ∙ take_at (loose_durations slack source) p.are.made.kept p.steps many
+  durations_first = search (rules, take_at, many)
 
   bounds_behind : bounds ≡ p.are.made.kept ++ horizon_bounds (events_of source)
-  bounds_behind = p.bounds_are ∙ ap (λ l. l ++ horizon_bounds (events_of source)) (ap (drop p.steps) p.are.made.whole ∙ drop_at (loose_durations slack source) p.are.made.kept p.steps many)
+  bounds_behind = search (rules, drop_at, many)
 
   pub are_steps : AreSteps durations
-  are_steps = subst AreSteps (sym durations_first) (source_steps slack source)
+  are_steps = search (rules, durations_first, source_steps)
 
   sides : moved_bounds durations bounds ≡ moved_bounds (loose_durations slack source) (p.are.made.kept ++ horizon_bounds (events_of source))
   sides = cc (durations_first, bounds_behind)
@@ -73,8 +73,7 @@ module _ {source : PlanSource} {slack : Slack} {old : Loosening} {durations boun
       (subst (λ l. HasSchedule l) (append_assoc (horizon_bounds (events_of source)) old.records (moved_bounds (loose_durations slack source) (p.are.made.kept ++ horizon_bounds (events_of source)))) s)))
 
   pub cause_after : length old.records ≤ most_known → (failure : Failure) → IsCauseBehind old (moved_bounds durations bounds) failure → IsAskedFailure true source slack failure
-  cause_after few failure (inl cause) = inr (inr (inl ((old.records, (p.are, few)), no_promise cause.0, ap Some cause.1)))
-  cause_after few failure (inr memory) = inl memory
+  cause_after few failure h = search (rules, no_promise)
 
 -- the records of the robust plan name its events, where those of the loosened one do
 pub records_named : (source : PlanSource) (slack : Slack) → IsSoundSource source → (loosened records : List Difference) (are : AreRobust source slack records)

@@ -1,5 +1,5 @@
 -- A state whose records are numbered from 1 on.
-use Rattle.std.{proofs.{Common.{rules, ◌≡◌, ℕ, ◌+◌, ◌<◌, ◌≤◌, max, Bool, true, eqb, not, filter, Ordering, Greater, List, [], ◌∷◌, ◌++◌, map, length, None, is_some, refl, sym, ap, subst, ◌∙◌, arith}, lemmas.{Bool.Decides.nat_tests, List.nil_from_length, Map.Made.distinct_count-le}}, specs.{List.AllByRecursion, FinMap.{empty, entries, entries-insert, len-entries, len-empty, get-empty, contains_key, Entries.put}}}
+use Rattle.std.{proofs.{Common.{rules, ◌≡◌, ℕ, ◌+◌, ◌<◌, ◌≤◌, max, Bool, true, eqb, not, filter, Ordering, Greater, List, [], ◌∷◌, ◌++◌, map, length, None, is_some, refl, sym, ap, ◌∙◌, arith}, lemmas.{Bool.Decides.nat_tests, List.nil_from_length, Map.Made.distinct_count-le}}, specs.{List.AllByRecursion, FinMap.{empty, entries, entries-insert, len-entries, len-empty, get-empty, contains_key, Entries.put}}}
 use Rattle.stn_net.specs.Difference.{Difference}
 use Rattle.stn_lift.specs.PlanSource.{PlanSource, bare, steps_of}
 use Rattle.stn_records.specs.{Id.{SiteCounter, id_cmp}, declared.record.Record.Record, ContentLaws.ids_total, Content.{Content, no_content, RecordMap, IdSet, with_record, replaced_set, is_replaced, known_ids, next_counter, greatest_counter, same_ids, most_known}}
@@ -63,7 +63,7 @@ next_passes held bounds holds few =
     search rules
 
 pub holds_none : (site : ℕ) (state : Content) → state ≡ no_content → HoldsNumbered site [] state
-holds_none site state is = subst (HoldsNumbered site []) (sym is) (record { records = no_entries id_cmp; alone = refl })
+holds_none site state is = search (rules, no_entries)
 
 -- one record more
 pub holds_more : (site : ℕ) (bounds : List Difference) (bound : Difference) (old new : Content) → HoldsNumbered site bounds old
@@ -89,7 +89,7 @@ all_pass test passes (x ∷ xs) = rw (passes x) (ap (λ l. x ∷ l) (all_pass te
 
 numbered_bounds : (site counter : ℕ) (bounds : List Difference) → bounds_of (numbered site counter bounds) ≡ bounds
 numbered_bounds site counter [] = refl
-numbered_bounds site counter (bound ∷ bounds) = ap (λ l. bound ∷ l) (numbered_bounds site (counter + 1) bounds)
+numbered_bounds site counter (bound ∷ bounds) = cc (numbered_bounds site (counter + 1) bounds)
 
 live_alone : (additions : RecordMap) → live_bounds (record no_content { additions = additions }) ≡ bounds_of (entries additions)
 live_alone additions =
@@ -97,4 +97,4 @@ live_alone additions =
 
 -- so all bounds are those of the bare plan and of the records
 pub all_are : (source : PlanSource) (site : ℕ) (bounds : List Difference) (state : Content) → HoldsNumbered site bounds state → all_bounds (bare (steps_of source)) state ≡ bounds_with source bounds
-all_are source site bounds state holds = cc (live_alone state.additions, numbered_bounds site 1 bounds)
+all_are source site bounds state holds = search (rules, live_alone, numbered_bounds)

@@ -1,5 +1,5 @@
 -- What sets the events of a plan, and times that keep to promised ones.
-use Rattle.std.{proofs.{Common.{◌≡◌, ◌≢◌, ℕ, ◌≤◌, ℤ, pos, ◌+ℤ◌, ◌≤ℤ◌, cond, eqb, find, List, [], ◌∷◌, ◌++◌, get_or, Some, refl, sym, ap, subst, arith, All}, lemmas.{Bool.{cond_both, eqb-true, eqb-false, eq-eqb, ne_eqb}, Int.ints, List.Elements.{All-nil, All-cons, All-head, All-tail}}}, specs.Prelude.unwrap_or}
+use Rattle.std.{proofs.{Common.{rules, ◌≡◌, ◌≢◌, ℕ, ◌≤◌, ℤ, pos, ◌+ℤ◌, ◌≤ℤ◌, cond, eqb, find, List, [], ◌∷◌, ◌++◌, get_or, Some, refl, sym, ap, subst, arith, All}, lemmas.{Bool.{cond_both, eqb-true, eqb-false, eq-eqb, ne_eqb}, Int.ints, List.Elements.{All-nil, All-cons, All-head, All-tail}}}, specs.Prelude.unwrap_or}
 use Rattle.stn_time.specs.Time.{horizon}
 use Rattle.stn_net.{specs.{Difference.{Difference, NamesEvents}, Horizon.horizon_bounds, Schedule.{Meets, IsSchedule}}, proofs.{Closure.schedule_before, Widest.horizon_times}}
 use Rattle.stn_loosen.specs.{Promise.{still, setting_of, Follows, Keeps, Promises}, Moved.{moved_upper, moved_lower, moved_bounds}}
@@ -7,7 +7,7 @@ use Rattle.stn_loosen.specs.{Promise.{still, setting_of, Follows, Keeps, Promise
 -- what holds where an event stands, if no duration ends it, and of each duration that ends it, holds of what sets it
 pub setting_holds : (P : Difference → Type 0) (event : ℕ) (durations : List Difference) → (All (λ duration. duration.to ≢ event) durations → P (still event))
     → All (λ duration. duration.to ≡ event → P duration) durations → P (setting_of durations event)
-setting_holds P event [] stands each = stands (All-nil (λ (duration : Difference). duration.to ≢ event))
+setting_holds P event [] stands each = search rules
 setting_holds P event (duration ∷ durations) stands each =
     cond_both (eqb duration.to event) (Some duration) (find (λ (d : Difference). eqb d.to event) durations) (λ found. P (unwrap_or found (still event)))
     (λ same. All-head (λ (d : Difference). d.to ≡ event → P d) duration durations each (eqb-true duration.to event same))
@@ -57,7 +57,7 @@ module _ (durations : List Difference) where
   -- the moved sides are bounds of starts
   pub sides_alike : (promised time : ℕ → ℤ) → ((event : ℕ) → time (setting_of durations event).from ≡ promised (setting_of durations event).from) → (bounds : List Difference)
       → All (BothSides (Meets promised)) bounds → All (BothSides (Meets time)) bounds
-  sides_alike promised time same bounds met k d below = let bound = get_or bounds k d in rw (same bound.from, same bound.to) (met k d below)
+  sides_alike promised time same bounds met k d below = search rules
 
 module _ (durations : List Difference) (apart : AreApart durations) where
   module _ (promised time : ℕ → ℤ) (kept : Keeps durations promised time) where

@@ -1,5 +1,5 @@
 -- Sides of moved bounds.
-use Rattle.std.proofs.{Common.{rules, ◌≡◌, ◌≢◌, ◌⊎◌, inl, inr, ⊎_elim, ℕ, ℤ, get_or, neg_ℤ, ◌+ℤ◌, ◌-ℤ◌, ◌≤ℤ◌, ◌↔◌, Bool, IsTrue, List, [], ◌∷◌, subst, arith, All}, lemmas.{Int.ints, List.Elements.All-head}}
+use Rattle.std.proofs.{Common.{rules, ◌≡◌, ◌≢◌, ◌⊎◌, ⊎_elim, ℕ, ℤ, neg_ℤ, ◌+ℤ◌, ◌-ℤ◌, ◌≤ℤ◌, ◌↔◌, Bool, IsTrue, List, [], ◌∷◌, subst, arith, All}, lemmas.{Int.ints, List.Elements.All-head}}
 use Rattle.stn_time.specs.Time.{horizon, IsWithinHorizon}
 use Rattle.stn_net.{specs.{Difference.{Difference, NamesEvents}, Horizon.horizon_bounds, Schedule.{Meets, IsSchedule}}, proofs.{Closure.schedule_before, Schedules.met_behind, Widest.horizon_times}}
 use Rattle.stn_conflict.specs.Distances.{TellsWithin}
@@ -39,8 +39,7 @@ module _ (made : Loosening) (bounds : List Difference) (listed : bounds ≡ made
 -- a bound with an open side lies within the horizon, or says nothing
 pub half_within : (bound : Difference) → IsHalfOpen bound → bound.lo ≤ℤ bound.hi
     → (IsWithinHorizon bound.lo × IsWithinHorizon bound.hi) ⊎ ((bound.lo ≤ℤ neg_ℤ horizon) × (horizon ≤ℤ bound.hi))
-half_within bound (inl low) ordered = search rules
-half_within bound (inr high) ordered = search rules
+half_within bound h ordered = search rules
 
 -- with a side that is open, needed, and no bound there is no schedule
 module _ (old : Loosening) (side : Difference) (named : NamesEvents old.events side) (side_open : IsHalfOpen side) (needed : ¬ Imply (made_bounds old) side)
@@ -64,7 +63,7 @@ module _ (durations : List Difference) (are : AreSteps durations) (events : ℕ)
   both_named bound named = search (rules, earlier_start)
 
   pub sides_named : (bounds : List Difference) → All (NamesEvents events) bounds → All (NamesEvents events) (moved_bounds durations bounds)
-  sides_named bounds named = moved_all durations (NamesEvents events) bounds (λ k d below. both_named (get_or bounds k d) (named k d below))
+  sides_named bounds named = search (rules, moved_all, both_named)
 
 -- the sides that the code makes
 module _ (durations : List Difference) (bound : Difference) (from_event to_event : ℕ) (from to : Span) (time : ℤ) (from_is : from_event ≡ bound.from) (to_is : to_event ≡ bound.to)

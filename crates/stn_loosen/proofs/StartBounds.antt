@@ -1,14 +1,14 @@
 -- The bounds on starts, one after the other, and the lines of their links.
-use Rattle.std.proofs.{lemmas.{Grind.common_steps, List.{get_or_read, take_at, get_or-map, Elements.All-append}}, Common.{rules, ◌≡◌, inl, inr, ℕ, ◌+◌, ◌*◌, ◌<◌, ◌≤◌, List, [], ◌∷◌, ◌++◌, length, map, take, get_or, codes, refl, sym, ap, ◌∙◌, arith, append_assoc, length-append, All}}
+use Rattle.std.proofs.{lemmas.{Grind.common_steps, List.{get_or_read, take_at, get_or-map, Elements.All-append}}, Common.{rules, ◌≡◌, inl, inr, ℕ, ◌+◌, ◌*◌, ◌<◌, ◌≤◌, List, [], ◌∷◌, ◌++◌, length, map, take, get_or, codes, refl, arith, append_assoc, length-append, All}}
 use Rattle.stn_net.{specs.{Difference.{Difference, NamesEvents}, Horizon.horizon_bounds, Schedule.{Meets, HasSchedule}}, proofs.{Horizons.length-horizon_bounds, Schedules.met_behind, Widest.{horizon_each, horizon_named}}}
 use Rattle.stn_lift.specs.PlanSource.{PlanSource, events_of, IsSoundSource}
 use Rattle.stn_conflict.specs.{declared.links.{Link.Link}, Arcs.bound_at}
 use Rattle.stn_site.specs.{declared.names.BoundName.TheVariants.Plan, Names.name_text, Lines.{line, side_text, limit_text}}
-use Rattle.stn_loosen.{specs.{declared.span.Span.Span, Slack.{Slack, IsSlack}, Moved.{moved_upper, moved_lower, moved_bounds}, Loosened.{orders_of, loose_durations}, Robust.{loose_bounds, HasPromise}, Stepped.{as_bound, IsWithinReach, IsHalfOpen}, Starting.IsStart, Fragile.{start_bounds, origin_place, mover_text, with_sides, start_line}}, proofs.{Steps.source_steps, Looser.all_between, Settings.{moved_all, moved_each}, Sides.sides_named, Robustness.{starts_met, promise_iff}}}
+use Rattle.stn_loosen.{specs.{declared.span.Span.Span, Slack.{Slack, IsSlack}, Moved.{moved_upper, moved_lower, moved_bounds}, Loosened.loose_durations, Robust.{loose_bounds, HasPromise}, Stepped.{as_bound, IsWithinReach, IsHalfOpen}, Starting.IsStart, Fragile.{start_bounds, origin_place, mover_text, with_sides, start_line}}, proofs.{Steps.source_steps, Looser.all_between, Settings.{moved_all, moved_each}, Sides.sides_named, Robustness.{starts_met, promise_iff}}}
 
 -- the bound at a place of spans
 pub span_at : (spans : List Span) (place : ℕ) (span : Span) → place < length spans → span ≡ get_or spans place span → bound_at (map as_bound spans) place ≡ as_bound span
-span_at spans place span there is = get_or-map as_bound spans place span _ there ∙ ap as_bound (sym is)
+span_at spans place span there is = cc (get_or-map as_bound spans place span _ there)
 
 -- both sides of one more bound
 module _ (old new : List Span) (upper lower : Span) (is : new ≡ (old ++ upper ∷ []) ++ lower ∷ []) where
@@ -36,7 +36,7 @@ module _ (source : PlanSource) (sound : IsSoundSource source) (slack : Slack) wh
   bounds = loose_bounds source slack
 
   pub begins : take (events_of source) (start_bounds source slack) ≡ horizon_bounds (events_of source)
-  begins = take_at (horizon_bounds events) (moved_bounds durations bounds) events (length-horizon_bounds events)
+  begins = search (rules, take_at, length-horizon_bounds)
 
   pub are_starts : All IsWithinReach (start_bounds source slack) → All (IsStart (events_of source)) (start_bounds source slack)
   are_starts reach k d below = record {
@@ -59,12 +59,12 @@ module _ (source : PlanSource) (sound : IsSoundSource source) (slack : Slack) wh
   counted = simp (length-append, length-horizon_bounds, length-moved_bounds)
 
   pub some : events_of source ≤ length (loose_bounds source slack)
-  some = omega (arith, length-append (horizon_bounds events) (durations ++ orders_of source), length-horizon_bounds events)
+  some = search (rules, length-append, length-horizon_bounds)
 
 -- the plan's bound that a bound on starts comes from
 pub origin_at : (events : ℕ) (bounds : List Difference) (place at : ℕ) (bound : Difference) → events ≤ length bounds → place < events + 2 * length bounds → at ≡ origin_place events place
     → bound ≡ get_or bounds at bound → bound ≡ bound_at bounds (origin_place events place)
-origin_at events bounds place at bound some there is here = search (rules, get_or_read, some)
+origin_at events bounds place at bound some there is here = search (rules, get_or_read)
 
 module _ (events : ℕ) (durations bounds starts : List Difference) (link : Link) where
   abbrev made_line : ℕ → Difference → Difference → List ℕ

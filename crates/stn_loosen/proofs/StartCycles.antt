@@ -1,14 +1,14 @@
 -- Bounds on starts of which a search takes some.
-use Rattle.std.proofs.{Common.{rules, ◌≡◌, ◌≢◌, ℕ, ◌+◌, ◌<◌, ◌≤◌, ℤ, pos, neg_ℤ, ◌-ℤ◌, ◌≤ℤ◌, List, [], ◌∷◌, ◌++◌, length, map, take, refl, sym, ap, subst, ◌∙◌, arith, append_assoc, length-append, All}, lemmas.{Bool.cases_eq, Int.ints, List.{take_more, take_all, length-map, get_or_append_left, get_or_push, Elements.{All-head, All-push}}}}
+use Rattle.std.proofs.{Common.{rules, ◌≡◌, ◌≢◌, ℕ, ◌+◌, ◌<◌, ◌≤◌, ℤ, pos, neg_ℤ, ◌-ℤ◌, ◌≤ℤ◌, List, [], ◌∷◌, ◌++◌, length, map, take, refl, sym, ap, subst, ◌∙◌, arith, append_assoc, length-append, All}, lemmas.{Int.ints, List.{take_more, take_all, length-map, get_or_append_left, get_or_push, Elements.{All-head, All-push}}}}
 use Rattle.stn_time.specs.Time.{horizon}
 use Rattle.stn_net.{specs.{Difference.{Difference, NamesEvents}, Horizon.horizon_bounds, Schedule.{Meets, IsSchedule, HasSchedule}}, proofs.{Closure.schedule_before, Schedules.met_behind}}
-use Rattle.stn_conflict.specs.{declared.links.Link.Link, Arcs.{Arc, arc, arc_of, bound_at, IsChain, weight_of, IsNegativeCycle}}
+use Rattle.stn_conflict.specs.{declared.links.Link.Link, Arcs.{Arc, arc_of, bound_at, IsChain, weight_of, IsNegativeCycle}}
 use Rattle.stn_loosen.{specs.{Starting.{IsStart, AreCrossed, ArePlaced, AreChosen, link_moved}, Stepped.IsBoundOf}, proofs.Sides.apart_within}
 
 -- ---- links at their places
 module _ (all bounds : List Difference) (places : List ℕ) (are : ArePlaced all bounds places) where
   same_arc : (link : Link) → link.place < length bounds → arc_of all (link_moved places link) ≡ arc_of bounds link
-  same_arc link there = ap (λ b. arc b link.side) (are link.place there).1
+  same_arc link there = cc ((are link.place there).1)
 
   placed_chain : (links : List Link) (x y : ℕ) → IsChain bounds links x y → IsChain all (map (link_moved places) links) x y
   placed_chain [] x y chain = chain
@@ -40,7 +40,7 @@ module _ (events : ℕ) (others : List Difference) (bound : Difference) (start :
 
   -- it is a bound of the plan where its sides lie within the horizon; where one of them doesn't, the horizon's imply it
   pub left_out_met : (place : ℕ) → AreCrossed bound place [] → ¬ IsBoundOf events bound → Meets time bound
-  left_out_met place whole none = search (rules, cases_eq, ints, inside)
+  left_out_met place whole none = search (rules, ints, inside)
 
 -- ---- one bound after the other
 abbrev nothing : Difference
@@ -87,4 +87,4 @@ module _ (events : ℕ) (all : List Difference) where
 
   -- all were looked at
   pub all_met : (chosen : List Difference) (places : List ℕ) (count : ℕ) → length all ≤ count → AreChosen events all count chosen places → HasSchedule (horizon_bounds events ++ chosen) → HasSchedule all
-  all_met chosen places count whole are s = (s.0, record { origin = s.1.origin; met = subst (All (Meets s.0)) (take_all count all whole) (are.met s.0 s.1) })
+  all_met chosen places count whole are s = search (rules, take_all)

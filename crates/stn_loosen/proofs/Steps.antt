@@ -1,6 +1,6 @@
 -- The durations of the steps of a plan, one behind the other.
 use Rattle.std.{proofs.{Common.{rules, ◌≡◌, ◌≢◌, ◌⊎◌, inl, inr, ⊎_elim, ℕ, ◌+◌, ◌*◌, ◌<◌, ◌≤◌, ℤ, ◌≤ℤ◌, List, map, length, get_or, refl, sym, ap, subst, ◌∙◌, arith, All}, lemmas.{Int.ints, List.{get_or-map, get_or_default, length-map}}}}
-use Rattle.stn_lift.{proofs.FewBounds.{length-duration_bounds, duration_at}, specs.{BaseBounds.duration_bounds, PlanSource.{PlanSource, bare, files}}}
+use Rattle.stn_lift.{proofs.FewBounds.{length-duration_bounds, duration_at}, specs.{BaseBounds.duration_bounds, PlanSource.PlanSource}}
 use Rattle.stn_net.specs.Difference.{Difference}
 use Rattle.stn_loosen.{specs.{Slack.{Slack, loose}, Loosened.loose_durations, Promise.{still, setting_of}, Stepped.AreSteps}, proofs.Settings.{AreApart, setting_holds}}
 
@@ -16,8 +16,7 @@ steps_loose slack durations are = record {
 
 -- the durations of a plan are those of its steps
 pub source_steps : (slack : Slack) (source : PlanSource) → AreSteps (loose_durations slack source)
-source_steps slack (bare steps) = record { each = λ place d below. absurd (omega arith) }
-source_steps slack (files domain plan) = search (rules, steps_loose, steps_bounds)
+source_steps slack source = search (rules, steps_loose, steps_bounds)
 
 module _ (durations : List Difference) (are : AreSteps durations) where
   -- an event is set by itself, or by a duration that begins with the event before it

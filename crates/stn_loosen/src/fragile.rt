@@ -20,7 +20,7 @@ use stn_time::{Memory, print_millis};
 
 /// What is not robust of a plan with a tolerance: the lines of a closed chain of bounds on starts that no times of the starts meet;
 /// nothing, where there is a promise. A line is that of a conflict, of the plan's bound that a bound on starts comes from, but with its
-/// side as moved; behind it stand the steps whose durations move it.
+/// side as moved; after it stand the steps whose durations move it.
 pub fn fragile_lines<A: Allocator + Copy>(
     alloc: A,
     base: &Base<A>,

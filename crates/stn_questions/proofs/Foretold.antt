@@ -1,5 +1,5 @@
 -- What the searches of a plan's bounds find of the events that are left.
-use Rattle.std.{proofs.{Common.{rules, ◌≡◌, ℕ, ℤ, ◌+◌, ◌<◌, ◌≤◌, ◌≤ℤ◌, ◌<ℤ◌, Bool, true, List, [], ◌++◌, length, Option, Some, None, refl, ap, subst, ◌∙◌, arith}, lemmas.{Int.ints, List.Elements.{All-append}}}, specs.Prelude.{Vec, All, Result, Ok, Err, IfOk, MatchOption, is_some}}
+use Rattle.std.{proofs.{Common.{rules, ◌≡◌, ℕ, ℤ, ◌+◌, ◌<◌, ◌≤◌, ◌≤ℤ◌, ◌<ℤ◌, Bool, true, List, [], ◌++◌, length, Option, Some, None, arith}, lemmas.{Int.ints, List.Elements.All-append}}, specs.Prelude.{Vec, All, Result, IfOk, MatchOption, is_some}}
 use Rattle.stn_net.{specs.{Event.most_events, Difference.{Difference, NamesEvents}, Schedule.{HasSchedule, times_of}, Windows.{Dispatch.{IsLeft, IsReady, CanWaitUntil}, Leading.IsLeastLatest, Soonest.{AreEarliest, AreLatest, AreSoonest}}}, proofs.Readiness.left_within}
 use Rattle.stn_lift.specs.PlanSource.{PlanSource, base_bounds, events_of, IsSoundSource}
 use Rattle.stn_records.specs.Content.{Content}
@@ -10,19 +10,16 @@ use Rattle.stn_questions.specs.{Foresight.AreSoonestOf, Ready.AreReadyEvents}
 pub soonest_found : {A E : Type 0} (bounds all : List Difference) (events count : ℕ) (done : List Bool) (now : ℤ) (result : Result (Option (Vec ℤ A)) E) → bounds ≡ all → events ≡ count → events ≤ most_events
     → IfOk result (λ found. MatchOption found (¬ CanWaitUntil bounds done now) (λ times. (length times.items ≡ events + 1) × AreSoonest bounds done now (times_of times.items)))
     → IfOk result (λ found. MatchOption found (¬ CanWaitUntil all done now) (λ times. AreSoonestOf all count done now times.items))
-soonest_found bounds all events count done now (Ok None) same many few none = subst (λ bs. ¬ CanWaitUntil bs done now) same none
-soonest_found bounds all events count done now (Ok (Some times)) same many few found = search rules
-soonest_found bounds all events count done now (Err fault) same many few found = tt
+soonest_found bounds all events count done now result same many few none = search rules
 
 -- what is there where the other case can't be
 pub there_unless : {X : Type 0} (found : Option X) (None_holds : Type 0) (Some_holds : X → Type 0) → MatchOption found None_holds Some_holds → ¬ None_holds → is_some found ≡ true
-there_unless None none some holds never = absurd (never holds)
-there_unless (Some x) none some holds never = refl
+there_unless found none some holds never = search rules
 
 -- all bounds name the plan's events
 pub all_named : (source : PlanSource) (state : Content) → IsSoundSource source → All (NamesEvents (events_of source)) (live_bounds state)
     → All (NamesEvents (events_of source)) (all_bounds source state)
-all_named source state sound live = All-append (NamesEvents (events_of source)) (base_bounds source) (live_bounds state) sound.named live
+all_named source state sound live = search (rules, All-append)
 
 -- where nothing is ready from now on, no event stands in the list
 pub none_ready : (bounds : List Difference) (done : List Bool) (now : ℤ) → ((event : ℕ) (time : ℤ) → now ≤ℤ time → ¬ IsReady bounds done event time) → AreReadyEvents bounds done now []
@@ -66,4 +63,4 @@ found_soonest bounds all events count found times same many is done now told = s
 
 -- bounds and live records' bounds, one after the other
 pub all_in : (source : PlanSource) (state : Content) (front back live : List Difference) → front ≡ base_bounds source → back ≡ live → live ≡ live_bounds state → front ++ back ≡ all_bounds source state
-all_in source state front back live own behind is = ap (λ xs. xs ++ back) own ∙ ap (λ xs. base_bounds source ++ xs) (behind ∙ is)
+all_in source state front back live own behind is = cc

@@ -1,6 +1,6 @@
 -- The known ids, each once and in order.
-use Rattle.std.{proofs.{Common.{◌≡◌, Bool, true, ◌&&◌, ◌||◌, eqb, List, [], ◌∷◌, ◌++◌, Ordering, Less, Equal, Greater, is_eq, ◌<◌, refl, sym, ap, subst, ◌∙◌, ◌↔◌, IsTrue, map, arith}, lemmas.{Bool.{eq-eqb, ne_eqb, Decides.same_from_decides}, List.{Folds.{Any-from_list_any, list_any-from_Any}, Sorted.{Contains-permutation, IsPermutation-sym}, Kept.{Contains-dedup, Contains-from_dedup, IsStrictlySortedBy-dedup}}, Map.Views.{Contains-from_any, list_any-from_Contains}}, Math.Bool.{or_assoc, or_comm}}, specs.{Cmp.{IsEquivalence, Equal-is, eq_by_cmp_equiv, ranks}, List.{Any, Contains, dedup, list_any, Sorted.{IsPermutation, IsSorted, IsStrictlySortedBy}}, Set.is_member, FinMap.contains_key-keys, Ordering.{MatchOrdering, nat_cmp, ordering_then}}}
-use Rattle.stn_records.{specs.{Id.{SiteCounter, id_cmp}, Content.{Content, is_known, same_ids}, ContentLaws.{ids_total, ids_exact, ids_decide}}, proofs.{KnownIds.member-append, Replaced.with_ids_member}}
+use Rattle.std.{proofs.{Common.{rules, ◌≡◌, Bool, true, ◌&&◌, ◌||◌, eqb, List, [], ◌∷◌, ◌++◌, refl, sym, ap, subst, ◌∙◌, ◌↔◌, IsTrue, map}, lemmas.{Bool.Decides.same_from_decides, List.{Folds.{Any-from_list_any, list_any-from_Any}, Sorted.{Contains-permutation, IsPermutation-sym}, Kept.{Contains-dedup, Contains-from_dedup, IsStrictlySortedBy-dedup}}, Map.Views.{Contains-from_any, list_any-from_Contains}}, Math.Bool.{or_assoc, or_comm}}, specs.{Cmp.{IsEquivalence, eq_by_cmp_equiv}, List.{Any, Contains, dedup, list_any, Sorted.{IsPermutation, IsSorted, IsStrictlySortedBy}}, Set.is_member, FinMap.contains_key-keys}}
+use Rattle.stn_records.{specs.{Id.{SiteCounter, id_cmp}, Content.{Content, is_known, same_ids}, ContentLaws.{ids_total, ids_decide}}, proofs.{KnownIds.member-append, Replaced.with_ids_member}}
 use Rattle.std.specs.FinMap as fin
 use Rattle.stn_questions.specs.Records.{AreKnown}
 
@@ -8,22 +8,14 @@ pub laws : IsEquivalence same_ids
 laws = eq_by_cmp_equiv ids_total
 
 pub same_is : (a b : SiteCounter) → same_ids a b ≡ true → a ≡ b
-same_is a b e = ids_exact a b ((Equal-is (id_cmp a b)).0 e)
+same_is a b e = search rules
 
 -- the test of two ids by their numbers
 abbrev pub same_numbers : SiteCounter → SiteCounter → Bool
 same_numbers a b = eqb a.site b.site && eqb a.counter b.counter
 
-by_numbers : (a b : SiteCounter) (sites counters : Ordering) → MatchOrdering sites (a.site < b.site) (a.site ≡ b.site) (b.site < a.site)
-    → MatchOrdering counters (a.counter < b.counter) (a.counter ≡ b.counter) (b.counter < a.counter) → same_numbers a b ≡ is_eq (ordering_then sites counters)
-by_numbers a b Less counters p q = ap (λ t. t && eqb a.counter b.counter) (ne_eqb a.site b.site (λ e. absurd (omega arith)))
-by_numbers a b Equal Less p q = (λ i. eq-eqb a.site b.site p i && ne_eqb a.counter b.counter (λ e. absurd (omega arith)) i)
-by_numbers a b Equal Equal p q = (λ i. eq-eqb a.site b.site p i && eq-eqb a.counter b.counter q i)
-by_numbers a b Equal Greater p q = (λ i. eq-eqb a.site b.site p i && ne_eqb a.counter b.counter (λ e. absurd (omega arith)) i)
-by_numbers a b Greater counters p q = ap (λ t. t && eqb a.counter b.counter) (ne_eqb a.site b.site (λ e. absurd (omega arith)))
-
 ties : (a b : SiteCounter) → same_numbers a b ≡ same_ids a b
-ties a b = by_numbers a b (nat_cmp a.site b.site) (nat_cmp a.counter b.counter) (ranks a.site b.site) (ranks a.counter b.counter)
+ties a b = search rules
 
 -- the ids that were added, then those that were withdrawn, then those that records replace
 abbrev pub listed_ids : Content → List SiteCounter
@@ -61,7 +53,7 @@ known_once state listed sorted ids all moved in_order is =
 
 any_value : (id : SiteCounter) (entries : List (SiteCounter × SiteCounter)) → list_any (λ entry. same_ids id entry.1) entries ≡ is_member same_ids (map (λ entry. entry.1) entries) id
 any_value id [] = refl
-any_value id (entry ∷ entries) = ap (λ b. same_ids id entry.1 || b) (any_value id entries)
+any_value id (entry ∷ entries) = cc (any_value id entries)
 
 -- an id is replaced where an entry replaces it
 pub amended_is : (entries : List (SiteCounter × SiteCounter)) (id : SiteCounter) (so : Bool) → (IsTrue so ↔ Any (λ entry. entry.1 ≡ id) entries)

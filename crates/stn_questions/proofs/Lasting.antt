@@ -1,6 +1,6 @@
 -- How long the steps of a plan last, by its bounds.
-use Rattle.std.{proofs.{Common.{rules, ◌≡◌, ℕ, ◌+◌, ◌*◌, ◌<◌, ◌≤◌, List, [], ◌++◌, length, drop, get_or, Result, Ok, Err, refl, sym, ap, ◌∙◌, length-append, length-drop}, lemmas.List.{get_or-drop, get_or_append_left, get_or-append_right}}, specs.Result.result_unwrap_or}
-use Rattle.stn_lift.{proofs.{FewBounds.{length-duration_bounds, duration_at}, Steps.length-activities}, specs.{declared.{plan.fault.PlanFault.PlanFault, fault.{LiftFault.LiftFault, BaseFault.BaseFault}}, Plan.Steps.{PlannedStep, plan_of}, Activities.{Activity, activities}, BaseBounds.{duration_of, lifted_bounds}, PlanSource.{files, of_lift, steps_in, lifted, activities_of, source_with, base_of, base_bounds, events_of, IsSoundSource}}}
+use Rattle.std.{proofs.{Common.{rules, ◌≡◌, ℕ, ◌+◌, ◌*◌, ◌<◌, ◌≤◌, List, [], ◌++◌, length, drop, get_or, Result, Ok, length-append, length-drop}, lemmas.List.{get_or-drop, get_or_append_left, get_or-append_right}}, specs.Result.result_unwrap_or}
+use Rattle.stn_lift.{proofs.{FewBounds.{length-duration_bounds, duration_at}, Steps.length-activities}, specs.{declared.{plan.fault.PlanFault.PlanFault, fault.BaseFault.BaseFault}, Plan.Steps.{PlannedStep, plan_of}, Activities.Activity, BaseBounds.{duration_of, lifted_bounds}, PlanSource.{files, steps_in, lifted, activities_of, source_with, base_of, base_bounds, events_of, IsSoundSource}}}
 use Rattle.stn_net.{specs.Difference.Difference, proofs.Horizons.length-horizon_bounds}
 use Rattle.stn_pddl.specs.{declared.fault.DomainFault.DomainFault, Schemas.ActionSchema, Domains.domain_of}
 use Rattle.stn_questions.specs.{Steps.planned_steps, Durations.{least_of, AreDurations}}
@@ -8,32 +8,18 @@ use Rattle.stn_questions.specs.{Steps.planned_steps, Durations.{least_of, AreDur
 -- a step in each place
 same_count : (actions : Result (List ActionSchema) DomainFault) (plan : Result (List PlannedStep) PlanFault) (found : List Activity)
     → steps_in actions plan ≡ Ok found → length (result_unwrap_or plan []) ≡ length found
-same_count (Err fault) plan found e = cc
-same_count (Ok actions) (Err fault) found e = cc
-same_count (Ok actions) (Ok steps) found e = by (activities actions 0 steps) refl e
-  where
-    by : (given : Result (List Activity) LiftFault) → activities actions 0 steps ≡ given → of_lift given ≡ Ok found → length steps ≡ length found
-    by (Ok some) is same = let one : some ≡ found = cc in sym (length-activities actions 0 steps some is) ∙ ap length one
-    by (Err fault) is same = cc
+same_count actions plan found e = search (rules, length-activities)
 
 -- the texts of a base have no fault
 has_base : (domain plan : List ℕ) (found : Result (List Activity) BaseFault) → source_with (files domain plan) found ≡ Ok (files domain plan)
     → (some : List Activity) × (found ≡ Ok some)
-has_base domain plan (Ok some) e = (some, refl)
-has_base domain plan (Err fault) e = cc
+has_base domain plan found e = search rules
 
 one_step_each : (domain plan : List ℕ) → base_of (files domain plan) ≡ Ok (files domain plan) → length (planned_steps plan) ≡ length (activities_of domain plan)
 unfolding lifted activities_of
 one_step_each domain plan based =
     let found = has_base domain plan (lifted domain plan) based in
     cc (same_count (domain_of domain) (plan_of plan) found.0 found.1)
-
--- the text of its plan was read
-read_in : (actions : Result (List ActionSchema) DomainFault) (plan : Result (List PlannedStep) PlanFault) (found : List Activity)
-    → steps_in actions plan ≡ Ok found → plan ≡ Ok (result_unwrap_or plan [])
-read_in (Err fault) plan found e = cc
-read_in (Ok actions) (Err fault) found e = cc
-read_in (Ok actions) (Ok steps) found e = refl
 
 pub plan_was_read : (domain plan : List ℕ) → base_of (files domain plan) ≡ Ok (files domain plan) → plan_of plan ≡ Ok (planned_steps plan)
 unfolding lifted

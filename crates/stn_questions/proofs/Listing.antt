@@ -1,5 +1,5 @@
 -- Texts that grow by a line.
-use Rattle.std.{proofs.{Common.{rules, ◌≡◌, ℕ, ℤ, ◌+◌, List, [], ◌∷◌, ◌++◌, length, map, take, get_or, ◌<◌, refl, sym, ap, ◌∙◌, arith, append_assoc}, lemmas.List.{append-nil, length-map, length-take, get_or_read, map_more}}}
+use Rattle.std.proofs.{Common.{rules, ◌≡◌, ℕ, ℤ, ◌+◌, List, [], ◌∷◌, ◌++◌, length, map, take, get_or, ◌<◌, refl, sym, ap, ◌∙◌, arith, append_assoc}, lemmas.List.{length-map, length-take, get_or_read, map_more}}
 use Rattle.stn_net.specs.Difference.{Difference}
 use Rattle.stn_lift.specs.Plan.Steps.{PlannedStep}
 use Rattle.stn_site.specs.Lines.{line}
@@ -8,8 +8,7 @@ use Rattle.stn_questions.specs.{Durations.least_of, Steps.{step_name_text, name_
 -- a line of five parts, one after the other
 pub line_in_parts : (front first second third fourth fifth t1 t2 t3 t4 t5 t6 : List ℕ) → t1 ≡ front ++ first → t2 ≡ t1 ++ second → t3 ≡ t2 ++ third → t4 ≡ t3 ++ fourth
     → t5 ≡ t4 ++ fifth → t6 ≡ t5 ++ 10 ∷ [] → t6 ≡ front ++ line (first ++ second ++ third ++ fourth ++ fifth)
-line_in_parts front first second third fourth fifth t1 t2 t3 t4 t5 t6 a b c d e f =
-    f ∙ ap line (e ∙ ap (λ t. t ++ fifth) (d ∙ ap (λ t. t ++ fourth) (c ∙ ap (λ t. t ++ third) (b ∙ ap (λ t. t ++ second) a)))) ∙ simp append_assoc
+line_in_parts front first second third fourth fifth t1 t2 t3 t4 t5 t6 a b c d e f = search (rules, append_assoc)
 
 -- the lines of one step more
 pub step_lines-push : (duration : ℕ → ℤ) (before place : ℕ) (steps : List PlannedStep) (step : PlannedStep) → before + length steps ≡ place
@@ -28,14 +27,14 @@ step_lines-same one other before (step ∷ steps) same =
 -- the names of one step more
 name_lines-push : (before place : ℕ) (steps : List PlannedStep) (step : PlannedStep) → before + length steps ≡ place
     → name_lines before (steps ++ step ∷ []) ≡ name_lines before steps ++ line (step_name_text (place + 1) step)
-name_lines-push before place [] step e = append-nil (line (step_name_text (before + 1) step)) ∙ ap (λ n. line (step_name_text (n + 1) step)) (omega (arith, e))
+name_lines-push before place [] step e = search rules
 name_lines-push before place (first ∷ steps) step e =
     cc (name_lines-push (before + 1) place steps step (omega (arith, e)), append_assoc (line (step_name_text (before + 1) first)) (name_lines (before + 1) steps) (line (step_name_text (place + 1) step)))
 
 pub names_grown : {X : Type 0} (view : X → PlannedStep) (xs : List X) (place : ℕ) (x : X) (front old new : List ℕ) → place < length xs → x ≡ get_or xs place x
     → old ≡ front ++ name_lines 0 (map view (take place xs)) → new ≡ old ++ line (step_name_text (place + 1) (view x))
     → new ≡ front ++ name_lines 0 (map view (take (place + 1) xs))
-names_grown view xs place x front old new within is was grown = search (rules, map_more, append_assoc, name_lines-push, length-map, length-take)
+names_grown view xs place x front old new within is was grown = search (rules, map_more, append_assoc, name_lines-push, length-map)
 
 -- the lines of one step more, read from two lists
 pub steps_grown : {X : Type 0} (view : X → PlannedStep) (xs : List X) (durations : List Difference) (place : ℕ) (x : X) (bound : Difference) (duration : ℤ) (front old new : List ℕ)

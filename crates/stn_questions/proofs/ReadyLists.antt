@@ -1,5 +1,5 @@
 -- The events that are ready: each once, and in their order.
-use Rattle.std.{proofs.{lemmas.{Grind.common_steps, Bool.{false≢true, cases_lt, eq-eqb, ne_eqb}, Int.ints, List.{Sorted.{sorted_far, ranks_by}, Sums.sum_by_push}, Cmp.{nat_cmp_total, int_cmp_total, on_total, then_total}}, Common.{rules, ◌≡◌, ◌≢◌, ℕ, ℤ, ◌+◌, ◌<◌, ◌≤ℤ◌, ◌<ℤ◌, Bool, true, false, cond, eqb, List, [], ◌∷◌, ◌++◌, get_or, Some, None, Ordering, Less, Equal, Greater, sym, ap, ◌∙◌, arith}}, specs.{Cmp.{IsTotalOrder, ranks, int_ranks}, List.{AllPairs, count_by, Sorted.IsSorted}, Ordering.{MatchOrdering, nat_cmp, int_cmp, is_lt, ordering_then}}}
+use Rattle.std.{proofs.{lemmas.{Grind.common_steps, Bool.{cases_lt, eq-eqb, ne_eqb}, List.{Sorted.{sorted_far, ranks_by}, Sums.sum_by_push}, Cmp.{nat_cmp_total, int_cmp_total, on_total, then_total}}, Common.{rules, ◌≡◌, ◌≢◌, ℕ, ℤ, ◌+◌, ◌<◌, ◌≤ℤ◌, ◌<ℤ◌, Bool, false, cond, eqb, List, [], ◌∷◌, ◌++◌, get_or, Some, None, Ordering, arith}}, specs.{Cmp.{IsTotalOrder, ranks, int_ranks}, List.{AllPairs, count_by, Sorted.IsSorted}, Ordering.{MatchOrdering, nat_cmp, int_cmp, is_lt, ordering_then}}}
 use Rattle.stn_net.specs.{Difference.Difference, Windows.Dispatch.{IsReady, AreReadyTimes}}
 use Rattle.stn_questions.specs.{declared.ready_event.ReadyEvent.ReadyEvent, Ready.IsBefore}
 
@@ -16,11 +16,7 @@ turns =
 not_less : (a b : ReadyEvent) (first second third : Ordering) → MatchOrdering first (b.first <ℤ a.first) (b.first ≡ a.first) (a.first <ℤ b.first)
     → MatchOrdering second (b.event < a.event) (b.event ≡ a.event) (a.event < b.event)
     → is_lt (ordering_then first (ordering_then second third)) ≡ false → IsBefore a b
-not_less a b Less second third p q e = absurd (false≢true (sym e))
-not_less a b Equal Less third p q e = absurd (false≢true (sym e))
-not_less a b Equal Equal third p q e = (omega (arith, ints), λ same. omega arith)
-not_less a b Equal Greater third p q e = (omega (arith, ints), λ same. omega arith)
-not_less a b Greater second third p q e = (omega (arith, ints), λ same. absurd (omega (arith, ints)))
+not_less a b first second third p q e = search rules
 
 -- a sorted list is in order
 pub sorted_in_order : (xs : List ReadyEvent) → IsSorted by_turn xs → AllPairs IsBefore xs
@@ -35,16 +31,15 @@ abbrev pub counted : List ReadyEvent → ℕ → ℕ
 counted ready event = count_by (λ one. eqb one.event event) ready
 
 pushed : (ready : List ReadyEvent) (one : ReadyEvent) (event : ℕ) (same : Bool) → eqb one.event event ≡ same → counted (ready ++ one ∷ []) event ≡ counted ready event + cond same 1 0
-pushed ready one event same is =
-    sum_by_push (λ (x : ReadyEvent). cond (eqb x.event event) 1 0) ready one ∙ ap (λ b. counted ready event + cond b 1 0) is
+pushed ready one event same is = search (rules, sum_by_push)
 
 -- one more of another event
 pub pushed_other : (ready : List ReadyEvent) (one : ReadyEvent) (event : ℕ) → one.event ≢ event → counted (ready ++ one ∷ []) event ≡ counted ready event
-pushed_other ready one event other = omega (arith, pushed ready one event false (ne_eqb one.event event other))
+pushed_other ready one event other = grind (arith, common_steps, ne_eqb)
 
 -- one more of this
 pub pushed_same : (ready : List ReadyEvent) (one : ReadyEvent) (event : ℕ) → one.event ≡ event → counted (ready ++ one ∷ []) event ≡ counted ready event + 1
-pushed_same ready one event same = pushed ready one event true (eq-eqb one.event event same)
+pushed_same ready one event same = grind (arith, common_steps, eq-eqb)
 
 module _ (bounds : List Difference) (done : List Bool) (now : ℤ) where
   -- the times from now on at which the event may run are those from its first to its last
@@ -58,7 +53,7 @@ module _ (bounds : List Difference) (done : List Bool) (now : ℤ) where
   -- one more that may run
   pub ready_pushed : (ready : List ReadyEvent) (one : ReadyEvent) (number : ℕ) → one.event ≡ number → counted ready number ≡ 0
       → HasEachBelow number ready → HasEachBelow (number + 1) (ready ++ one ∷ [])
-  ready_pushed ready one number is none each event time below later able = grind (arith, common_steps, cases_lt, pushed_other, pushed_same)
+  ready_pushed ready one number is none each event time below later able = grind (arith, common_steps, cases_lt, pushed_same)
 
   -- one more that may not
   pub ready_kept : (ready : List ReadyEvent) (number event : ℕ) → event ≡ number → AreReadyTimes bounds done now event None

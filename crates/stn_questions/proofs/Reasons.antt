@@ -1,5 +1,5 @@
 -- Why a window ends where it does, and why two events come no closer and no further apart.
-use Rattle.std.{proofs.Common.{rules, ◌≡◌, ℕ, ℤ, neg_ℤ, ◌+◌, List, ◌++◌, Option, Some, None, Result, Ok, Err, refl, subst, ap, ◌∙◌}, specs.Prelude.{◌↔◌, if◌then◌else◌, is_ok, IsNone, IfOk, IfSome, MatchOption, OnOk}}
+use Rattle.std.{proofs.Common.{rules, ◌≡◌, ℕ, ℤ, neg_ℤ, ◌+◌, List, ◌++◌, Option, Result}, specs.Prelude.{◌↔◌, if◌then◌else◌, is_ok, IsNone, IfOk, IfSome, MatchOption, OnOk}}
 use Rattle.stn_net.specs.{Difference.Difference, Schedule.HasSchedule}
 use Rattle.stn_lift.specs.PlanSource.{PlanSource, events_of}
 use Rattle.stn_records.specs.Content.{Content}
@@ -17,8 +17,7 @@ reason_part source state from to AreEnds heading low high both t1 t2 hold are he
 -- and where it was appended
 pub reasons_appended : {T E : Type 0} (result : Result T E) (new old given text : List ℕ) (Says : List ℕ → Type 0) → Says text → given ≡ text
     → new ≡ (if is_ok result then old ++ given else old) → OnOk result ((said : List ℕ) × Says said × (new ≡ old ++ said))
-reasons_appended (Ok _) new old given text Says says same is = (text, says, is ∙ ap (λ t. old ++ t) same)
-reasons_appended (Err _) new old given text Says says same is = tt
+reasons_appended result new old given text Says says same is = search rules
 
 -- what is found of the ways between two events
 pub ends_found : {A E : Type 0} (source : PlanSource) (state : Content) (from to events : ℕ) (bounds : List Difference) (result : Result (Option (BothWays A)) E)
@@ -26,6 +25,4 @@ pub ends_found : {A E : Type 0} (source : PlanSource) (state : Content) (from to
     → IfOk result (λ found. IfSome found (λ both. IsWayOf bounds to from (events + 1) both.onward.links.items both.onward.sum))
     → IfOk result (λ found. IfSome found (λ both. IsWayOf bounds from to (events + 1) both.back.links.items both.back.sum))
     → IfOk result (λ found. MatchOption found (¬ HasSchedule (all_bounds source state)) (HoldEnds source state from to))
-ends_found source state from to events bounds (Err fault) same count none onward back = tt
-ends_found source state from to events bounds (Ok None) same count none onward back = subst (λ b. ¬ HasSchedule b) same (none.0 refl)
-ends_found source state from to events bounds (Ok (Some both)) same count none onward back = search rules
+ends_found source state from to events bounds result same count none onward back = search rules

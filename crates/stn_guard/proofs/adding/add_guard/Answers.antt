@@ -11,7 +11,7 @@ made g c =
     MatchOption-at_some (¬ HasSchedule (all_bounds held.source held.state)) (λ b. MakesGuard c.args.owned.now held b.items) c.in-Some.bounds c.in-Some.is c.in-Ok.ensures
 
 within : (g : Over) (c : In-Some g) → are_within (steps_of c.args.plan.now.source) c.args.owned.now ≡ true
-within g c = ap (λ n. are_within n c.args.owned.now) (sym (c.steps.ensures.value ∙ ap steps_of c.base.ensures)) ∙ sym c.are_within.ensures ∙ c.if-not-are_within.false
+within g c = cc
 
 pub returns-in_err-add_each-in-Some-clause-fault : goal.returns-in_err-add_each-in-Some-clause-fault
 returns-in_err-add_each-in-Some-clause-fault g c =
@@ -21,7 +21,7 @@ returns-in_err-add_each-in-Some-clause-fault g c =
     let is : c.from_residual.result ≡ Err c.in_err-add_each-in-Some.field-0.0 = search rules in
     rw is (⊎_elim inl
     (λ cause. inr (guarded (within g at) guard.possible c.in-Some.bounds.items guard.is_guard (cause ∙ ap (λ (l : List Difference). records_refusal held (length l)) c.deref.ensures.value)))
-    (cause_or_memory (records_refusal held (length c.deref.result.now)) c.in_err-add_each-in-Some.field-0.0 c.in_err-add_each-in-Some.ensures.fault))
+    (cause_or_memory c.in_err-add_each-in-Some.ensures.fault))
 
 pub returns-in_ok-add_each-in-Some-clause-adds : goal.returns-in_ok-add_each-in-Some-clause-adds
 returns-in_ok-add_each-in-Some-clause-adds g c =

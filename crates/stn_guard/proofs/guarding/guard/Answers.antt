@@ -20,18 +20,18 @@ found g c = record {
 pub split_shared-requires-clause-can : goal.split_shared-requires-clause-can
 split_shared-requires-clause-can g c =
     let f = found g (goal.at.split_shared-requires-clause-can g c).In-Some in
-    rw f.is (can_first (owner_of c.args.owners.now) c.args.events c.args.base.now c.args.extra.now f.possible f.named)
+    rw f.is (can_first (owner_of c.args.owners.now) c.args.base.now c.args.extra.now f.possible f.named)
 
 pub split_shared-requires-2-clause-can : goal.split_shared-requires-2-clause-can
 split_shared-requires-2-clause-can g c =
     let f = found g (goal.at.split_shared-requires-2-clause-can g c).In-Some in
-    can_second (owner_of c.args.owners.now) c.args.events c.args.base.now c.args.extra.now c.split_shared.new.windows f.possible f.named (rw f.is at c.in_ok-split_shared.ensures)
+    can_second (owner_of c.args.owners.now) c.args.base.now c.args.extra.now f.possible f.named (rw f.is at c.in_ok-split_shared.ensures)
 
 pub named_windows-requires-clause-possible : goal.named_windows-requires-clause-possible
 named_windows-requires-clause-possible g c =
     let f = found g (goal.at.named_windows-requires-clause-possible g c).In-Some in
-    still_possible (shared_arcs (owner_of c.args.owners.now) c.args.extra.now) c.split_shared.new.windows c.split_shared-2.new.windows
-    (can_second (owner_of c.args.owners.now) c.args.events c.args.base.now c.args.extra.now c.split_shared.new.windows f.possible f.named (rw f.is at c.in_ok-split_shared.ensures)) c.in_ok-split_shared-2.ensures
+    still_possible
+    (can_second (owner_of c.args.owners.now) c.args.base.now c.args.extra.now f.possible f.named (rw f.is at c.in_ok-split_shared.ensures)) c.in_ok-split_shared-2.ensures
 
 pub returns : goal.returns
 returns g c =
@@ -43,12 +43,12 @@ returns g c =
     let second = c.note_named-2.new.named in
     let again : c.deref_mut-2.result.now ≡ first = c.deref_mut-2.ensures.value ∙ with_items_is c.in_ok-named.named first (c.note_named.ensures.one_each ∙ c.deref_mut.ensures.len) in
     let last : c.deref.result.now ≡ second = c.deref.ensures.value ∙ with_items_is (with_items c.in_ok-named.named first) second (c.note_named-2.ensures.one_each ∙ c.deref_mut-2.ensures.len) in
-    let named : AreNamed owner bounds c.deref.result.now = noted owner c.args.base.now c.args.extra.now _ c.in_ok-named.named.items c.deref_mut.result.now first c.deref_mut-2.result.now second c.deref.result.now
+    let named : AreNamed owner bounds c.deref.result.now = noted owner c.args.base.now c.args.extra.now _
     (c.in_ok-named.ensures.items_if_clones_equal (λ y same. same)) c.deref_mut.ensures.value c.note_named.ensures.one_each c.note_named.ensures.named again c.note_named-2.ensures.one_each c.note_named-2.ensures.named last in
     let long : length c.deref.result.now ≡ c.split_shared-2.new.windows.events + 1 = search rules in
     let guard = c.in_ok-named_windows.field-0.items in
     let made : IsGuardOf owner events bounds guard =
-    whole_guard owner events c.args.base.now c.args.extra.now c.split_shared.new.windows c.split_shared-2.new.windows c.deref.result.now guard
+    whole_guard c.args.base.now c.args.extra.now
     (rw f.is at c.in_ok-split_shared.ensures) c.in_ok-split_shared-2.ensures long named c.in_ok-named_windows.ensures in
     let begins = known_first events c.args.base.now c.args.extra.now c.requires.begins in
     record {

@@ -3,7 +3,7 @@ use Rattle.stn_guard.proofs.Named.{AreNamedTo, named_more, origin_alone}
 use Rattle.stn_guard.proofs.guarding.named_windows.Goals as goal
 
 pub loop-number-init : goal.loop-number-init
-loop-number-init g c = origin_alone c.args.windows.now.bounds c.args.named.now _ c.requires.possible c.new-found.ensures.items
+loop-number-init g c = search (rules, origin_alone)
 
 pub loop-number-preserved : goal.loop-number-preserved
 loop-number-preserved g c =
@@ -14,7 +14,7 @@ loop-number-preserved g c =
     let first = c.loop-number.auto.number in
     let next : (c.loop-number.number - 1) + 1 ≡ c.loop-number.number = omega (arith, first) in
     let same : c.unwrap-event.result ≡ (c.loop-number.number - 1) + 1 = omega (arith, first, event) in
-    let step = named_more bounds named (number - 1) c.window_of.result c.loop-number.found.items c.keep.new.windows.items c.loop-number.invariant (rw same at c.window_of.ensures) c.in_ok-keep.ensures in
+    let step = named_more c.loop-number.invariant (rw same at c.window_of.ensures) c.in_ok-keep.ensures in
     subst (λ n. AreNamedTo bounds named n c.keep.new.windows.items) (omega (arith, first)) step
 
 pub returns : goal.returns

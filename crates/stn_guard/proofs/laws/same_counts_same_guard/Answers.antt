@@ -10,4 +10,4 @@ returns c = λ source state like owner other one last counts same named possible
     let bounds : all_bounds source state ≡ all_bounds source like =
     (λ i. base_bounds source ++ bounds_of (filter (λ entry. not (contains_key (counts.replaced i) entry.0)) (entries (counts.additions i)))) in
     one_made other (events_of source) (all_bounds source like) one last (subst HasSchedule bounds possible)
-    (subst (λ (l : List Difference). IsGuardOf other (events_of source) l one) bounds (same_guard owner other (events_of source) same (all_bounds source state) named one first)) second
+    (subst (λ (l : List Difference). IsGuardOf other (events_of source) l one) bounds (same_guard owner other (events_of source) same (all_bounds source state) named first)) second

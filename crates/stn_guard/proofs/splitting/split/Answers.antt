@@ -47,7 +47,7 @@ pub returns : goal.returns
 returns g c =
     let old = c.args.windows.now in
     let middle = rw (c.window_bound.ensures.made, c.middle.ensures.latest) at c.in_ok-narrow.ensures.narrowed in
-    IfOk-weaker c.narrow-2.result _ _ (λ _ last. two_to_split c.args.arc old c.window-from.result c.window-to.result c.requires c.window-from.ensures c.window-to.ensures (wider g (goal.at.returns g c).After-middle) c.narrow-2.new.self
+    IfOk-weaker c.narrow-2.result _ _ (λ _ last. two_to_split c.args.arc old c.window-from.result c.window-to.result c.requires c.window-from.ensures c.window-to.ensures (wider g (goal.at.returns g c).After-middle)
     (ap (λ (l : ListedBounds). l.events) last ∙ ap (λ (l : ListedBounds). l.events) middle)
     (ap (λ (l : ListedBounds). l.bounds) last ∙ ap (λ (l : ListedBounds). l.bounds ++ window_bound c.args.arc.from (split_time c.args.arc c.window-from.result c.window-to.result -ℤ c.args.arc.weight, c.window-from.result.1) ∷ []) middle))
     (rw (c.window_bound-2.ensures.made, c.middle.ensures.earliest) at c.narrow-2.ensures.narrowed)

@@ -11,4 +11,4 @@ split_sides-requires g c = search rules
 pub returns : goal.returns
 returns g c =
     let shared : is_shared (owner_of c.args.owners.now) c.args.bound.now ≡ true = first_of (cc, search rules) in
-    subst (λ arcs. OnOk c.split_sides.result (Splits arcs c.args.windows.now c.split_sides.new.windows)) (sym (arcs_of_one (owner_of c.args.owners.now) c.args.bound.now true shared)) c.split_sides.ensures
+    subst (λ arcs. OnOk c.split_sides.result (Splits arcs c.args.windows.now c.split_sides.new.windows)) (sym (arcs_of_one (owner_of c.args.owners.now) c.args.bound.now shared)) c.split_sides.ensures

@@ -3,7 +3,7 @@ use Rattle.stn_guard.{specs.{Owners.owner_of, Making.shared_arcs, Splitting.Spli
 use Rattle.stn_guard.proofs.splitting.split_shared.Goals as goal
 
 pub loop-bound-init : goal.loop-bound-init
-loop-bound-init g c = splits_none c.args.windows.now
+loop-bound-init g c = splits_none
 
 pub split_bound-requires-clause-can : goal.split_bound-requires-clause-can
 split_bound-requires-clause-can g c = search (rules, can_here)

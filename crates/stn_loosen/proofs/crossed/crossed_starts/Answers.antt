@@ -9,10 +9,10 @@ loop-place-init g c = search (rules, known_within, get_or-take)
 
 -- the bound that is looked at
 there : (g : Over) (c : After-index-starts-place g) → c.loop-place.place < length (map as_bound c.args.starts.now)
-there g c = omega (arith, length-map c.args.starts.now as_bound)
+there g c = search (rules, length-map)
 
 here : (g : Over) (c : After-index-starts-place g) → bound_at (map as_bound c.args.starts.now) c.loop-place.place ≡ as_bound c.index-starts-place.result
-here g c = span_at c.args.starts.now c.loop-place.place c.index-starts-place.result (omega (arith, there g c, length-map c.args.starts.now as_bound)) c.index-starts-place.is
+here g c = grind (arith, span_at, there, length-map)
 
 start : (g : Over) (c : After-index-starts-place g) → IsStart c.args.events (as_bound c.index-starts-place.result)
 start g c = subst (IsStart c.args.events) (here g c) (c.requires.sound c.loop-place.place _ (there g c))

@@ -1,22 +1,21 @@
-use Rattle.std.proofs.{lemmas.{Grind.common_steps, List.length-map}, Common.{◌≡◌, ◌++◌, inr, map, sym, ap, subst, ◌∙◌, arith, rules}}
-use Rattle.stn_net.specs.{Horizon.horizon_bounds, Schedule.HasSchedule}
-use Rattle.stn_lift.specs.PlanSource.{events_of}
+use Rattle.std.proofs.{lemmas.{Grind.common_steps, List.length-map}, Common.{◌≡◌, inr, map, subst, arith, rules}}
+use Rattle.stn_net.specs.{Schedule.HasSchedule}
 use Rattle.stn_conflict.proofs.CycleSums.{places_of_chain}
-use Rattle.stn_loosen.{specs.{Slack.IsSlack, Loosened.{orders_of}, Robust.loose_bounds, Stepped.{as_bound, AreSteps}, Fragile.start_bounds}, proofs.{Steps.source_steps, StartBounds.{begins, are_starts, starts_promise, counted, some}, fragile.fragile_lines.{Given.Over, Goals.After-deref-4}}}
+use Rattle.stn_loosen.{specs.{Slack.IsSlack, Robust.loose_bounds, Stepped.as_bound, Fragile.start_bounds}, proofs.{Steps.source_steps, StartBounds.{begins, are_starts, starts_promise, counted, some}, fragile.fragile_lines.{Given.Over, Goals.After-deref-4}}}
 use Rattle.stn_loosen.proofs.fragile.fragile_lines.Goals as goal
 
 bounds_are : (g : Over) (c : After-deref-4 g) → c.in_ok-bounds.bounds.items ≡ loose_bounds c.args.base.now c.args.tolerance
-bounds_are g c = c.in_ok-bounds.ensures ∙ ap (λ l. horizon_bounds (events_of c.args.base.now) ++ (l ++ orders_of c.args.base.now)) (c.deref.ensures.value ∙ c.in_ok-durations.ensures.value)
+bounds_are g c = search rules
 
 starts_are : (g : Over) (c : After-deref-4 g) → map as_bound c.in_ok-starts.starts.items ≡ start_bounds c.args.base.now c.args.tolerance
 starts_are g c = search rules
 
 -- the same as they are passed on
 all_are : (g : Over) (c : After-deref-4 g) → map as_bound c.deref-4.result.now ≡ start_bounds c.args.base.now c.args.tolerance
-all_are g c = ap (map as_bound) c.deref-4.ensures.value ∙ starts_are g c
+all_are g c = search rules
 
 pub starts_of-requires : goal.starts_of-requires
-starts_of-requires g c = subst AreSteps (sym (c.deref-2.ensures.value ∙ c.in_ok-durations.ensures.value)) (source_steps c.args.tolerance c.args.base.now)
+starts_of-requires g c = search (rules, source_steps)
 
 pub crossed_starts-requires-clause-begins : goal.crossed_starts-requires-clause-begins
 crossed_starts-requires-clause-begins g c = search (rules, begins)
@@ -25,7 +24,7 @@ pub crossed_starts-requires-clause-sound : goal.crossed_starts-requires-clause-s
 crossed_starts-requires-clause-sound g c = search (rules, are_starts)
 
 pub lines_of-requires-clause-steps : goal.lines_of-requires-clause-steps
-lines_of-requires-clause-steps g c = subst AreSteps (sym (c.deref-in-Some.ensures.value ∙ c.in_ok-durations.ensures.value)) (source_steps c.args.tolerance c.args.base.now)
+lines_of-requires-clause-steps g c = search (rules, source_steps)
 
 pub lines_of-requires-clause-counted : goal.lines_of-requires-clause-counted
 lines_of-requires-clause-counted g c =

@@ -1,7 +1,7 @@
-use Rattle.std.proofs.{Common.{rules, sym, ◌∙◌, ◌++◌}, lemmas.List.{take_rest, drop_at}}
-use Rattle.stn_net.{specs.Horizon.horizon_bounds, proofs.Horizons.length-horizon_bounds}
-use Rattle.stn_lift.{specs.PlanSource.events_of, proofs.PlanHorizon.horizon_within}
-use Rattle.stn_loosen.{specs.Loosened.{durations_of, orders_of}, proofs.ThreeParts.parted}
+use Rattle.std.proofs.{Common.rules, lemmas.List.{take_rest, drop_at}}
+use Rattle.stn_net.{proofs.Horizons.length-horizon_bounds}
+use Rattle.stn_lift.{proofs.PlanHorizon.horizon_within}
+use Rattle.stn_loosen.{proofs.ThreeParts.parted}
 use Rattle.stn_loosen.proofs.parts.behind_horizon.Goals as goal
 
 pub slice_bounds-result-count : goal.slice_bounds-result-count
@@ -11,8 +11,4 @@ pub slice_bounds-result-start : goal.slice_bounds-result-start
 slice_bounds-result-start g c = search (rules, horizon_within)
 
 pub returns-clause-value : goal.returns-clause-value
-returns-clause-value g c =
-    let source = c.args.base.now in
-    take_rest c.bounds-bounds.result.now c.from.result
-    ∙ rw (c.bounds-bounds.ensures.value, parted source)
-    (drop_at (horizon_bounds (events_of source)) (durations_of source ++ orders_of source) c.from.result (length-horizon_bounds (events_of source) ∙ sym (c.from.ensures ∙ c.events.ensures.value)))
+returns-clause-value g c = search (rules, take_rest, parted, drop_at, length-horizon_bounds)

@@ -1,11 +1,9 @@
-use Rattle.std.proofs.{Common.{rules}, lemmas.Result.err_from_is_err_and}
-use Rattle.stn_loosen.{specs.Slack.IsSlack, proofs.{Looser.keeps_plan, Refused.too_many}}
+use Rattle.std.proofs.Common.{rules}
+use Rattle.stn_loosen.{specs.Slack.IsSlack, proofs.Looser.keeps_plan}
 use Rattle.stn_loosen.proofs.plan.loosened.Goals as goal
 
 pub returns-in_err-making-clause-refused : goal.returns-in_err-making-clause-refused
-returns-in_err-making-clause-refused g c =
-    let returned = err_from_is_err_and c.from_residual.result c.from_residual.ensures.1 in
-    rw (returned.1, returned.2) (too_many c.args.robust c.args.base.now c.args.tolerance c.in_err-making.field-0.0 c.in_err-making.ensures.fault)
+returns-in_err-making-clause-refused g c = search rules
 
 pub returns-then-robust : goal.returns-then-robust
 returns-then-robust g c = rw c.if-robust.true c.make_robust.ensures

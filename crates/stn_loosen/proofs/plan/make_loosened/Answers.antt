@@ -20,7 +20,7 @@ pub make_durations-requires-clause-few : goal.make_durations-requires-clause-few
 make_durations-requires-clause-few g c =
     rw (c.in_ok-making.ensures, c.durations_of.ensures.value) (omega (arith, few_durations c.args.base.now, c.durations_of.ensures.sound.small))
 
--- the orders are made behind the durations
+-- the orders are made after the durations
 begun : (g : Over) (c : In_ok-orders g) → c.make_durations.new.self ≡ record { events = events_of c.args.base.now; records = loose_durations c.args.tolerance c.args.base.now }
 begun g c = rw (c.in_ok-making.ensures, c.events.ensures.value, c.durations_of.ensures.value) at c.in_ok-make_durations.ensures
 

@@ -21,7 +21,7 @@ parted g c =
     })
 
 pub after-requires : goal.after-requires
-after-requires g c = rw c.requires.events c.horizon_of-2.ensures
+after-requires g c = cc
 
 pub with_moved-requires-clause-steps : goal.with_moved-requires-clause-steps
 with_moved-requires-clause-steps g c = are_steps (parted g c)

@@ -1,11 +1,11 @@
-use Rattle.std.{proofs.{Common.{◌≡◌, ℤ, neg_ℤ, Bool, true, false, ◌++◌, codes, cond, ap, ◌∙◌}, lemmas.Result.IfOk-equal}, specs.Ordering.int_eq}
+use Rattle.std.{proofs.{Common.{◌≡◌, ℤ, neg_ℤ, Bool, true, false, ◌++◌, codes, cond, ap}, lemmas.Result.IfOk-equal}, specs.Ordering.int_eq}
 use Rattle.stn_time.specs.{Time.horizon, Text.printed}
 use Rattle.stn_site.proofs.{Printing.appended_ok, Values.held_is}
 use Rattle.stn_questions.specs.Bounds.{lower_text}
 use Rattle.stn_questions.proofs.bounds.append_lower.Goals as goal
 
 side : (lo edge : ℤ) (is_open : Bool) → edge ≡ neg_ℤ horizon → is_open ≡ int_eq lo edge → cond is_open (codes "*") (printed lo) ≡ lower_text lo
-side lo edge is_open is told = ap (λ so. cond so (codes "*") (printed lo)) (told ∙ ap (int_eq lo) is)
+side lo edge is_open is told = cc
 
 pub returns-then-eq : goal.returns-then-eq
 returns-then-eq g c =

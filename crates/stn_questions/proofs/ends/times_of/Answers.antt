@@ -1,5 +1,5 @@
-use Rattle.std.proofs.{Common.{rules}, lemmas.Int.ints}
+use Rattle.std.proofs.Common.{rules}
 use Rattle.stn_questions.proofs.ends.times_of.Goals as goal
 
 pub returns : goal.returns
-returns g c = search (rules, ints)
+returns g c = search (rules)

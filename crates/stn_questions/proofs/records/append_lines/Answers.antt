@@ -1,6 +1,5 @@
 use Rattle.std.proofs.{lemmas.Grind.common_steps, Common.arith}
-use Rattle.stn_text.proofs.Growing.{lines_grown}
 use Rattle.stn_questions.proofs.records.append_lines.Goals as goal
 
 pub loop-id-preserved : goal.loop-id-preserved
-loop-id-preserved g c = grind (arith, common_steps, lines_grown)
+loop-id-preserved g c = grind (arith, common_steps)

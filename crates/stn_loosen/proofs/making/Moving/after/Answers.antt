@@ -1,11 +1,11 @@
-use Rattle.std.proofs.{Common.{rules, ◌≡◌, sym, ap, ◌∙◌, arith}, lemmas.List.take_all}
+use Rattle.std.proofs.{Common.{rules, ◌≡◌, arith}, lemmas.List.take_all}
 use Rattle.stn_time.proofs.Each.{All-left, All-right}
 use Rattle.stn_net.{specs.{Difference.NamesEvents, Horizon.horizon_bounds}, proofs.Horizons.length-horizon_bounds}
-use Rattle.stn_loosen.{specs.Making.{Loosening, loosening_of, made_bounds}, proofs.{Implied.searched_first, making.Moving.after.{Given.Over, Goals.After-events}}}
+use Rattle.stn_loosen.{specs.Making.{loosening_of, made_bounds}, proofs.{Implied.searched_first, making.Moving.after.{Given.Over, Goals.After-events}}}
 use Rattle.stn_loosen.proofs.making.Moving.after.Goals as goal
 
 horizon_is : (g : Over) (c : After-events g) → c.args.horizon.now ≡ horizon_bounds c.making.inside.matrix.events
-horizon_is g c = c.requires ∙ ap (λ (m : Loosening). horizon_bounds m.events) (sym c.making.view_is)
+horizon_is g c = search rules
 
 pub new-requires-clause-begins : goal.new-requires-clause-begins
 new-requires-clause-begins g c =

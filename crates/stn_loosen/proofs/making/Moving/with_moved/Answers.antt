@@ -1,10 +1,10 @@
-use Rattle.std.proofs.{Common.{rules, ◌≡◌, [], ◌∷◌, ◌++◌, List, ap, ◌∙◌}, lemmas.{List.take_all, Grind.flat_map-append, Result.{IfOk-weaker, IfErr-weaker, err_from_is_err_and}}}
+use Rattle.std.proofs.{Common.{rules, ◌≡◌, ◌++◌, List, ap, ◌∙◌}, lemmas.{List.take_all, Grind.flat_map-append, Result.{IfOk-weaker, IfErr-weaker, err_from_is_err_and}}}
 use Rattle.stn_net.specs.Difference.{Difference}
-use Rattle.stn_loosen.{specs.{Moved.{moved_upper, moved_lower, moved_bounds}, Stepped.{IsCauseIn}, Making.{Loosening, made_bounds, AreMadeBehind}}, proofs.{Made.{none_made, made_next, refused_next, cause_in}, making.Moving.with_moved.{Given.Over, Goals.After-loop-bound}}}
+use Rattle.stn_loosen.{specs.{Moved.moved_bounds, Stepped.IsCauseIn, Making.{Loosening, made_bounds, AreMadeBehind}}, proofs.{Made.{none_made, made_next, refused_next, cause_in}, making.Moving.with_moved.{Given.Over, Goals.After-loop-bound}}}
 use Rattle.stn_loosen.proofs.making.Moving.with_moved.Goals as goal
 
 join : (durations some others : List Difference) → moved_bounds durations (some ++ others) ≡ moved_bounds durations some ++ moved_bounds durations others
-join durations = flat_map-append (λ b. moved_upper durations b ∷ moved_lower durations b ∷ [])
+join durations = search (rules, flat_map-append)
 
 -- all bounds were looked at
 all : (g : Over) (c : After-loop-bound g) → AreMadeBehind c.args.self (moved_bounds c.args.durations.now c.args.bounds.now) c.loop-bound.moving
