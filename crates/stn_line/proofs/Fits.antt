@@ -1,6 +1,6 @@
 -- What an accepted command's rows hold, and which command it is, by the rules of clap: where each required argument has a value at each use.
-use Rattle.std.{proofs.{Common.{◌≡◌, ◌≢◌, ◌∙◌, ℕ, Bool, codes, true, false, not, cond, List, [], ◌∷◌, ◌++◌, Option, Some, None, refl, sym, ap, subst, arith, length, zero, suc, is_some, ◌&&◌, ◌||◌, option_map}, lemmas.{Bool.{and_parts, eqb-true, ne_eqb, not-true, or_parts}, Option.same_Some, Slice.Eq.bytes_eq-Decides}}, specs.{Prelude.{⊤, IsSomeAnd, IfSome, find, fold, nat_lt, slice_get, option_and_then}, List.{AllByRecursion, list_all, list_any}, Option.option_map_or, Str.{bytes_eq, chars}}}
-use Rattle.clap.{specs.{Lexer.{long_of, short_of}, Facts.{explicit_source, parser_of_value, unwrap_or_range}, Values.{Accepts, refused_kind}, ValueTests.accepts, Takes.is_given, declared.{builder.{action.ArgAction.ArgAction, value_parser.ValueParser.{ValueParser, TheVariants.{String, Unsigned}}}, parser.matches.ValueSource.{ValueSource, TheVariants.{CommandLine, DefaultValue}}}, Walk.{Row, Rule, Text, Held, Names, Outcome, Step, Waiting, Walk, action_of, after_flag, after_step, arg_by_id, arg_by_index, arg_by_long, arg_by_short, at_row, attached_value, bundle_met, finished, has_row, is_empty, long_met, most_values, nothing_held, option_met, option_word, plain_word, positional_held, reacted, reading_by, rows_after, settled, settled_rows, short_met, subcommand_met, takes_several, takes_values, to_positional, used, values_or_missing, walk, walk_from, walked, with_default, without, word_met}, Simple.{App, Shape, argument_words, built, entered, label_of, names_of, rows_at, subcommand_of}, Kinds.{Kinds, check_kinds, or_else, range_kinds, request_kinds, value_kinds}, Faults.{stray_fault, other_fault, action_fault, bundle_fault, bundle_step_fault, check_fault, default_fault, defaults_fault, entered_fault, fault_of, flags_fault, flag_word_fault, given_default_fault, level_fault, long_fault, option_fault, positional_fault, react_fault, repeat_fault, settle_fault, short_fault, step_fault, turn_fault, use_fault, values_fault, walk_fault, word_fault}}, proofs.ValueTestLemmas.accepts-Accepts}
+use Rattle.std.{proofs.{Common.{rules, ◌≡◌, ◌≢◌, ◌∙◌, ℕ, Bool, codes, true, false, not, cond, List, [], ◌∷◌, ◌++◌, Option, Some, None, refl, sym, ap, subst, arith, length, zero, suc, is_some, ◌&&◌, ◌||◌, option_map}, lemmas.{Bool.{and_parts, eqb-true, ne_eqb, not-true, or_parts}, Option.same_Some, Slice.Eq.bytes_eq-Decides}}, specs.{Prelude.{⊤, IsSomeAnd, IfSome, find, fold, nat_lt, slice_get, option_and_then}, List.{AllByRecursion, list_all, list_any}, Option.option_map_or, Str.{bytes_eq, chars}}}
+use Rattle.clap.{specs.{Lexer.{long_of, short_of}, Facts.{explicit_source, parser_of_value, unwrap_or_range}, Values.{Accepts, refused_kind}, ValueTests.accepts, Takes.is_given, declared.{builder.{action.ArgAction.ArgAction, value_parser.ValueParser.{ValueParser, TheVariants.{String, Unsigned}}}, parser.matches.ValueSource.{ValueSource, TheVariants.{CommandLine, DefaultValue}}}, Walk.{Row, Rule, Text, Held, Names, Outcome, Step, Waiting, Walk, action_of, after_flag, after_step, arg_by_id, arg_by_index, arg_by_long, arg_by_short, at_row, attached_value, bundle_met, finished, has_row, is_empty, long_met, most_values, nothing_held, option_met, option_word, plain_word, reacted, reading_by, rows_after, settled, settled_rows, short_met, subcommand_met, takes_several, takes_values, to_positional, used, values_or_missing, walk, walk_from, walked, with_default, without, word_met}, Simple.{App, Shape, argument_words, built, entered, label_of, names_of, rows_at, subcommand_of}, Kinds.{Kinds, check_kinds, or_else, range_kinds, request_kinds, value_kinds}, Faults.{stray_fault, other_fault, action_fault, bundle_fault, bundle_step_fault, check_fault, default_fault, defaults_fault, entered_fault, fault_of, flags_fault, flag_word_fault, given_default_fault, level_fault, long_fault, option_fault, positional_fault, react_fault, repeat_fault, settle_fault, short_fault, step_fault, turn_fault, use_fault, values_fault, walk_fault, word_fault}}, proofs.ValueTestLemmas.accepts-Accepts}
 use Rattle.clap.specs.Walk as walk
 use Rattle.stn_line.{specs.Given.{HoldsWord, HoldsWords, HoldsWordsAmong}, proofs.Values.find_each}
 use Rattle.clap.specs.declared.builder.action.ArgAction.TheVariants as action
@@ -148,7 +148,7 @@ module _ (c : List Rule) (a : Rule) (plain : IsPlainIn c a) where
 module _ (c : List Rule) (again : Bool) (plain : AllByRecursion (IsPlainIn c) c) where
   -- an argument that is found is one of them
   is_own : (p : Rule → Bool) (a : Rule) → find p c ≡ Some a → IsPlainIn c a
-  is_own p a found = (find_each (IsPlainIn c) p c a plain found).0
+  is_own p a found = search (rules, find_each)
 
   settled_fits : (h : Held) → settle_fault c again h ≡ [] → Fit c h.rows → Fit c (settled c h).rows
   settled_fits h none fit = by_id h.pending none
@@ -164,8 +164,7 @@ module _ (c : List Rule) (again : Bool) (plain : AllByRecursion (IsPlainIn c) c)
       by_id (Some p) none = with_rule p (arg_by_id c p.0) refl none
 
   reacted_fits : (a : Rule) (values : List Text) (h : Held) → IsPlainIn c a → react_fault c again a values h ≡ [] → Fit c h.rows → Fit c (reacted c a values h).rows
-  reacted_fits a values h own none fit = use_fits c a own again values (settled c h).rows (no_second (settle_fault c again h) _ none)
-      (settled_fits h (no_first _ (use_fault again a values (settled c h).rows) none) fit)
+  reacted_fits a values h own none fit = search (rules, use_fits, settled_fits, no_first)
 
   option_fits : (a : Rule) (v : Option Text) (h : Held) → IsPlainIn c a → option_fault c again a v h ≡ [] → Fit c h.rows → Fit c (option_met c a v h).0.rows
   option_fits a None h own none fit = settled_fits h none fit
@@ -321,8 +320,8 @@ none_holds false parser optional = tt
 
 value_holds : (required ignore_case : Bool) (parser : Option ValueParser) (v : Text) → value_kinds ignore_case (parser_of_value parser) v ≡ [] → HoldsWord required parser (Some v)
 value_holds true ignore_case (Some String) v passes = tt
-value_holds true ignore_case (Some (Unsigned least most)) v passes = accepted ignore_case (Unsigned least most) v passes
-value_holds false ignore_case (Some (Unsigned least most)) v passes = accepted ignore_case (Unsigned least most) v passes
+value_holds true ignore_case (Some (Unsigned least most)) v passes = search (rules, accepted)
+value_holds false ignore_case (Some (Unsigned least most)) v passes = search (rules, accepted)
 value_holds required ignore_case parser v passes = tt
 
 module _ (c : List Rule) (rows : List Row) (fit : Fit c rows) where

@@ -1,7 +1,7 @@
 -- The general law at the program's own commands.
-use Rattle.std.{proofs.{Common.{map, Option, Bor, option_map, subst, false, Bool, codes, cond, sym, ◌∷◌, ◌++◌, ◌≡◌, ◌≢◌, ◌⊎◌, true, [], refl, inl, inr, Some, List}, lemmas.Slice.Eq.bytes_eq-Decides}, specs.{Prelude.{IsSomeAnd, find}, List.AllByRecursion, Str.bytes_eq}}
+use Rattle.std.{proofs.{Common.{rules, map, Option, Bor, option_map, false, Bool, cond, sym, ◌∷◌, ◌≡◌, ◌⊎◌, true, [], refl, inl, inr, Some, List}, lemmas.Slice.Eq.bytes_eq-Decides}, specs.{Prelude.{IsSomeAnd, find}, Str.bytes_eq}}
 use Rattle.clap.specs.{Matches.{found_of, subcommand_name_of}, Simple.{subcommand_rows, subcommand_rows_of}, declared.parser.matches.ArgMatches.{ArgMatches, TheViews.out-ArgMatches}, Walk.rows_of, Words.{Row, Shape, Text, built, fault_of, is_simple, is_simple_and_free, subcommand_of}}
-use Rattle.stn_line.{specs.{Commands.{commands, program, stn}, Given.{HoldsWords, IsEntered, IsOneOf}}, proofs.{Values.{at_value, entered_is}, Fits.{are_plain, is_plain, command_holds}}}
+use Rattle.stn_line.{specs.{Commands.{commands, program, stn}, Given.{IsEntered, IsOneOf}}, proofs.Fits.{are_plain, is_plain, command_holds}}
 
 pub stn_simple : is_simple stn ≡ true
 unfolding stn
@@ -37,12 +37,10 @@ is_one_of P (s ∷ rest) name has = go (bytes_eq s.name name) refl has (is_one_o
 
 -- an entered command has one of these names
 pub is_named : (name : Text) (rows : List Row) → IsEntered name rows → IsOneOf name (map (λ command. command.name) (built (program commands)).subs)
-is_named name rows has = is_one_of (λ command. HoldsWords rows command.rules) (built (program commands)).subs name has.0
+is_named name rows has = search (rules, is_one_of)
 
 -- what the matches of the entered command hold, by its name
 pub entered_has : (m : ArgMatches) (r : Option (Bor Text × Bor ArgMatches)) (x : Bor Text × Bor ArgMatches) → option_map (λ p. p.0.now) r ≡ subcommand_name_of m
     → option_map (λ p. rows_of (found_of p.1.now)) r ≡ option_map (λ p. p.1) (subcommand_rows (out-ArgMatches m).subcommand) → r ≡ Some x
     → IsSomeAnd (subcommand_rows_of m) (λ command. IsEntered command.0 command.1) → (name : Text) → x.0.now ≡ name → IsEntered name (rows_of (found_of x.1.now))
-entered_has m r x names rows is has name named =
-    subst (λ n. IsEntered n (rows_of (found_of x.1.now))) named
-    (at_value (x.0.now, rows_of (found_of x.1.now)) (subcommand_rows_of m) (λ command. IsEntered command.0 command.1) (entered_is m r x names rows is) has)
+entered_has m r x names rows is has name named = search rules

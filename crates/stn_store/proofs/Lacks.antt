@@ -1,5 +1,5 @@
 -- Lack of memory, and what a `?` passes on.
-use Rattle.std.{proofs.Common.{◌≡◌, Result, Ok, Err, refl, ap, inl}, specs.Prelude.IsErrAnd}
+use Rattle.std.{proofs.Common.{rules, ◌≡◌, Result, Err, refl, inl}, specs.Prelude.IsErrAnd}
 use Rattle.stn_store.specs.Store.{IsLack}
 use Rattle.stn_refusal.specs.declared.failure.{Failure.{Failure, TheVariants.Failed}, Fault.{Fault, TheVariants.Memory}}
 
@@ -7,5 +7,4 @@ pub lack_of_memory : (Fails : Fault → Type 0) (failure : Failure) → failure 
 lack_of_memory Fails failure e = rw e (inl refl)
 
 pub passed_on : {T E : Type 0} (answer : Result T E) (fault : E) → IsErrAnd answer (λ one. one ≡ fault) → answer ≡ Err fault
-passed_on (Ok value) fault is = absurd is
-passed_on (Err one) fault is = ap Err is
+passed_on answer fault is = search rules

@@ -2,7 +2,7 @@
 use Rattle.std.{proofs.Common.{rules, ◌≡◌, List, [], ◌∷◌, ◌++◌, drop, refl, sym, ap, ◌∙◌, append-nil}, specs.FinMap.{entries, same_entries_map}}
 use Rattle.stn_lift.specs.PlanSource.{PlanSource}
 use Rattle.stn_records.specs.{Id.SiteCounter, Content.Content}
-use Rattle.stn_wire.{specs.{Spelling.{entry_bytes, IsEntry, entry_width, tomb_bytes, IsTomb, amendment_bytes, amendments_bytes, AreIds, counted, AreCounted}, Apart.{entry_apart, entry_sized, tomb_apart, amendment_apart}, declared.layout.Layout.{Layout, TheVariants.{Old, New}}, Frame.{FrameContent, old_hello, old_records, hello, records, ask, text, refused, same, source_bytes, IsSaidSource, state_bytes, IsState, HasSpelling, body_of}}, proofs.Chunks.{counted_cut, measured_cut}}
+use Rattle.stn_wire.{specs.{Spelling.{entry_bytes, IsEntry, entry_width, tomb_bytes, IsTomb, amendment_bytes, amendments_bytes, AreIds, counted, AreCounted}, Apart.{entry_apart, entry_sized, tomb_apart, amendment_apart}, declared.layout.Layout.Layout, Frame.{FrameContent, old_hello, old_records, hello, records, same, source_bytes, IsSaidSource, state_bytes, IsState, HasSpelling, body_of}}, proofs.Chunks.{counted_cut, measured_cut}}
 
 pub source_apart : (a b : PlanSource) → IsSaidSource a → IsSaidSource b → source_bytes a ≡ source_bytes b → a ≡ b
 source_apart a b p q e = search (rules, measured_cut)
@@ -27,9 +27,9 @@ state_apart layout a b p q e =
 
 pub body_apart : (f g : FrameContent) → HasSpelling f → HasSpelling g → body_of f ≡ body_of g → f ≡ g
 body_apart (old_hello a) (old_hello b) p q e = cc (source_apart a b p q (ap (drop 1) e))
-body_apart (old_records a) (old_records b) p q e = cc (state_apart Old a b p.said q.said (ap (drop 1) e))
+body_apart (old_records a) (old_records b) p q e = search (rules, state_apart)
 body_apart (hello a) (hello b) p q e = cc (source_apart a b p q (ap (drop 1) e))
-body_apart (records a) (records b) p q e = cc (state_apart New a b p q (ap (drop 1) e))
+body_apart (records a) (records b) p q e = search (rules, state_apart)
 body_apart (records a) g p q e = search rules
 body_apart f (records b) p q e = search rules
 body_apart f g p q e = cc

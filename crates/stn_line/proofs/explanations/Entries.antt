@@ -1,9 +1,7 @@
 -- The entries of all subjects.
-use Rattle.std.{proofs.{Common.{refl, ◌+◌, true≢false, ◌≡◌, ◌≢◌, ◌∙◌, ◌<◌, ◌≤◌, ◌&&◌, ◌==◌, ◌++◌, Bool, true, false, ℕ, List, [], ◌∷◌, length, map, take, get_or, sym, ap, Option, Some, subst, All}, lemmas.{List.{append_assoc, append-nil, map_more, take_all, Elements.{All-nil, All-cons, All-map, recursion_from_All}}, Bool.{and_parts, Decides.Decides-eqb}, Slice.Eq.bytes_eq-Decides}}, specs.{Prelude.find, List.list_all, Str.bytes_eq}}
-use Rattle.stn_text.specs.{Bytes.line_feed, Lines.{is_word, lines_of}}
+use Rattle.std.{proofs.{lemmas.{Grind.common_steps, List.{append_assoc, map_more, take_all, Elements.{All-nil, All-cons, All-map, recursion_from_All}}, Bool.and_parts}, Common.{arith, rules, ◌+◌, true≢false, ◌≡◌, ◌≢◌, ◌∙◌, ◌<◌, ◌≤◌, ◌==◌, ◌++◌, Bool, true, false, ℕ, List, [], ◌∷◌, length, map, take, get_or, sym, ap, Option, Some, subst, All}}, specs.{Prelude.find, List.list_all, Str.bytes_eq}}
+use Rattle.stn_text.specs.{Bytes.line_feed, Lines.is_word}
 use Rattle.stn_refusal.specs.Codes.{number_of}
-use Rattle.stn_refusal.specs.declared.code.Code.TheVariants as code
-use Rattle.stn_refusal.specs.declared.failure.Fault.TheVariants as fault
 use Rattle.stn_line.{proofs.Values.find_each, specs.{Explanations.{Explained.{IsMeaning, AreMeanings, IsExplained, NamesNothing}, Subjects.{subjects, subject_word, word_of_fault}, Table.{IsInLines, IsTable, is_only_line, is_ended, says}}, declared.explanations.{subject.Subject.Subject, table.Entry.Entry}}}
 use Rattle.stn_line.specs.declared.explanations.subject.Subject.TheVariants as subject
 
@@ -15,10 +13,7 @@ is_same one other = false
 
 -- each is found among all
 found : (s : Subject) → find (is_same s) subjects ≡ Some s
-found (subject.Refusal code.Malformed) = refl
-found (subject.Refusal cause) = refl
-found (subject.Fault fault.File) = refl
-found (subject.Fault cause) = refl
+found s = search rules
 
 at_each : (P : Subject → Type 0) → All P subjects → (s : Subject) → P s
 at_each P all s = (find_each P (is_same s) subjects s (recursion_from_All P subjects all) (found s)).0
@@ -28,33 +23,21 @@ all_named : (P : Subject → Type 0) (entries : List Entry) → map (λ entry. e
 all_named P entries are hold = subst (All P) are (All-map P (λ entry. entry.subject) entries hold)
 
 alone : (text : List ℕ) (lines : List (List ℕ)) → is_only_line text lines ≡ true → lines ≡ text ∷ []
-alone text [] is = absurd (true≢false (sym is))
-alone text (line ∷ []) is = ap (λ first. first ∷ []) ((bytes_eq-Decides line text).0 is)
-alone text (line ∷ other ∷ rest) is = absurd (true≢false (sym is))
+alone text lines is = search rules
 
 is_some : (line : List ℕ) → is_word line ≡ true → line ≢ []
-is_some [] is none = absurd (true≢false (sym is))
-is_some (byte ∷ rest) is none = absurd (true≢false (ap is_word none))
+is_some line is none = cc
 
 all_some : (lines : List (List ℕ)) → list_all is_word lines ≡ true → All (λ line. line ≢ []) lines
-all_some [] is = All-nil (λ line. line ≢ [])
-all_some (line ∷ rest) is =
-    let parts = and_parts (is_word line) (list_all is_word rest) is in
-    All-cons (λ one. one ≢ []) line rest (is_some line parts.0) (all_some rest parts.1)
+all_some lines is = grind (arith, common_steps)
 
 ended : (text : List ℕ) → is_ended text ≡ true → (front : List ℕ) × (text ≡ front ++ line_feed ∷ [])
 ended [] is = absurd (true≢false (sym is))
-ended (byte ∷ []) is = ([], ap (λ last. last ∷ []) ((Decides-eqb byte line_feed).0 is))
+ended (byte ∷ []) is = search rules
 ended (byte ∷ other ∷ rest) is = let more = ended (other ∷ rest) is in (byte ∷ more.0, ap (λ text. byte ∷ text) more.1)
 
 said_entry : (entry : Entry) → says entry ≡ true → IsInLines entry
-said_entry entry is =
-    let texts = and_parts (is_only_line entry.meaning.now (lines_of entry.meaning.now)) (list_all is_word (lines_of entry.more.now) && is_ended entry.more.now) is in
-    let lines = and_parts (list_all is_word (lines_of entry.more.now)) (is_ended entry.more.now) texts.1 in
-    record {
-      meaning = alone entry.meaning.now (lines_of entry.meaning.now) texts.0;
-      more = record { each = all_some (lines_of entry.more.now) lines.0; ended = ended entry.more.now lines.1 };
-    }
+said_entry entry is = search (rules, alone, all_some, ended)
 
 -- each of the entries says something
 all_say : (entries : List Entry) → list_all says entries ≡ true → All IsInLines entries
@@ -73,14 +56,14 @@ names_nothing word entries table none = at_each (λ subject. word ≢ subject_wo
 -- what explains a word is appended to a text
 pub appended : (word : Option (List ℕ)) (text old between new : List ℕ) → IsExplained word text → between ≡ text → new ≡ old ++ between
     → (text : List ℕ) × IsExplained word text × (new ≡ old ++ text)
-appended word text old between new is same grown = (text, is, grown ∙ ap (λ t. old ++ t) same)
+appended word text old between new is same grown = search rules
 
 pub unnamed : (named : Bool) → named ≡ false → named ≡ true → ⊥
 unnamed named not is = true≢false (sym is ∙ not)
 
 more_meanings : (subjects : List Subject) (s : Subject) (text line : List ℕ) → AreMeanings subjects text → IsMeaning s line
     → AreMeanings (subjects ++ s ∷ []) (text ++ line)
-more_meanings [] s text line none is = (line, [], is, refl, ap (λ t. t ++ line) none ∙ sym (append-nil line))
+more_meanings [] s text line none is = search rules
 more_meanings (first ∷ rest) s text line are is =
     (are.0, are.1 ++ line, are.2, more_meanings rest s are.1 line are.3 is, ap (λ t. t ++ line) are.4 ∙ append_assoc are.0 are.1 line)
 
@@ -93,15 +76,9 @@ pub record AppendsMeanings (entries : List Entry) (count : ℕ) (old new : List 
 -- and then with that of the next
 pub one_more : (entries : List Entry) (count : ℕ) (d : Entry) (old between new line : List ℕ) → count < length entries
     → AppendsMeanings entries count old between → IsMeaning (get_or entries count d).subject line → new ≡ between ++ line → AppendsMeanings entries (count + 1) old new
-one_more entries count d old between new line within before meaning whole = record {
-  text = before.text ++ line;
-  lines = subst (λ subjects. AreMeanings subjects (before.text ++ line)) (sym (map_more (λ entry. entry.subject) entries count d within))
-      (more_meanings (map (λ entry. entry.subject) (take count entries)) (get_or entries count d).subject before.text line before.lines meaning);
-  whole = whole ∙ ap (λ t. t ++ line) before.whole ∙ append_assoc old before.text line;
-}
+one_more entries count d old between new line within before meaning whole = grind (arith, common_steps, map_more, more_meanings)
 
 -- with those of all, the text is whole
 pub whole_list : (entries : List Entry) (count : ℕ) (old new : List ℕ) → length entries ≤ count → AppendsMeanings entries count old new
     → (text : List ℕ) × AreMeanings (map (λ entry. entry.subject) entries) text × (new ≡ old ++ text)
-whole_list entries count old new all are =
-    (are.text, subst (λ some. AreMeanings (map (λ entry. entry.subject) some) are.text) (take_all count entries all) are.lines, are.whole)
+whole_list entries count old new all are = search (rules, take_all)

@@ -1,5 +1,5 @@
 -- A log that is read frame by frame.
-use Rattle.std.{proofs.{Common.{rules, ◌≡◌, ℕ, ◌+◌, ◌-◌, ◌<◌, ◌≤◌, Bool, true, false, List, [], ◌∷◌, ◌++◌, length, take, Option, Some, None, Result, Ok, Err, IfSome, inl, inr, refl, sym, ap, subst, ◌∙◌, arith, append_assoc, append-nil, length-append}, KnownBytes.{Consumes-nil, Consumes-trans}, Math.Seq.take-append-add, lemmas.{List.{take_all, take_at}, Bool.{false≢true, le-ltb, lt-ltb}, Grind.flat_map-append}}, specs.{Prelude.{nat_lt, is_some, option_map}, Io.KnownBytes.{Consumes, IsAtEnd}, List.{flat_map, AllByRecursion}}}
+use Rattle.std.{proofs.{Common.{rules, ◌≡◌, ℕ, ◌+◌, ◌-◌, ◌<◌, ◌≤◌, Bool, true, false, List, [], ◌∷◌, ◌++◌, length, take, Option, Some, None, Result, Ok, Err, IfSome, inr, refl, sym, ap, subst, ◌∙◌, arith, append_assoc, append-nil, length-append}, KnownBytes.{Consumes-nil, Consumes-trans}, Math.Seq.take-append-add, lemmas.{List.{take_all, take_at}, Bool.{le-ltb, lt-ltb}, Grind.flat_map-append}}, specs.{Prelude.{nat_lt, is_some}, Io.KnownBytes.{Consumes, IsAtEnd}, List.{flat_map, AllByRecursion}}}
 use Rattle.stn_device.specs.{Bytes.{most_bytes, ConsumesAtMost}, declared.whole.ReadFault.ReadFault}
 use Rattle.stn_time.proofs.Each.{each_pushed}
 use Rattle.stn_wire.{specs.{Frame.{FrameContent, spelling, IsFrame}, Front.{IsFront, faulty, unfinished}, declared.fault.WireFault.WireFault, Stream.{IsNextFrame, IsCounted, Held.Stream}}, proofs.Fronts.fault_more}
@@ -7,20 +7,19 @@ use Rattle.stn_device.specs.declared.whole.ReadFault.TheVariants as stream
 use Rattle.stn_store.specs.{Log.{Log, LogSoFar, taken, all_taken, all_taken_by, meaning_of, IsEnding, IsLogAnswer, IsRest, IsDecided, IsOpen, Faults.of_stream, Opening.IsRefused}, declared.log.fault.LoadFault.{LoadFault, TheVariants.{Read, Bound, Frame, LogForm, Memory}}}
 
 -- a read that failed
-pub stream_read : (fault : ReadFault) → of_stream fault ≡ Read → fault ≡ stream.Read
-stream_read stream.Read is = refl
-stream_read fault is = cc
+pub stream_read : {fault : ReadFault} → of_stream fault ≡ Read → fault ≡ stream.Read
+stream_read is = search rules
 
 -- ---- one frame
 
 -- no frame is taken any more
-bytes_end : (more : Bool) (log : Option LogSoFar) (bytes : List ℕ) (meaning : Result Log LoadFault) → IsEnding more bytes log meaning → IsRest more log bytes meaning
-bytes_end more log bytes meaning ending = record { frames = []; behind = bytes; each = tt; cut = refl; answer = ending }
+bytes_end : {more : Bool} {log : Option LogSoFar} {bytes : List ℕ} {meaning : Result Log LoadFault} → IsEnding more bytes log meaning → IsRest more log bytes meaning
+bytes_end ending = search rules
 
 -- the frame in front is taken
-frame_taken : (more : Bool) (log : Option LogSoFar) (next : LogSoFar) (frame : FrameContent) (tail : List ℕ) → IsFrame frame → taken log frame ≡ Ok next
-    → (meaning : Result Log LoadFault) → IsRest more (Some next) tail meaning → IsRest more log (spelling frame ++ tail) meaning
-frame_taken more log next frame tail valid is meaning rest = record {
+frame_taken : {more : Bool} {log : Option LogSoFar} {next : LogSoFar} {frame : FrameContent} {tail : List ℕ} → IsFrame frame → taken log frame ≡ Ok next
+    → {meaning : Result Log LoadFault} → IsRest more (Some next) tail meaning → IsRest more log (spelling frame ++ tail) meaning
+frame_taken {more} {log} {frame} valid is {meaning} rest = record {
   frames = frame ∷ rest.frames;
   behind = rest.behind;
   each = (valid, rest.each);
@@ -29,9 +28,9 @@ frame_taken more log next frame tail valid is meaning rest = record {
 }
 
 -- the frame in front is refused
-frame_refused : (more : Bool) (log : Option LogSoFar) (frame : FrameContent) (tail : List ℕ) (fault : LoadFault) → IsFrame frame → taken log frame ≡ Err fault
+frame_refused : {more : Bool} {log : Option LogSoFar} {frame : FrameContent} (tail : List ℕ) {fault : LoadFault} → IsFrame frame → taken log frame ≡ Err fault
     → IsRest more log (spelling frame ++ tail) (Err fault)
-frame_refused more log frame tail fault valid is = record {
+frame_refused {more} {log} {frame} tail {fault} valid is = record {
   frames = frame ∷ [];
   behind = tail;
   each = (valid, tt);
@@ -40,35 +39,33 @@ frame_refused more log frame tail fault valid is = record {
 }
 
 -- ---- frames, one after the other
-same_ok : (log last : Option LogSoFar) → all_taken log [] ≡ Ok last → log ≡ last
-same_ok log last e = cc
+same_ok : {log last : Option LogSoFar} → all_taken log [] ≡ Ok last → log ≡ last
+same_ok e = cc
 
 -- more frames are taken by what the first one left
-later_taken : (first : Result LogSoFar LoadFault) (frames more : List FrameContent) (last : Option LogSoFar) (end : Result (Option LogSoFar) LoadFault)
+later_taken : (first : Result LogSoFar LoadFault) (frames more : List FrameContent) {last : Option LogSoFar} {end : Result (Option LogSoFar) LoadFault}
     → ((next : LogSoFar) → all_taken (Some next) frames ≡ Ok last → all_taken (Some next) (frames ++ more) ≡ end)
     → all_taken_by (λ next. all_taken next frames) first ≡ Ok last → all_taken_by (λ next. all_taken next (frames ++ more)) first ≡ end
-later_taken (Ok next) frames more last end later came = later next came
-later_taken (Err fault) frames more last end later came = absurd cc
+later_taken first frames more later came = search rules
 
-one_more : (frames : List FrameContent) (log last : Option LogSoFar) (frame : FrameContent) (next : LogSoFar) → all_taken log frames ≡ Ok last → taken last frame ≡ Ok next → all_taken log (frames ++ frame ∷ []) ≡ Ok (Some next)
-one_more [] log last frame next came is = cc
-one_more (f ∷ frames) log last frame next came is =
-    later_taken (taken log f) frames (frame ∷ []) last (Ok (Some next)) (λ log came. one_more frames (Some log) last frame next came is) came
+one_more : (frames : List FrameContent) (log : Option LogSoFar) {last : Option LogSoFar} (frame : FrameContent) {next : LogSoFar} → all_taken log frames ≡ Ok last → taken last frame ≡ Ok next → all_taken log (frames ++ frame ∷ []) ≡ Ok (Some next)
+one_more [] log frame came is = cc
+one_more (f ∷ frames) log {last} frame {next} came is =
+    later_taken (taken log f) frames (frame ∷ []) (λ log came. one_more frames (Some log) frame came is) came
 
 -- what stands after the first frame
-later_rest : (first : Result LogSoFar LoadFault) (more : Bool) (log : Option LogSoFar) (frame : FrameContent) (frames : List FrameContent) (last : Option LogSoFar) (tail : List ℕ) (meaning : Result Log LoadFault)
+later_rest : {first : Result LogSoFar LoadFault} {more : Bool} {log : Option LogSoFar} {frame : FrameContent} (frames : List FrameContent) {last : Option LogSoFar} {tail : List ℕ} {meaning : Result Log LoadFault}
     → IsFrame frame → taken log frame ≡ first → ((next : LogSoFar) → all_taken (Some next) frames ≡ Ok last → IsRest more (Some next) tail meaning)
     → all_taken_by (λ next. all_taken next frames) first ≡ Ok last → IsRest more log (spelling frame ++ tail) meaning
-later_rest (Ok next) more log frame frames last tail meaning valid is later came = frame_taken more log next frame tail valid is meaning (later next came)
-later_rest (Err fault) more log frame frames last tail meaning valid is later came = absurd cc
+later_rest frames valid is later came = search (rules, frame_taken)
 
 -- what bytes after frames that are all taken make of a log
-behind_frames : (frames : List FrameContent) (log last : Option LogSoFar) → AllByRecursion IsFrame frames → all_taken log frames ≡ Ok last
-    → (more : Bool) (tail : List ℕ) (meaning : Result Log LoadFault) → IsRest more last tail meaning → IsRest more log (flat_map spelling frames ++ tail) meaning
-behind_frames [] log last each came more tail meaning rest = subst (λ log. IsRest more log tail meaning) (sym (same_ok log last came)) rest
-behind_frames (frame ∷ frames) log last each came more tail meaning rest =
+behind_frames : (frames : List FrameContent) {log last : Option LogSoFar} → AllByRecursion IsFrame frames → all_taken log frames ≡ Ok last
+    → {more : Bool} {tail : List ℕ} {meaning : Result Log LoadFault} → IsRest more last tail meaning → IsRest more log (flat_map spelling frames ++ tail) meaning
+behind_frames [] each came rest = search rules
+behind_frames (frame ∷ frames) {log} {last} each came {more} {tail} {meaning} rest =
     subst (λ l. IsRest more log l meaning) (sym (append_assoc (spelling frame) (flat_map spelling frames) tail))
-    (later_rest (taken log frame) more log frame frames last (flat_map spelling frames ++ tail) meaning each.0 refl (λ next came. behind_frames frames (Some next) last each.1 came more tail meaning rest) came)
+    (later_rest frames each.0 refl (λ next came. behind_frames frames each.1 came rest) came)
 
 -- ---- how far a log was read: frames that were all taken, and what stands after them
 pub record Progress (before after : Option (List ℕ)) (log : Option LogSoFar) (rest : List ℕ) (count : ℕ) : Type 0 where
@@ -80,8 +77,8 @@ pub record Progress (before after : Option (List ℕ)) (log : Option LogSoFar) (
   pub cut : bytes ≡ flat_map spelling frames ++ rest
   pub came : all_taken None frames ≡ Ok log
 
-pub begun : (before : Option (List ℕ)) (rest : List ℕ) (count : ℕ) → rest ≡ [] → count ≡ 0 → Progress before before None rest count
-begun before rest count none zero = record {
+pub begun : {before : Option (List ℕ)} {rest : List ℕ} {count : ℕ} → rest ≡ [] → count ≡ 0 → Progress before before None rest count
+begun {before} none zero = record {
   bytes = [];
   frames = [];
   consumed = Consumes-nil before;
@@ -96,47 +93,38 @@ module _ (before after : Option (List ℕ)) (log : Option LogSoFar) (rest : List
   given = flat_map spelling p.frames
 
   leads : (more : Bool) (tail : List ℕ) (meaning : Result Log LoadFault) → IsRest more log tail meaning → IsRest more None (given ++ tail) meaning
-  leads = behind_frames p.frames None log p.each p.came
+  leads = search (rules, behind_frames)
 
   -- more bytes were read
-  pub read_on : (last : Option (List ℕ)) (more : List ℕ) → Consumes after last more → Progress before last log (rest ++ more) (count + length more)
-  read_on last more read = record {
-    bytes = p.bytes ++ more;
-    frames = p.frames;
-    consumed = Consumes-trans before after last p.bytes more p.consumed read;
-    many = omega (arith, p.many, length-append p.bytes more);
-    each = p.each;
-    cut = ap (λ l. l ++ more) p.cut ∙ append_assoc given rest more;
-    came = p.came;
-  }
+  pub read_on : {last : Option (List ℕ)} (more : List ℕ) → Consumes after last more → Progress before last log (rest ++ more) (count + length more)
+  read_on more read = search (rules, Consumes-trans, length-append, append_assoc)
 
   used : count ≤ 16777216 + 1 → ConsumesAtMost before after (most_bytes + 1)
-  used few = (p.bytes, p.consumed, omega (arith, few, p.many))
+  used few = search rules
 
   pub used_within : count ≤ 16777216 → ConsumesAtMost before after (most_bytes + 1)
   used_within few = used (omega (arith, few))
 
   -- the frame in front is taken
-  pub next_taken : (frame : FrameContent) (later : List ℕ) → IsFrame frame → rest ≡ spelling frame ++ later → (now : ℕ) → now ≡ count → (next : LogSoFar) → taken log frame ≡ Ok next
+  pub next_taken : {frame : FrameContent} {later : List ℕ} → IsFrame frame → rest ≡ spelling frame ++ later → {now : ℕ} → now ≡ count → {next : LogSoFar} → taken log frame ≡ Ok next
       → Progress before after (Some next) later now
-  next_taken frame later valid front now same next is = search (rules, each_pushed, append_assoc, flat_map-append, one_more)
+  next_taken valid front same is = search (rules, each_pushed, append_assoc, flat_map-append, one_more)
 
   -- the same, of an option that holds what the frame made
-  pub next_held : (frame : FrameContent) (later : List ℕ) → IsFrame frame → rest ≡ spelling frame ++ later → (now : ℕ) → now ≡ count → (next : Option LogSoFar)
+  pub next_held : {frame : FrameContent} {later : List ℕ} → IsFrame frame → rest ≡ spelling frame ++ later → {now : ℕ} → now ≡ count → {next : Option LogSoFar}
       → is_some next ≡ true → IfSome next (λ held. taken log frame ≡ Ok held) → Progress before after next later now
-  next_held frame later valid front now same None there is = absurd (false≢true there)
-  next_held frame later valid front now same (Some next) there is = next_taken frame later valid front now same next is
+  next_held valid front same there is = search (rules, next_taken)
 
-  -- the input ends after what was read
-  ends : count ≤ 16777216 → IsAtEnd after → (meaning : Result Log LoadFault) → IsEnding false rest log meaning → IsDecided before after meaning
-  ends few end meaning ending =
+  -- the input ends after what read
+  ends : count ≤ 16777216 → IsAtEnd after → {meaning : Result Log LoadFault} → IsEnding false rest log meaning → IsDecided before after meaning
+  ends few end ending =
       let long : length p.bytes ≤ most_bytes = omega (arith, few, p.many) in
       let more : nat_lt most_bytes (length p.bytes) ≡ false = le-ltb most_bytes (length p.bytes) long in
       let all : take most_bytes p.bytes ≡ given ++ rest = take_all most_bytes p.bytes long ∙ p.cut in search rules
 
   -- what was read decides, whatever stands after it
-  decides : count ≤ 16777216 → (meaning : Result Log LoadFault) → ((more : Bool) (extra : List ℕ) → IsRest more log (rest ++ extra) meaning) → IsDecided before after meaning
-  decides few meaning rests = (
+  decides : count ≤ 16777216 → {meaning : Result Log LoadFault} → ((more : Bool) (extra : List ℕ) → IsRest more log (rest ++ extra) meaning) → IsDecided before after meaning
+  decides few {meaning} rests = (
     p.bytes,
     p.consumed,
     inr (λ extra.
@@ -149,31 +137,30 @@ module _ (before after : Option (List ℕ)) (log : Option LogSoFar) (rest : List
   )
 
   -- the frame in front is refused
-  next_refused : count ≤ 16777216 → (frame : FrameContent) (later : List ℕ) → IsFrame frame → rest ≡ spelling frame ++ later → (fault : LoadFault) → taken log frame ≡ Err fault
+  next_refused : count ≤ 16777216 → {frame : FrameContent} (later : List ℕ) → IsFrame frame → rest ≡ spelling frame ++ later → {fault : LoadFault} → taken log frame ≡ Err fault
       → IsDecided before after (Err fault)
-  next_refused few frame later valid front fault is = search (rules, decides, append_assoc, frame_refused)
+  next_refused few later valid front is = search (rules, decides, append_assoc, frame_refused)
 
-  pub refuses : count ≤ 16777216 → (frame : FrameContent) (later : List ℕ) → IsFrame frame → rest ≡ spelling frame ++ later → (fault : LoadFault)
+  pub refuses : count ≤ 16777216 → {frame : FrameContent} (later : List ℕ) → IsFrame frame → rest ≡ spelling frame ++ later → (fault : LoadFault)
       → IsRefused (taken log frame) fault → IfSome (meaning_of (Err fault)) (IsDecided before after)
-  refuses few frame later valid front Read is = tt
-  refuses few frame later valid front Memory is = tt
-  refuses few frame later valid front fault is = next_refused few frame later valid front _ is.1
+  refuses few later valid front Read is = tt
+  refuses few later valid front Memory is = tt
+  refuses few later valid front fault is = search (rules, next_refused)
 
   -- the rest shows a fault
-  pub shows_fault : count ≤ 16777216 → (fault : WireFault) → IsFront rest (faulty fault) → IsDecided before after (Err (Frame fault))
-  shows_fault few fault front =
-      decides few (Err (Frame fault)) (λ more extra. bytes_end more log (rest ++ extra) (Err (Frame fault)) (fault_more rest extra fault front))
+  pub shows_fault : count ≤ 16777216 → {fault : WireFault} → IsFront rest (faulty fault) → IsDecided before after (Err (Frame fault))
+  shows_fault few front = search (rules, decides, fault_more)
 
-  -- the input ends between two frames, where a log was opened, or none
-  pub closes : (held : LogSoFar) → count ≤ 16777216 → IsAtEnd after → rest ≡ [] → log ≡ Some held → IsDecided before after (Ok held.log)
-  closes held few end none is = ends few end (Ok held.log) (refl, none, ap (option_map (λ (begun : LogSoFar). begun.log)) is)
+  -- the input ends between two, where a log was opened, or none
+  pub closes : {held : LogSoFar} → count ≤ 16777216 → IsAtEnd after → rest ≡ [] → log ≡ Some held → IsDecided before after (Ok held.log)
+  closes few end none is = search (rules, ends)
 
   pub closes_empty : count ≤ 16777216 → IsAtEnd after → rest ≡ [] → log ≡ None → IsDecided before after (Err LogForm)
-  closes_empty few end none is = ends few end (Err LogForm) (refl, subst (λ l. IsFront l unfinished) (sym none) (inl (omega arith)), inl is)
+  closes_empty few end none is = search (rules, ends)
 
-  -- the input ends within a frame
+  -- the input ends within a
   pub cuts : count ≤ 16777216 → IsAtEnd after → IsFront rest unfinished → 0 < length rest → IsDecided before after (Err LogForm)
-  cuts few end front some = ends few end (Err LogForm) (refl, front, inr some)
+  cuts few end front some = search (rules, ends)
 
   -- a byte stands beyond the limit, and no whole frame before it
   beyond : count ≡ 16777216 + 1 → (left : List ℕ) (byte : ℕ) → rest ≡ left ++ byte ∷ [] → IsFront left unfinished → IsDecided before after (Err Bound)
@@ -189,17 +176,12 @@ module _ (before after : Option (List ℕ)) (log : Option LogSoFar) (rest : List
         ∙ (ap (take most_bytes) (append_assoc (given ++ left) (byte ∷ []) extra) ∙ take_at (given ++ left) ((byte ∷ []) ++ extra) most_bytes full) in
         record {
           said = subst (λ b. IsRest b None (take most_bytes (p.bytes ++ extra)) (Err Bound)) (sym more)
-              (subst (λ l. IsRest true None l (Err Bound)) (sym looked) (leads true left (Err Bound) (bytes_end true log left (Err Bound) (refl, front))));
+              (subst (λ l. IsRest true None l (Err Bound)) (sym looked) (leads true left (Err Bound) (bytes_end (refl, front))));
         }),
   )
 
   too_long : count ≡ 16777216 + 1 → IfSome before (λ input. most_bytes < length input)
-  too_long many = longer before after p.consumed
-    where
-      longer : (old new : Option (List ℕ)) → Consumes old new p.bytes → IfSome old (λ input. most_bytes < length input)
-      longer None new read = tt
-      longer (Some input) None read = absurd read
-      longer (Some input) (Some left) read = omega (arith, many, p.many, ap length read, length-append p.bytes left)
+  too_long many = search (rules, length-append)
 
   -- nothing more comes of the stream
   module _ (A : Type 0) (now : Stream) where

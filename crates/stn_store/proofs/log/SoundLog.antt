@@ -1,7 +1,7 @@
 -- What a log says is sound: its source has a base, and its records are of bounds of the plan.
-use Rattle.std.{proofs.{Common.{rules, ◌≡◌, ℕ, Bool, true, false, not, List, [], ◌∷◌, Option, Some, None, IfSome, Result, Ok, Err, refl, subst}, lemmas.Option.same_Some}, specs.{Prelude.option_map, Bool.then_some, Option.option_or, List.AllByRecursion}}
+use Rattle.std.{proofs.{Common.{rules, ◌≡◌, ℕ, Bool, true, not, List, [], ◌∷◌, Option, Some, None, IfSome, Result, Ok, Err, refl, subst}, lemmas.Option.same_Some}, specs.{Prelude.option_map, Bool.then_some, Option.option_or, List.AllByRecursion}}
 use Rattle.stn_net.specs.Difference.{IsBoundWithin}
-use Rattle.stn_lift.{specs.{PlanSource.{PlanSource, events_of, base_of, IsSoundSource}, declared.fault.BaseFault.BaseFault}, proofs.SoundSource.base_sound}
+use Rattle.stn_lift.{specs.{PlanSource.{PlanSource, events_of, IsSoundSource}, declared.fault.BaseFault.BaseFault}, proofs.SoundSource.base_sound}
 use Rattle.stn_records.{specs.{Record.IsProperRecord, declared.record.Record.Record, Maps.{AllFit}, Content.{Content, AllProper, no_content, joined_contents}}, proofs.{Proper.{empty_fits, union_fits}}}
 use Rattle.stn_site.{specs.{declared.faults.ReplicaFault.ReplicaFault, Bounds.RecordsName, Held.holding_state, SoundSite.IsSoundSite, Refusals.{records_name, take_refusal}}, proofs.{Refused.records_name-decides, Live.bounds_from_live}}
 use Rattle.stn_wire.{specs.Frame.{FrameContent, old_hello, old_records, hello, records, IsFrame}, proofs.SaidBounds.said_bounds}
@@ -18,30 +18,29 @@ record IsSoundLog (log : Log) : Type 0 where
   proper : AllProper log.state.additions
 
 -- ---- the first frame
-opened_sound : (version : Version) (made : Result PlanSource BaseFault) (next : LogSoFar) → ((source : PlanSource) → made ≡ Ok source → IsSoundSource source)
+opened_sound : (version : Version) (made : Result PlanSource BaseFault) {next : LogSoFar} → ((source : PlanSource) → made ≡ Ok source → IsSoundSource source)
     → opened version made ≡ Ok next → IsSoundLog next.log
-opened_sound version (Err fault) next sound is = cc
-opened_sound version (Ok source) next sound is =
+opened_sound version (Err fault) sound is = cc
+opened_sound version (Ok source) {next} sound is =
     let same : so_far version (record { source = source; state = no_content }) ≡ next = cc in
     subst (λ (n : LogSoFar). IsSoundLog n.log) same
     (record { based = sound source refl; bounds = empty_fits (IsOfEvents (events_of source)); proper = empty_fits IsProperRecord })
 
 -- ---- a later one
-first_none : {X : Type 0} (stands : Bool) (cause : X) (rest : Option X) → option_or (then_some (not stands) cause) rest ≡ None → stands ≡ true
-first_none true cause rest is = refl
-first_none false cause rest is = cc
+first_none : {X : Type 0} {stands : Bool} (cause : X) (rest : Option X) → option_or (then_some (not stands) cause) rest ≡ None → stands ≡ true
+first_none cause rest is = search rules
 
 -- the records of a state are of bounds of each plan that has their events
 abbrev HasBounds : Content → Type 0
 HasBounds state = (events : ℕ) → RecordsName events state → AllFit (IsOfEvents events) state.additions
 
-joined_sound : (version : Version) (log : Log) (state : Content) (next : LogSoFar) (found : Option ReplicaFault) → IsSoundLog log → HasBounds state → AllProper state.additions
+joined_sound : (version : Version) {log : Log} (state : Content) {next : LogSoFar} (found : Option ReplicaFault) → IsSoundLog log → HasBounds state → AllProper state.additions
     → take_refusal (holding_state log.source log.state) state ≡ found → joined version found log state ≡ Ok next → IsSoundLog next.log
-joined_sound version log state next (Some fault) sound has proper found is = cc
-joined_sound version log state next None sound has proper found is =
+joined_sound version state (Some fault) sound has proper found is = cc
+joined_sound version {log} state {next} None sound has proper found is =
     let events = events_of log.source in
     let whole : so_far version (record { source = log.source; state = joined_contents log.state state }) ≡ next = cc in
-    let named = (records_name-decides events state).0 (first_none (records_name events state) _ _ found) in
+    let named = (records_name-decides events state).0 (first_none _ _ found) in
     subst (λ (n : LogSoFar). IsSoundLog n.log) whole
     (record {
       based = sound.based;
@@ -49,35 +48,34 @@ joined_sound version log state next None sound has proper found is =
       proper = union_fits IsProperRecord log.state.additions state.additions sound.proper proper;
     })
 
-later_sound : (version : Version) (log : Log) (frame : FrameContent) (next : LogSoFar) → IsSoundLog log → IsFrame frame → taken_later version log frame ≡ Ok next
+later_sound : (version : Version) {log : Log} (frame : FrameContent) {next : LogSoFar} → IsSoundLog log → IsFrame frame → taken_later version log frame ≡ Ok next
     → IsSoundLog next.log
-later_sound Old log (old_records state) next sound is_frame is = joined_sound Old log state next _ sound (said_bounds _ state is_frame.said.said) is_frame.said.said.sound.proper refl is
-later_sound New log (records state) next sound is_frame is = joined_sound New log state next _ sound (said_bounds _ state is_frame.said) is_frame.said.sound.proper refl is
-later_sound version log frame next sound is_frame is = cc
+later_sound Old (old_records state) sound is_frame is = search (rules, joined_sound, said_bounds)
+later_sound New (records state) sound is_frame is = search (rules, joined_sound, said_bounds)
+later_sound version frame sound is_frame is = cc
 
 -- ---- each
-taken_sound : (log : Option LogSoFar) (frame : FrameContent) (next : LogSoFar) → IfSome log (λ begun. IsSoundLog begun.log) → IsFrame frame → taken log frame ≡ Ok next
+taken_sound : (log : Option LogSoFar) (frame : FrameContent) {next : LogSoFar} → IfSome log (λ begun. IsSoundLog begun.log) → IsFrame frame → taken log frame ≡ Ok next
     → IsSoundLog next.log
-taken_sound None (old_hello source) next sound is_frame is = opened_sound Old (base_of source) next (base_sound source) is
-taken_sound None (hello source) next sound is_frame is = opened_sound New (base_of source) next (base_sound source) is
-taken_sound None frame next sound is_frame is = cc
-taken_sound (Some begun) frame next sound is_frame is = later_sound begun.version begun.log frame next sound is_frame is
+taken_sound None (old_hello source) sound is_frame is = search (rules, opened_sound, base_sound)
+taken_sound None (hello source) sound is_frame is = search (rules, opened_sound, base_sound)
+taken_sound None frame sound is_frame is = cc
+taken_sound (Some begun) frame sound is_frame is = search (rules, later_sound)
 
-by_first : (frames : List FrameContent) (first : Result LogSoFar LoadFault) (whole : Option LogSoFar)
+by_first : (frames : List FrameContent) {first : Result LogSoFar LoadFault} {whole : Option LogSoFar}
     → ((next : LogSoFar) → first ≡ Ok next → all_taken (Some next) frames ≡ Ok whole → IfSome whole (λ begun. IsSoundLog begun.log))
     → all_taken_by (λ next. all_taken next frames) first ≡ Ok whole → IfSome whole (λ begun. IsSoundLog begun.log)
-by_first frames (Ok next) whole later is = later next refl is
-by_first frames (Err fault) whole later is = cc
+by_first frames later is = search rules
 
-all_sound : (log : Option LogSoFar) (frames : List FrameContent) (whole : Option LogSoFar) → IfSome log (λ begun. IsSoundLog begun.log) → AllByRecursion IsFrame frames
+all_sound : (log : Option LogSoFar) (frames : List FrameContent) {whole : Option LogSoFar} → IfSome log (λ begun. IsSoundLog begun.log) → AllByRecursion IsFrame frames
     → all_taken log frames ≡ Ok whole → IfSome whole (λ begun. IsSoundLog begun.log)
-all_sound log [] whole sound each is = search rules
-all_sound log (frame ∷ frames) whole sound each is =
-    by_first frames (taken log frame) whole (λ next first later. all_sound (Some next) frames whole (taken_sound log frame next sound each.0 first) each.1 later) is
+all_sound log [] sound each is = search rules
+all_sound log (frame ∷ frames) {whole} sound each is =
+    by_first frames (λ next first later. all_sound (Some next) frames (taken_sound log frame sound each.0 first) each.1 later) is
 
 -- ---- the whole
-sound_site : (log : Log) → IsSoundLog log → IsSoundSite (holding_state log.source log.state)
-sound_site log sound = record {
+sound_site : {log : Log} → IsSoundLog log → IsSoundSite (holding_state log.source log.state)
+sound_site {log} sound = record {
   based = sound.based;
   live = bounds_from_live (IsBoundWithin (events_of log.source)) log.state (λ id one there live. sound.bounds id one there);
   proper = sound.proper;
@@ -92,5 +90,5 @@ sound_meaning more bytes log rest = by (all_taken None rest.frames) refl rest.an
 
     by : (taken : Result (Option LogSoFar) LoadFault) → all_taken None rest.frames ≡ taken → IsLogAnswer more rest.behind taken (Ok log)
         → IsSoundSite (holding_state log.source log.state)
-    by (Ok found) is ending = sound_site log (whole found (all_sound None rest.frames found tt rest.each is) ending.2)
+    by (Ok found) is ending = sound_site {log = log} (whole found (all_sound None rest.frames {whole = found} tt rest.each is) ending.2)
     by (Err fault) is ending = cc

@@ -1,4 +1,4 @@
-use Rattle.std.proofs.Common.{◌≡◌, ◌⊎◌, Option, refl, sym, subst, inl, inr, ap}
+use Rattle.std.proofs.Common.{rules, ◌≡◌, ◌⊎◌, Option, refl, inl, inr, ap}
 use Rattle.stn_device.specs.Callers.{CallersState}
 use Rattle.stn_effects.specs.{Effects.IsLack, Printing.device_of}
 use Rattle.stn_refusal.specs.declared.failure.Failure.{Failure, TheVariants.Failed}
@@ -7,15 +7,14 @@ use Rattle.stn_exchanges.specs.{Connections.meeting, Joining.shared}
 use Rattle.stn_store.proofs.Lacks.{passed_on}
 use Rattle.stn_exchanges.proofs.connections.serve_next.Goals as goal
 
-alone : (failure : Failure) → (failure ≡ Failed fault.Net) ⊎ (failure ≡ Failed fault.Memory) → IsLack (λ failed. failed ≡ fault.Net) failure
-alone failure (inl net) = subst (IsLack (λ failed. failed ≡ fault.Net)) (sym net) (inr refl)
-alone failure (inr memory) = subst (IsLack (λ failed. failed ≡ fault.Net)) (sym memory) (inl refl)
+alone : {failure : Failure} → (failure ≡ Failed fault.Net) ⊎ (failure ≡ Failed fault.Memory) → IsLack (λ failed. failed ≡ fault.Net) failure
+alone h = search rules
 
 pub returns-in_err-partner : goal.returns-in_err-partner
 returns-in_err-partner g c =
     let is = c.in_err-partner.ensures in
     rw (passed_on _ _ c.from_residual.ensures.1) (record {
-      served = inr (_, alone _ is.none, refl, ap (λ (callers : Option CallersState). meeting callers (shared (g.C.SiteCopy.held c.args.copy.now).state (g.S.Store.entries c.args.store.now)) (device_of g.W.Write.contents c.args.out.now)) is.kept);
+      served = inr (_, alone is.none, refl, ap (λ (callers : Option CallersState). meeting callers (shared (g.C.SiteCopy.held c.args.copy.now).state (g.S.Store.entries c.args.store.now)) (device_of g.W.Write.contents c.args.out.now)) is.kept);
       source = refl;
       site = refl;
     })

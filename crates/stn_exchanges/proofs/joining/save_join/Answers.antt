@@ -18,7 +18,7 @@ returns-in_err-take_log g c =
 pub returns : goal.returns
 returns g c =
     let took = c.in_ok-take_log.ensures in
-    let saved = saves_as g.S.Store.fails _ c.plan.result.now _ _ _ _ c.save.result (c.plan.ensures.source ∙ took.source) c.plan.ensures.state (rw c.in_ok-held.ensures.named at c.save.ensures) in
+    let saved = saves_as g.S.Store.fails _ c.plan.result.now _ _ c.save.result (c.plan.ensures.source ∙ took.source) c.plan.ensures.state (rw c.in_ok-held.ensures.named at c.save.ensures) in
     record {
       saved = went tt (shared (g.C.SiteCopy.held c.take_log.new.copy).state (g.S.Store.entries c.args.store.now)) took.taken (saved, refl);
       source = took.source;

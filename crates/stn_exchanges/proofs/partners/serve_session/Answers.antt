@@ -6,7 +6,7 @@ returns g c =
     let is = c.serve_keeping-session.ensures in
     let source = (g.C.SiteCopy.held c.args.copy.now).source in
     rw c.answer_of.ensures (record {
-      session = serves_seen g.S.Store.entries (KeepsIn g.S.Store.fails c.args.log.now source) source _ _ _ is.served;
+      session = serves_seen g.S.Store.entries (KeepsIn g.S.Store.fails c.args.log.now source) is.served;
       source = is.source;
       site = is.site;
     })

@@ -1,4 +1,4 @@
-use Rattle.std.{proofs.Common.{◌≡◌, List, [], ◌∷◌, Option, Some, None, codes, inl, inr, sym, subst, rules}, specs.{Option.IsSome, List.AllByRecursion}}
+use Rattle.std.{proofs.Common.{◌≡◌, List, [], ◌∷◌, None, codes, inl, inr, sym, subst, rules}, specs.{Option.IsSome, List.AllByRecursion}}
 use Rattle.clap.specs.Words.{Row, Text, found_of, rows_of}
 use Rattle.stn_records.specs.Id.{most_sites}
 use Rattle.stn_questions.specs.Words.{lone_query, outlook_of}

@@ -1,6 +1,6 @@
-use Rattle.std.proofs.Common.{◌∙◌, sym}
-use Rattle.clap.{specs.Words.found_of, proofs.WalkLemmas.first_value-rows}
+use Rattle.std.proofs.{lemmas.Grind.common_steps, Common.arith}
+use Rattle.clap.{proofs.WalkLemmas.first_value-rows}
 use Rattle.stn_line.proofs.reading.option.Goals as goal
 
 pub returns : goal.returns
-returns c = sym (c.get_str.ensures ∙ first_value-rows (found_of c.args.words.now) c.args.name.now)
+returns c = grind (arith, common_steps, first_value-rows)

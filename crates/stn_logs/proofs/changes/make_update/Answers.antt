@@ -1,17 +1,10 @@
-use Rattle.std.proofs.{Common.{◌≡◌, option_map, sym, ap}, lemmas.Result.MatchResult-weaker}
+use Rattle.std.proofs.Common.{rules}
 use Rattle.stn_effects.proofs.Endings.{makes_of}
-use Rattle.stn_site.specs.{Change.change_refusal, Failures.replica_failure}
-use Rattle.stn_logs.specs.Commands.{seen_outcome, IsChanged, IsGuarded, IsUnguarded}
+use Rattle.stn_logs.specs.Commands.{seen_outcome, IsGuarded, IsUnguarded}
 use Rattle.stn_logs.proofs.changes.make_update.Goals as goal
 
 pub returns-in-Change : goal.returns-in-Change
-returns-in-Change g c =
-    let held = c.args.plan.now in
-    let asked = c.in-Change.asked in
-    rw c.in-Change.is (makes_of g.S.Store.fails (seen_outcome c.change_plan.new.plan) (IsChanged asked held)
-    (λ cause. cause ≡ option_map replica_failure (change_refusal held asked)) c.change_plan.result _
-    (MatchResult-weaker c.change_plan.result c.change_plan.ensures
-    (λ outcome made. (made.0, sym (ap (option_map replica_failure) made.1))) (λ failure why. why)))
+returns-in-Change g c = search rules
 
 pub returns-in-Merge : goal.returns-in-Merge
 returns-in-Merge g c = rw c.in-Merge.is c.merge_log.ensures

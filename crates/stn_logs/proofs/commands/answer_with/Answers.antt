@@ -9,13 +9,13 @@ pub returns-in-Make : goal.returns-in-Make
 returns-in-Make g c = rw c.in-Make.is c.make_log.ensures
 
 pub returns-in_err-asked-in-Change : goal.returns-in_err-asked-in-Change
-returns-in_err-asked-in-Change g c = rw (passed_on _ _ c.from_residual.ensures.1, c.in-Change.is) (stopped _ (unread _ _ _ _ c.in_err-asked-in-Change.ensures) refl)
+returns-in_err-asked-in-Change g c = rw (passed_on _ _ c.from_residual.ensures.1, c.in-Change.is) (stopped _ (unread _ c.in_err-asked-in-Change.ensures) refl)
 
 pub returns-in_ok-asked-in-Change : goal.returns-in_ok-asked-in-Change
 returns-in_ok-asked-in-Change g c = rw c.in-Change.is (went (seen_update c.in_ok-asked-in-Change.asked) _ (refl, rw c.in_ok-asked-in-Change.ensures refl) c.update_log.ensures)
 
 pub returns-in_err-asked-in-Ask : goal.returns-in_err-asked-in-Ask
-returns-in_err-asked-in-Ask g c = rw (passed_on _ _ c.from_residual-in_err-asked-in-Ask.ensures.1, c.in-Ask.is) (stopped _ (unread _ _ _ _ c.in_err-asked-in-Ask.ensures) refl)
+returns-in_err-asked-in-Ask g c = rw (passed_on _ _ c.from_residual-in_err-asked-in-Ask.ensures.1, c.in-Ask.is) (stopped _ (unread _ c.in_err-asked-in-Ask.ensures) refl)
 
 pub returns-in_ok-asked-in-Ask : goal.returns-in_ok-asked-in-Ask
 returns-in_ok-asked-in-Ask g c =

@@ -11,4 +11,4 @@ returns-in_err-plan g c = rw (passed_on _ _ c.from_residual.ensures.1) (stopped 
 pub returns : goal.returns
 returns g c =
     let is = c.in_ok-plan.ensures in
-    went (plan_source c.args.source.now) _ (refl, ap (failing base_failure) is.accepted) (saved_as _ _ _ _ _ _ _ _ _ is.source is.empty c.save_made-text.ensures)
+    went (plan_source c.args.source.now) _ (refl, ap (failing base_failure) is.accepted) (saved_as _ is.source is.empty c.save_made-text.ensures)

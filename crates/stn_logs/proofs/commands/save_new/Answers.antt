@@ -1,10 +1,9 @@
-use Rattle.std.proofs.Common.{refl, inr}
+use Rattle.std.proofs.Common.{rules}
 use Rattle.stn_logs.proofs.Made.{save_ended}
-use Rattle.stn_store.proofs.Lacks.{passed_on}
 use Rattle.stn_logs.proofs.commands.save_new.Goals as goal
 
 pub returns-in_err-held : goal.returns-in_err-held
-returns-in_err-held g c = rw (passed_on _ _ c.from_residual.ensures.1) (refl, inr c.in_err-held.ensures.failed)
+returns-in_err-held g c = search rules
 
 pub returns : goal.returns
 returns g c =

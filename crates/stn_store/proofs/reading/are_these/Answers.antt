@@ -7,10 +7,10 @@ pieces-preserved g c =
     let done = c.pieces.invariant.done in
     record {
       piece_len = grind (arith, common_steps, c.read.auto.buf, c.pieces.invariant.piece_len);
-      done = alike_further _ _ _ _ done.0 _ _ _ done.1 (strip_prefix_is Decides-eqb c.pieces.left.now (take c.in-Ok.count c.read.new.buf) (Some c.in-Some.rest) c.in-Some.ensures.cases) done.2 c.in-Ok.ensures.bytes.0;
+      done = alike_further _ _ _ done.0 _ done.1 (strip_prefix_is Decides-eqb c.pieces.left.now (take c.in-Ok.count c.read.new.buf) (Some c.in-Some.rest) c.in-Some.ensures.cases) done.2 c.in-Ok.ensures.bytes.0;
     }
 
 pub returns-in-None-clause-same : goal.returns-in-None-clause-same
 returns-in-None-clause-same g c =
     let done = c.pieces.invariant.done in
-    others_there _ _ _ _ done.0 _ _ done.1 (strip_prefix_is Decides-eqb c.pieces.left.now (take c.in-Ok.count c.read.new.buf) None c.in-None.ensures.cases) done.2 c.in-Ok.ensures.bytes.0
+    others_there _ _ _ done.0 _ done.1 (strip_prefix_is Decides-eqb c.pieces.left.now (take c.in-Ok.count c.read.new.buf) None c.in-None.ensures.cases) done.2 c.in-Ok.ensures.bytes.0

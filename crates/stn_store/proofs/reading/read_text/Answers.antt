@@ -6,10 +6,10 @@ pub returns-in_err-read_whole-clause-failed : goal.returns-in_err-read_whole-cla
 returns-in_err-read_whole-clause-failed g c =
     let first = ap (take_remaining g.R.Read.remaining) c.new-counted.ensures.device
     ∙ ap (λ inner. option_map (take c.take.result.limit) (g.R.Read.remaining inner)) c.take.ensures.inner in
-    rw (passed_on _ _ c.from_residual.ensures.1) (text_failed _ _ _ c.in_err-read_whole.field-0.0 first c.take.ensures.limit (λ e. c.in_err-read_whole.ensures.bound (ap Err e)))
+    rw (passed_on _ _ c.from_residual.ensures.1) (text_failed first c.take.ensures.limit (λ e. c.in_err-read_whole.ensures.bound (ap Err e)))
 
 pub returns-clause-text : goal.returns-clause-text
 returns-clause-text g c =
     let first = ap (take_remaining g.R.Read.remaining) c.new-counted.ensures.device
     ∙ ap (λ inner. option_map (take c.take.result.limit) (g.R.Read.remaining inner)) c.take.ensures.inner in
-    text_read _ _ _ _ _ first c.take.ensures.limit c.in_ok-read_whole.ensures.bytes c.in_ok-read_whole.ensures.end c.in_ok-read_whole.ensures.within
+    text_read _ _ _ first c.take.ensures.limit c.in_ok-read_whole.ensures.bytes c.in_ok-read_whole.ensures.end c.in_ok-read_whole.ensures.within

@@ -1,5 +1,5 @@
-use Rattle.std.proofs.{Common.{rules, Err, IfSome, ap, subst}, lemmas.Result.err_from_is_err_and}
-use Rattle.stn_wire.{specs.{Feeder.holding, Frame.content, Front.{IsFront, whole, unfinished, answered_front}, Reading.IsWanted}, proofs.Feeding.{opening_err, filled_err, filled_whole, filled_none}}
+use Rattle.std.proofs.{lemmas.{Grind.common_steps, Result.err_from_is_err_and}, Common.{arith, rules, Err, IfSome, subst}}
+use Rattle.stn_wire.{specs.{Front.{IsFront, unfinished, answered_front}, Reading.IsWanted}, proofs.Feeding.{opening_err, filled_err, filled_whole, filled_none}}
 use Rattle.stn_wire.proofs.feeder.take_frame.Goals as goal
 
 pub returns-in_err-length : goal.returns-in_err-length
@@ -15,14 +15,7 @@ returns-in_err-frame g c =
     c.in_ok-length.length wants c.in_ok-used.field-0 c.in_ok-used.ensures.taken c.fill-2.new.held.items c.in_ok-used.ensures.filled g.row.A.Denot fault found)
 
 pub returns-in-Some : goal.returns-in-Some
-returns-in-Some g c =
-    let wants = subst (λ l. IsWanted l c.in_ok-length.length) c.deref.ensures.value c.in_ok-length.ensures in
-    let read = rw c.in-Some.is at c.in_ok-frame.ensures in
-    let found = subst (λ l. IsFront l (whole (content c.in-Some.frame) c.in-Some.field-0-1)) c.deref-2.ensures.value read in (
-      filled_whole c.args.held.now.items c.args.piece.now c.requires c.in_ok-opening.opening c.in_ok-opening.ensures.taken c.fill.new.held.items c.in_ok-opening.ensures.filled
-          c.in_ok-length.length wants c.in_ok-used.field-0 c.in_ok-used.ensures.taken c.fill-2.new.held.items c.in_ok-used.ensures.filled (content c.in-Some.frame) c.in-Some.field-0-1 found,
-      ap holding c.clear.ensures.items,
-    )
+returns-in-Some g c = grind (arith, common_steps, filled_whole)
 
 pub returns-in-None : goal.returns-in-None
 returns-in-None g c =

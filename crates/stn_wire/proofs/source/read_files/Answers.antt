@@ -1,12 +1,12 @@
-use Rattle.std.proofs.{Common.{length, sym, ap, ◌∙◌}, lemmas.Bool.{false≢true, eq-eqb}}
+use Rattle.std.proofs.{Common.{rules, length, sym, ap, ◌∙◌}, lemmas.Bool.{false≢true, eq-eqb}}
 use Rattle.stn_wire.proofs.Sources.{no_domain, no_plan, plan_and_more}
 use Rattle.stn_wire.proofs.source.read_files.Goals as goal
 
 pub returns-in_default : goal.returns-in_default
-returns-in_default g c = no_domain c.args.texts.now c.in_default.ensures
+returns-in_default g c = search (rules, no_domain)
 
 pub returns-in_default-read_measured : goal.returns-in_default-read_measured
-returns-in_default-read_measured g c = no_plan c.args.texts.now c.in-Some.domain.now c.in-Some.rest.now c.in-Some.ensures c.in_default-read_measured.ensures
+returns-in_default-read_measured g c = search (rules, no_plan)
 
 pub returns-then-not-is_empty : goal.returns-then-not-is_empty
 returns-then-not-is_empty g c =

@@ -1,9 +1,9 @@
-use Rattle.std.proofs.{Common.{◌≡◌, [], length, sym, ap, ◌∙◌, eqb-true}, lemmas.{Bool.{false≢true, eq-eqb}, List.nil_from_length}}
+use Rattle.std.proofs.{Common.{rules, ◌≡◌, [], length, sym, ap, ◌∙◌, eqb-true}, lemmas.{Bool.{false≢true, eq-eqb}, List.nil_from_length}}
 use Rattle.stn_wire.proofs.States.{no_additions, no_tombstones, no_entries, something_left, lists_read}
 use Rattle.stn_wire.proofs.state.read_state.Goals as goal
 
 pub returns-in_default : goal.returns-in_default
-returns-in_default g c = no_additions c.args.layout c.args.amended c.args.bytes.now (rw c.in_default.is at c.in_ok-additions.ensures)
+returns-in_default g c = search (rules, no_additions)
 
 pub returns-in_default-2 : goal.returns-in_default-2
 returns-in_default-2 g c =

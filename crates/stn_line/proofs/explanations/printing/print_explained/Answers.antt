@@ -1,12 +1,12 @@
-use Rattle.std.proofs.Common.{◌≡◌, ◌∙◌, ◌++◌, Some, None, Err, List, ℕ, sym, ap, option_map, subst}
+use Rattle.std.proofs.Common.{rules, ◌≡◌, ◌∙◌, ◌++◌, Some, None, Err, List, ℕ, sym, ap, option_map, subst}
 use Rattle.stn_line.{specs.Explanations.Explained.{IsExplained, NamesNothing, AreMeanings}, proofs.explanations.{Entries.{all_entries, names_nothing, appended}, printing.print_explained.Goals.{in-None+in_ok-append_meanings-in-None, in-Some+in-Some-entry_of+in_ok-append_explanation-in-Some-entry_of}}}
 use Rattle.stn_line.proofs.explanations.printing.print_explained.Goals as goal
 
 pub append_meanings-requires : goal.append_meanings-requires
-append_meanings-requires g c = all_entries c.table-entries.result.now c.table-entries.ensures
+append_meanings-requires g c = search (rules, all_entries)
 
 pub entry_of-requires : goal.entry_of-requires
-entry_of-requires g c = all_entries c.table-entries.result.now c.table-entries.ensures
+entry_of-requires g c = search (rules, all_entries)
 
 pub returns-in-None-entry_of-clause-unknown : goal.returns-in-None-entry_of-clause-unknown
 returns-in-None-entry_of-clause-unknown g c =

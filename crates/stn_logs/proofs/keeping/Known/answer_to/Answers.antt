@@ -8,7 +8,7 @@ pub returns-in-Some : goal.returns-in-Some
 returns-in-Some g c =
     let query = seen_query c.args.query.now in
     let same = c.is.ensures c.if-is.true in
-    let said = this_answer c.self.inside.answered c.in-Some.answered c.self.inside.plan c.in-Some.is c.self.invariant.2 in
+    let said = this_answer c.self.inside.plan c.in-Some.is c.self.invariant.2 in
     let asked = rw same at said in
     let spelled = rw (sym c.deref.ensures.value) at asked in
     subst (λ (known : Held). IsSaid query known c.deref.result.now × IsQueryRefusal query known None) c.self.view_is spelled

@@ -1,6 +1,5 @@
-use Rattle.std.proofs.lemmas.Result.{IfOk-weaker}
-use Rattle.stn_logs.proofs.Spelled.{opened_by}
+use Rattle.std.proofs.Common.{rules}
 use Rattle.stn_logs.proofs.keeping.Known.is_held.Goals as goal
 
 pub returns-in-Some-clause-same : goal.returns-in-Some-clause-same
-returns-in-Some-clause-same g c = IfOk-weaker c.has_held.result _ _ (λ has told. opened_by _ _ _ _ _ has c.in-Some.ensures told) c.has_held.ensures.told
+returns-in-Some-clause-same g c = search rules

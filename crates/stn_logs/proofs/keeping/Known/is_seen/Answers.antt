@@ -2,4 +2,4 @@ use Rattle.stn_logs.proofs.Spelled.{opened_by_look}
 use Rattle.stn_logs.proofs.keeping.Known.is_seen.Goals as goal
 
 pub returns-in-Some : goal.returns-in-Some
-returns-in-Some g c = opened_by_look _ _ _ _ _ c.is_seen.result c.in-Some.ensures c.is_seen.ensures
+returns-in-Some g c = opened_by_look _ c.in-Some.ensures c.is_seen.ensures

@@ -9,5 +9,5 @@ returns g c =
     let after = g.R.Read.remaining (counted_device c.load_plan.new.reader) in
     let is = c.in_ok-plan.ensures in
     let made = c.in_ok-of.ensures in
-    loaded _ _ _ _ c.in_ok-of.field-0 (subst (λ (log : Log). IsDecided before after (Ok log)) (sym (same_log c.in_ok-plan.plan c.in_ok-of.field-0 made.source made.state)) is.meaning)
+    loaded _ _ _ _ (subst (λ (log : Log). IsDecided before after (Ok log)) (sym (same_log c.in_ok-plan.plan c.in_ok-of.field-0 made.source made.state)) is.meaning)
     is.end (made.site ∙ is.site) (is.kept (not_err _ _)) is.used

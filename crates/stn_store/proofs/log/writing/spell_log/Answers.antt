@@ -12,7 +12,7 @@ pub returns-clause-loaded : goal.returns-clause-loaded
 returns-clause-loaded g c =
     let source = c.source.ensures.source ∙ c.base.ensures in
     let state = c.records-records.ensures.value in
-    saved_log (log_held c.args.plan.now)
+    saved_log
     (subst (λ (s : PlanSource). IsFrame (hello s)) source c.in_ok-say.ensures.sound)
     (subst (λ (s : Content). IsFrame (records s)) state c.in_ok-say-2.ensures.sound)
     (subst HasBase c.base.ensures c.source.ensures.sound.based) c.records-records.ensures.named (subst IsSound state c.state-held.ensures.sound)

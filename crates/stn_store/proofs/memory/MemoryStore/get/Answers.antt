@@ -10,9 +10,9 @@ loop-entry-preserved g c =
     let named = c.eq.ensures ∙ ap (λ (name : List ℕ). bytes_eq name c.args.name.now) c.as_str.ensures.value in
     elim c.if-eq.branch [
       | then-eq w ↦ ap (option_map (λ bytes. bytes.now)) w.found-is ∙ ap Some w.as_slice.ensures.value
-          ∙ sym (under_this _ _ c.entry-item.result c.args.name.now c.loop-entry-test.true c.entry-item.is (sym named ∙ w.if-eq.true))
+          ∙ sym (under_this _ c.args.name.now c.loop-entry-test.true c.entry-item.is (sym named ∙ w.if-eq.true))
       | else-eq w ↦ ap (option_map (λ bytes. bytes.now)) w.found-is ∙ c.loop-entry.invariant
-          ∙ sym (under_earlier _ _ c.entry-item.result c.args.name.now c.loop-entry-test.true c.entry-item.is (sym named ∙ w.if-eq.false))
+          ∙ sym (under_earlier _ c.args.name.now c.loop-entry-test.true c.entry-item.is (sym named ∙ w.if-eq.false))
     ]
 
 pub returns : goal.returns

@@ -1,23 +1,20 @@
-use Rattle.std.{proofs.{Common.{◌≡◌, ℕ, List, Some, Result, Ok, Err, refl, sym, ap, inl, inr, ◌∙◌}, lemmas.Result.IfErr-weaker}, specs.Prelude.{◌⊎◌, IfOk}}
-use Rattle.stn_store.{specs.{Log.{log_held, Failures.load_failure}, declared.log.fault.LoadFault.LoadFault, Bytes.IsLogIn, Memory.entries_of, Store.{Entry, Opens, IsUnopened, IsLack, bytes_under}}, proofs.Lacks.lack_of_memory}
+use Rattle.std.{proofs.{Common.{rules, ◌≡◌, ℕ, List, Some, Result, Ok, Err, refl, sym, ap, inl, ◌∙◌}, lemmas.Result.IfErr-weaker}, specs.Prelude.{◌⊎◌, IfOk}}
+use Rattle.stn_store.specs.{Log.{log_held, Failures.load_failure}, declared.log.fault.LoadFault.LoadFault, Bytes.IsLogIn, Memory.entries_of, Store.{Entry, Opens, IsUnopened, IsLack, bytes_under}}
 use Rattle.stn_site.specs.Held.{Held}
 use Rattle.stn_refusal.specs.declared.failure.{Failure.{Failure, TheVariants.Failed}, Fault.TheVariants.{Memory, Read}}
 use Rattle.stn_store.proofs.memory.MemoryStoreStore.load.Goals as goal
 
-of_memory : (entries : List Entry) (name : List ℕ) (site : ℕ) (known : List ℕ) (loaded : Result Held Failure) → bytes_under entries name ≡ Some known
+of_memory : (entries : List Entry) (name : List ℕ) (site : ℕ) {known : List ℕ} (loaded : Result Held Failure) → bytes_under entries name ≡ Some known
     → IfOk loaded (λ held. IsLogIn (Some known) (Ok (log_held held))) → IfOk loaded (λ held. held.site ≡ site)
     → IfOk loaded (λ held. Opens (Some entries) name site held)
-of_memory entries name site known (Ok held) there said own =
+of_memory entries name site (Ok held) there said own =
     record { said = record { bytes = said.0; there = there ∙ ap Some said.1; meant = said.2 }; own = own }
-of_memory entries name site known (Err failure) there said own = tt
+of_memory entries name site (Err failure) there said own = tt
 
 why_unopened : (entries : List Entry) (name known : List ℕ) → bytes_under entries name ≡ Some known → (failure : Failure)
     → (failure ≡ Failed Memory) ⊎ ((failure ≡ Failed Read) ⊎ ((fault : LoadFault) × IsLogIn (Some known) (Err fault) × (failure ≡ load_failure fault)))
     → IsUnopened (Some entries) name failure ⊎ IsLack (λ fault. fault ≡ Read) failure
-why_unopened entries name known there failure (inl memory) = inr (lack_of_memory (λ fault. fault ≡ Read) failure memory)
-why_unopened entries name known there failure (inr (inl read)) = inr (rw read (inr refl))
-why_unopened entries name known there failure (inr (inr why)) =
-    inl (inr (why.0, record { bytes = why.1.0; there = there ∙ ap Some why.1.1; meant = why.1.2 }, why.2))
+why_unopened entries name known there failure h = search rules
 
 pub returns-in-Some : goal.returns-in-Some
 returns-in-Some g c =
@@ -25,7 +22,7 @@ returns-in-Some g c =
     let known = c.in-Some.bytes.now in
     let there : bytes_under entries c.args.name.now ≡ Some known = sym c.in-Some.ensures in
     record {
-      opened = of_memory entries c.args.name.now c.args.site known c.read_log.result there c.read_log.ensures.said c.read_log.ensures.site;
+      opened = of_memory entries c.args.name.now c.args.site c.read_log.result there c.read_log.ensures.said c.read_log.ensures.site;
       failed = IfErr-weaker c.read_log.result _ _ (why_unopened entries c.args.name.now known there) c.read_log.ensures.failed;
     }
 
