@@ -76,7 +76,7 @@ entry_at chart base left one = if occurs chart one then sample_text one left bas
 abbrev pub left_after : Chart → ℕ → Part → ℕ
 left_after chart left one = if occurs chart one then left + legend_apart else left
 
--- the entries of those of the parts that occur, the first at a place, each further one so far behind
+-- the entries of those of the parts that occur: the first at a place, each further one to its right
 abbrev pub entries_text : Chart → ℕ → ℕ → List Part → List ℕ
 entries_text chart base left [] = []
 entries_text chart base left (one ∷ rest) = entry_at chart base left one ++ entries_text chart base (left_after chart left one) rest

@@ -64,7 +64,7 @@ solid_text chart step =
     bar_text (class_of chart step) (place_of chart (soonest chart (start_of step))) (middle_of chart step)
     (max least_width (place_of chart (soonest chart (end_of step)) - place_of chart (soonest chart (start_of step))))
 
--- from the soonest end to the latest, with the latest time behind it
+-- from the soonest end to the latest, with the latest time after it
 abbrev pub lasting_class : Chart → ℕ → List ℕ
 lasting_class chart step = if is_due chart step then codes "l" else codes "p"
 
@@ -75,7 +75,7 @@ lasting_text chart step =
     (place_of chart (latest chart (end_of step)) - place_of chart (soonest chart (end_of step)))
     else []
 
--- where the time behind the bars stands
+-- where the time after the bars stands
 abbrev pub behind : Chart → ℕ → ℕ
 behind chart step =
     max (place_of chart (latest chart (end_of step))) (place_of chart (soonest chart (start_of step)) + least_width) + 5
@@ -92,7 +92,7 @@ abbrev pub open_bar_text : Chart → ℕ → List ℕ
 open_bar_text chart step = fading_text (place_of chart (soonest chart (end_of step))) (middle_of chart step - 3)
     (line_left + line_width - place_of chart (soonest chart (end_of step)))
 
--- what stands behind the solid part
+-- what stands after the solid part
 abbrev pub rest_text : Chart → ℕ → List ℕ
 rest_text chart step = if is_open chart (end_of step) then open_bar_text chart step else lasting_text chart step ++ time_text chart step
 

@@ -136,7 +136,7 @@ impl<'a, 'b, A: Allocator> Chart<'a, 'b, A> {
         in_memory(write!(out, "' d='M{left} {middle}h{width}'/>"))
     }
 
-    // Appends what stands behind it.
+    // Appends what stands after it.
     fn append_rest(&self, out: &mut Vec<u8, A>, step: u16) -> Result<(), Memory>
         ensures { OnOk result (out.new.items ≡ out.old.items ++ row.rest_text (seen_chart self.now) step) }
     {
@@ -198,7 +198,7 @@ impl<'a, 'b, A: Allocator> Chart<'a, 'b, A> {
         if self.is_due(step) { "c" } else { "k" }
     }
 
-    // Where the time behind the bars stands.
+    // Where the time after the bars stands.
     fn behind(&self, step: u16) -> u64
         ensures { result ≡ row.behind (seen_chart self.now) step }
     {

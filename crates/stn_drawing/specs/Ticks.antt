@@ -25,7 +25,7 @@ axis_reaching left width before after bottom = record {
   bottom = bottom;
 }
 
--- where a time stands that is so far behind the beginning: in proportion, rounded down
+-- where a time stands that is so long after the beginning: in proportion, rounded down
 abbrev pub place_on : Axis → ℕ → ℕ
 place_on axis far = axis.left + axis.width * far / axis.long
 

@@ -66,7 +66,7 @@ unfoldable mutual
   row form (Word line word next) action = Err (Syntax line)
   row form (Group line children next) action = tree form line children action >>= λ found. row form next found
 
-  -- one list on a line, by its head: a literal, or a literal behind its time, or a conjunction of such; `()` is nothing
+  -- one list on a line, by its head: a literal, or a literal after its time, or a conjunction of such; `()` is nothing
   pub tree : Form → ℕ → Trees → ActionSchema → Result ActionSchema DomainFault
   tree form line End action = Ok action
   tree form line (Group at children next) action = Err (Syntax line)
@@ -84,7 +84,7 @@ unfoldable mutual
     | _ ↦ Err (Syntax line)
   ]
 
-  -- behind `at` or `over` stand the word that gives the label, and exactly one tree, which has it
+  -- after `at` or `over` stand the word that gives the label, and exactly one tree, which has it
   pub labelled : Side → Head → ℕ → Trees → ActionSchema → Result ActionSchema DomainFault
   labelled side time line End action = Err (Syntax line)
   labelled side time line (Group at children next) action = Err (Syntax line)

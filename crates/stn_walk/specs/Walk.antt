@@ -80,7 +80,7 @@ walk_of title names base ids others links repairs = record {
   axis = axis_for (sums_of (base ++ others) links) (length links);
 }
 
--- how far behind the beginning of the axis a time stands
+-- how far after the beginning of the axis a time stands
 abbrev pub along : Walk → ℤ → ℕ
 along walk time = unsigned_abs (time +ℤ pos (walk.axis.gap * walk.axis.before))
 

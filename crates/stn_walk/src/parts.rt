@@ -24,7 +24,7 @@ impl<'a, 'b, A: Allocator> Walk<'a, 'b, A> {
         sum_in(self.sums, row)
     }
 
-    // How far behind the beginning of the axis a time stands.
+    // How far after the beginning of the axis a time stands.
     fn along(&self, time: i64) -> u64
         requires { unsigned_abs time < 2 ^ 52 }
         ensures value { result ≡ is.along (seen_walk self.now) time }

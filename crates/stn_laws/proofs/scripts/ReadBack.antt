@@ -20,7 +20,7 @@ record IsOneWord (word : List ℕ) : Type 0 where
   some : is_word word ≡ true
   whole : no_gap word ≡ true
 
--- nothing, or a space and what stands behind it
+-- nothing, or a space and what stands after it
 abbrev is_apart : List ℕ → Bool
 is_apart [] = true
 is_apart (byte ∷ bytes) = byte == 32
@@ -28,7 +28,7 @@ is_apart (byte ∷ bytes) = byte == 32
 gap_free : (word : List ℕ) → no_gap word ≡ true → All (λ byte. is_gap byte ≡ false) word
 gap_free word e = search (rules, AllPass-from_list_all)
 
--- a word, a space, and what stands behind it
+-- a word, a space, and what stands after it
 words_behind : (word rest : List ℕ) → IsOneWord word → words_of (word ++ 32 ∷ rest) ≡ word ∷ words_of rest
 unfolding words_of
 words_behind word rest is = search (rules, slice_split_at, gap_free)
@@ -38,13 +38,13 @@ word_alone : (word : List ℕ) → IsOneWord word → words_of word ≡ word ∷
 unfolding words_of
 word_alone word is = search (rules, slice_split_none, gap_free)
 
--- a word and what stands apart behind it
+-- a word and what stands apart after it
 words_apart : (word tail : List ℕ) → IsOneWord word → is_apart tail ≡ true → (rest : List (List ℕ)) × (words_of (word ++ tail) ≡ word ∷ rest)
 words_apart word [] is e = search (rules, word_alone)
 words_apart word (byte ∷ bytes) is e =
     (words_of bytes, ap (λ (b : ℕ). words_of (word ++ b ∷ bytes)) (eqb-true byte 32 e) ∙ words_behind word bytes is)
 
--- five words, and what stands apart behind them
+-- five words, and what stands apart after them
 five_words : (a b c d e tail : List ℕ) → IsOneWord a → IsOneWord b → IsOneWord c → IsOneWord d → IsOneWord e → is_apart tail ≡ true
     → (rest : List (List ℕ)) × (words_of (a ++ 32 ∷ (b ++ 32 ∷ (c ++ 32 ∷ (d ++ 32 ∷ (e ++ tail))))) ≡ a ∷ (b ∷ (c ∷ (d ∷ (e ∷ rest)))))
 five_words a b c d e tail is_a is_b is_c is_d is_e apart = search (rules, words_apart, words_behind)
@@ -199,7 +199,7 @@ amends_apart old = search rules
 where_apart : (so : Bool) (word : List ℕ) → is_apart word ≡ true → is_apart (word_where so word) ≡ true
 where_apart so word e = search rules
 
--- what stands behind the bound of a record
+-- what stands after the bound of a record
 abbrev behind : Content → SiteCounter → Record → List ℕ
 behind state id one =
     done_text (is_done_mark one.mark) ++ (amends_text (map.get state.replacements id)

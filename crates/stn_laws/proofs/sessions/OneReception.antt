@@ -21,7 +21,7 @@ decided (told bytes) = inr (Ok bytes, refl)
 decided (failed fault) = inr (Err fault, refl)
 decided stage = inl tt
 
--- frames behind the last reply change nothing
+-- frames after the last reply change nothing
 stays : (source : PlanSource) (stage : Stage) (state : Content) (frames : List FrameContent) (answer : Result (List ℕ) ReplyFault) → verdict stage ≡ Some answer
     → replied source (at_stage stage state) frames ≡ at_stage stage state
 stays source stage state [] answer over = refl
