@@ -369,7 +369,16 @@ class Search:
         for path, line, what in re.findall(r"(?m)^\./(proofs/\S+?\.antt):(\d+):\d+: error(.*)$", said):
             if not re.search(r"(was|were) not checked|is not admitted", what):
                 is_new |= self.learn_of(f"{TOP}/crates/{self.crate}/{path}", int(line), what, by_name, tried.calls)
-        return is_new
+        return is_new or self.keep_of_attributes(tried)
+
+    def keep_of_attributes(self, tried):
+        """Keeps the parameters of lemmas that the crate's own attributes name: where a search fails over one, no place in a proof is told."""
+        named = set()
+        for path in glob.glob(f"{TOP}/crates/{self.crate}/src/**/*.rt", recursive=True):
+            named.update(f"Rattle.{self.crate}.{it.replace('::', '.')}" for it in re.findall(r"\bcrate::(proofs::[\w:]+)", read(path)))
+        new = {(it.name, name) for it in tried.lemmas.values() if it.name in named for name in it.implicit} - self.explicit
+        self.explicit |= new
+        return bool(new)
 
     def learn_of(self, path, line, what, by_name, calls):
         file = File(path, read(path))

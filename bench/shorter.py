@@ -192,6 +192,47 @@ def show_use(tree, is_top=True):
     return f"{path}.{{{', '.join(show_use(it, False) for it in below)}}}"
 
 
+def segments(text):
+    """Returns a part of an import as nested pairs: a name, and what stands below it, or None for an item, which may have another name."""
+    if text.startswith("{"):
+        return [it for part in parts(text[1:-1], ",") if part for it in segments(part)]
+    match = re.match(r"([^\s{}.]+)\.(?=\S)", text)
+    return [(match[1], segments(text[match.end():]))] if match else [(text, None)]
+
+
+def joined_segments(trees):
+    """Returns nested pairs with each name once."""
+    found = []
+    for name, below in trees:
+        same = next((it for it in found if it[0] == name and (it[1] is None) == (below is None)), None)
+        if same is None:
+            found.append([name, below])
+        elif below is not None:
+            same[1] = same[1] + below
+    return [(name, below and joined_segments(below)) for name, below in found]
+
+
+def shown_segments(trees):
+    texts = [name if below is None else f"{name}.{shown_segments(below)}" for name, below in trees]
+    return texts[0] if len(texts) == 1 else f"{{{', '.join(texts)}}}"
+
+
+def one_use(text):
+    """Returns a file with one `use` for all items of a crate. The path of a module has a line of its own."""
+    found = {}
+    for match in USE.finditer(text):
+        crate = re.match(r"Rattle\.\w+\.", match[1])
+        if crate and "{" in match[1]:
+            found.setdefault(crate[0], []).append(match)
+    edits = []
+    for first, *others in (it for it in found.values() if len(it) > 1):
+        trees = [tree for it in (first, *others) for tree in segments(" ".join(it[1].split()))]
+        edits += [(first.span(), f"use {shown_segments(joined_segments(trees))}\n"), *((it.span(), "") for it in others)]
+    for (start, end), new in sorted(edits, reverse=True):
+        text = text[:start] + new + text[end:]
+    return text
+
+
 def without_imports(text):
     return USE.sub("", text)
 
@@ -448,7 +489,7 @@ def drop_unused(crate):
                     while begin and lines[begin - 1].strip().startswith("--"):
                         begin -= 1
                     lines[begin:item.end], gone = [], True
-            write(path, re.sub(r"\n{3,}", "\n\n", pruned("\n".join(lines))))
+            write(path, re.sub(r"\n{3,}", "\n\n", one_use(pruned("\n".join(lines)))))
     subprocess.run(["rt", "fmt"], cwd=f"{TOP}/crates/{crate}", stdout=subprocess.DEVNULL, stderr=subprocess.DEVNULL)
     if not check(crate)[1]:
         for path, text in before.items():
