@@ -33,6 +33,8 @@ void fail(const std::string &program, const std::string &log) {
     std::cout << "status " << missing.end() << ' ' << missing.end() << '\n';
     stn::Shell plan(program, log, 1);
     show("two lines", [&] { plan.ask("report\nreport"); });
+    show("a comment", [&] { plan.ask(" # report"); });
+    std::cout << plan.ask("explain 4")[0] << '\n';
     show("a refusal", [&] { plan.ask("add s1 s1"); });
     plan.end();
     show("after its end", [&] { plan.ask("report"); });

@@ -25,6 +25,8 @@ no log: Failed: fault file
 asked again: Failed: the shell has ended
 status 1 1
 two lines: invalid_argument
+a comment: invalid_argument
+refused 4: no such event
 a refusal: Refused: refused 5
 after its end: Failed: the shell has ended
 """

@@ -39,6 +39,11 @@ struct Refused : std::runtime_error {
     }
 };
 
+// Whether an answer that begins with this line is a refusal. What `explain` prints of a refusal is none.
+inline bool is_refusal(const std::string &line) {
+    return line.rfind("refused ", 0) == 0 && line.find(':') == std::string::npos;
+}
+
 // A device or memory failed, and the shell has ended. The text is the shell's own, such as `fault file`, or the system's.
 struct Failed : std::runtime_error {
     using std::runtime_error::runtime_error;
@@ -167,6 +172,8 @@ class Shell {
     std::vector<std::string> ask(const std::string &words) {
         if (process == 0) throw Failed("the shell has ended");
         if (words.find('\n') != std::string::npos) throw std::invalid_argument("a command is one line");
+        std::size_t first = words.find_first_not_of(" \t\r");
+        if (first == std::string::npos || words[first] == '#') throw std::invalid_argument("an empty line and a comment have no answer");
         std::vector<std::string> answer;
         std::string line;
         bool is_whole = true;
@@ -174,7 +181,7 @@ class Shell {
         give(words + '\n');
         while ((is_whole = take_line(line)) && !line.empty()) answer.push_back(line);
         if (!is_whole) end();
-        if (!answer.empty() && answer[0].rfind("refused ", 0) == 0) throw Refused(answer[0]);
+        if (!answer.empty() && is_refusal(answer[0])) throw Refused(answer[0]);
         if (!is_whole) throw failure();
         return answer;
     }

@@ -8,6 +8,7 @@ A refusal is raised as `Refused`, and changes nothing. When a device or memory f
 ended: whether its last change is in the log, `records` in a new shell says. An answer may be waited for without end, as
 while another program holds the log; a limit of your own is yours to set, by a thread or `kill`.
 """
+import re
 import subprocess
 
 
@@ -37,6 +38,12 @@ def millis_of(text):
     return -millis if text.startswith("-") else millis
 
 
+def refusal(lines):
+    """The refusal that an answer is, or None. What `explain` prints of a refusal is none."""
+    match = re.fullmatch(r"refused (\d+)(?: (.*))?", lines[0]) if lines else None
+    return match and Refused(int(match[1]), match[2] or "")
+
+
 class Shell:
     """One shell on the log of a site."""
 
@@ -46,6 +53,8 @@ class Shell:
 
     def ask(self, *words):
         """The lines that a command prints. A negative time as a word of its own comes after the word `--`."""
+        if re.match(r"\s*(#|$)", " ".join(map(str, words))):
+            raise ValueError("an empty line and a comment have no answer")
         lines = []
         try:
             print(*words, file=self.process.stdin, flush=True)
@@ -53,12 +62,10 @@ class Shell:
             pass  # It has ended: what it printed last says why.
         for line in iter(self.process.stdout.readline, "\n"):
             if not line:
-                first = lines[0].split(maxsplit=2) if lines else []
-                raise Refused(int(first[1]), *first[2:]) if first[:1] == ["refused"] else Failed(" ".join(map(str, words)))
+                raise refusal(lines) or Failed(" ".join(map(str, words)))
             lines.append(line.rstrip("\n"))
-        if lines and lines[0].startswith("refused "):
-            _, code, *place = lines[0].split(maxsplit=2)
-            raise Refused(int(code), *place)
+        if refusal(lines):
+            raise refusal(lines)
         return lines
 
     def end(self):
