@@ -192,29 +192,19 @@ def show_use(tree, is_top=True):
     return f"{path}.{{{', '.join(show_use(it, False) for it in below)}}}"
 
 
-def segments(text):
-    """Returns a part of an import as nested pairs: a name, and what stands below it, or None for an item, which may have another name."""
-    if text.startswith("{"):
-        return [it for part in parts(text[1:-1], ",") if part for it in segments(part)]
-    match = re.match(r"([^\s{}.]+)\.(?=\S)", text)
-    return [(match[1], segments(text[match.end():]))] if match else [(text, None)]
+def nested(tree):
+    """Returns a parsed import with one name at each level."""
+    path, below = tree
+    first, *rest = path.split(".")
+    return (first, [nested((".".join(rest), below))]) if rest else (first, below and [nested(it) for it in below])
 
 
-def joined_segments(trees):
-    """Returns nested pairs with each name once."""
-    found = []
+def joined(trees):
+    """Returns such imports with each name once."""
+    found = {}
     for name, below in trees:
-        same = next((it for it in found if it[0] == name and (it[1] is None) == (below is None)), None)
-        if same is None:
-            found.append([name, below])
-        elif below is not None:
-            same[1] = same[1] + below
-    return [(name, below and joined_segments(below)) for name, below in found]
-
-
-def shown_segments(trees):
-    texts = [name if below is None else f"{name}.{shown_segments(below)}" for name, below in trees]
-    return texts[0] if len(texts) == 1 else f"{{{', '.join(texts)}}}"
+        found.setdefault((name, below is None), []).extend(below or [])
+    return [(name, None if is_item else joined(below)) for (name, is_item), below in found.items()]
 
 
 def one_use(text):
@@ -226,8 +216,8 @@ def one_use(text):
             found.setdefault(crate[0], []).append(match)
     edits = []
     for first, *others in (it for it in found.values() if len(it) > 1):
-        trees = [tree for it in (first, *others) for tree in segments(" ".join(it[1].split()))]
-        edits += [(first.span(), f"use {shown_segments(joined_segments(trees))}\n"), *((it.span(), "") for it in others)]
+        [tree] = joined(nested(parse_use(" ".join(it[1].split()))) for it in (first, *others))
+        edits += [(first.span(), f"use {show_use(tree)}\n"), *((it.span(), "") for it in others)]
     for (start, end), new in sorted(edits, reverse=True):
         text = text[:start] + new + text[end:]
     return text

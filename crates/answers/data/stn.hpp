@@ -173,7 +173,8 @@ class Shell {
         if (process == 0) throw Failed("the shell has ended");
         if (words.find('\n') != std::string::npos) throw std::invalid_argument("a command is one line");
         std::size_t first = words.find_first_not_of(" \t\r");
-        if (first == std::string::npos || words[first] == '#') throw std::invalid_argument("an empty line and a comment have no answer");
+        bool is_command = first != std::string::npos && words[first] != '#';
+        if (!is_command) throw std::invalid_argument("an empty line and a comment have no answer");
         std::vector<std::string> answer;
         std::string line;
         bool is_whole = true;

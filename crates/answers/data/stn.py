@@ -64,8 +64,9 @@ class Shell:
             if not line:
                 raise refusal(lines) or Failed(" ".join(map(str, words)))
             lines.append(line.rstrip("\n"))
-        if refusal(lines):
-            raise refusal(lines)
+        refused = refusal(lines)
+        if refused:
+            raise refused
         return lines
 
     def end(self):
