@@ -1,4 +1,5 @@
 pub mod Absent
+pub mod Flags
 pub mod Hints
 pub mod Reasons
 pub mod Told

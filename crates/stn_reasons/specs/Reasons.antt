@@ -1,9 +1,9 @@
 -- Why a command ends without an answer, as it is told after the line that says so.
-use Rattle.std.specs.{Prelude.{◌≡◌, ◌⊎◌, ℕ, ◌*◌, ◌-◌, ◌==◌, ◌&&◌, nat_le, bytes_eq, Bool, List, [], ◌∷◌, ◌++◌, codes, decimal, length, take, Option, Some, None, option_map, if◌then◌else◌, ⊤}, String.string_bytes}
+use Rattle.std.specs.{Prelude.{◌≡◌, ◌⊎◌, ℕ, ◌*◌, ◌-◌, ◌==◌, ◌&&◌, nat_le, bytes_eq, Bool, List, [], ◌∷◌, ◌++◌, codes, decimal, length, take, Option, Some, None, option_map, if◌then◌else◌, ⊤}, String.string_bytes, Option.{option_or, unwrap_or}}
 use Rattle.stn_cause.specs.{Cause.trouble_text, declared.cause.Cause.Cause}
 use Rattle.stn_cause.specs.declared.cause.Cause.TheVariants as cause
 use Rattle.stn_text.specs.Bytes.{line_feed}
-use Rattle.stn_lift.specs.PlanSource.{steps_of}
+use Rattle.stn_lift.specs.PlanSource.{PlanSource, steps_of}
 use Rattle.stn_site.specs.Held.{Held}
 use Rattle.stn_line.specs.{Explanations.Explained.IsMeant, declared.words.{SiteLog.SiteLog, NewLog.TheVariants.{Bare, Init, Loosen}, LogChange.TheVariants.Merge, LogQuestion.TheVariants.Check, Line.{Line, TheVariants.{Run, Make, Change, Ask, Explain, Shell, Serve, Send}}}}
 use Rattle.stn_refusal.specs.{Codes.number_of, declared.{failure.{Failure.{Failure, TheVariants.{Refused, Failed}}, Fault.Fault}, refusal.{Place.{Place, TheVariants.Number}, Refusal.Refusal}}}
@@ -11,7 +11,7 @@ use Rattle.stn_refusal.specs.declared.code.Code.TheVariants as code
 use Rattle.stn_refusal.specs.declared.failure.Fault.TheVariants as fault
 use Rattle.stn_logs.specs.{Loosening.SaysFragile, Words.{slack_read, word_refused}, declared.words.RefusedWord.RefusedWord}
 use Rattle.stn_store.specs.{Steps.Entries, Store.{IsUnopened, Opens}, declared.trouble.Trouble.Trouble}
-use Rattle.stn_reasons.specs.{Absent.absent_event, Told.{events_text, times_count_text, word_text}}
+use Rattle.stn_reasons.specs.{Absent.absent_event, Flags.{flag_text, names_count_text, names_file, names_refused, steps_flag}, Told.{events_text, times_count_text, word_text}}
 
 -- ---- what a refusal is about
 -- the log of a command
@@ -35,10 +35,14 @@ abbrev pub times_given : Line → Option ℕ
 times_given (Ask log (Check times) names) = Some (length times.items)
 times_given line = None
 
--- the plan of a command's log has so many steps; None where that is not known
+-- the plan of a command's log is made from this
+abbrev pub HasPlan : Entries → Line → PlanSource → Type 0
+HasPlan entries line source = (log : SiteLog) × (held : Held) × (log_of line ≡ Some log) × Opens entries log.name.now log.site held × (held.source ≡ source)
+
+-- it has so many steps; None where that is not known
 abbrev pub HasSteps : Entries → Line → Option ℕ → Type 0
 HasSteps entries line None = ⊤
-HasSteps entries line (Some steps) = (log : SiteLog) × (held : Held) × (log_of line ≡ Some log) × Opens entries log.name.now log.site held × (steps_of held.source ≡ steps)
+HasSteps entries line (Some steps) = (source : PlanSource) × HasPlan entries line source × (steps_of source ≡ steps)
 
 -- the text of a domain is refused by these numbers, that of a plan by those
 abbrev pub refuses_domain : ℕ → Bool
@@ -88,29 +92,44 @@ missing_text steps word = word ++ no_event_of steps
 abbrev pub absent_text : ℕ → List ℕ → List ℕ
 absent_text steps word = if bytes_eq word (codes "z") then codes "z: the origin, which is never done" ++ line_feed ∷ [] else missing_text (Some steps) word
 
--- a command names an event that the plan of so many steps lacks, or the origin in place of an event that takes place
-pub record TellsEvent (steps : ℕ) (line : Line) (refusal : Refusal) (text : List ℕ) : Type 0 where
-  pub word : List ℕ
-  pub code : refusal.code ≡ number_of code.NoEvent
-  pub absent : absent_event steps line ≡ Some word
-  pub told : text ≡ absent_text steps word
+-- what is said of a word for an event that a plan of so many steps lacks, or for the origin in place of an event that takes place; or
+-- else of a flag for steps
+abbrev pub absent_told : ℕ → Line → List ℕ
+absent_told steps line = unwrap_or (option_or (option_map (absent_text steps) (absent_event steps line)) (option_map (flag_text steps) (steps_flag line))) []
+
+-- what is said of times that are not one for each event of a plan of so many steps, or else of a file of names
+abbrev pub counts_told : ℕ → Line → List ℕ
+counts_told steps line = unwrap_or (option_or (option_map (λ times. times_count_text times (2 * steps)) (times_given line)) (option_map (names_count_text steps) (names_file line))) []
+
+-- what is said of flags for names that a plan can't have, or else of counts
+abbrev pub form_told : PlanSource → Line → List ℕ
+form_told source line = unwrap_or (option_map (λ told. told ++ line_feed ∷ []) (names_refused line source)) (counts_told (steps_of source) line)
+
+-- what is said of a refusal by a log's plan
+abbrev pub plan_told : PlanSource → Line → ℕ → List ℕ
+plan_told source line number = if number == number_of code.NoEvent then absent_told (steps_of source) line
+    else (if number == number_of code.Line then form_told source line else [])
+
+-- what is said of a word that `explain` doesn't know
+abbrev pub code_told : Line → List ℕ
+code_told (Explain (Some word)) = word.now ++ (codes ": no number of a refusal, and no word of a fault (explain lists them)" ++ line_feed ∷ [])
+code_told line = []
 
 -- what is not robust of the plan that a command loosens
 abbrev pub TellsPromise : Entries → Line → List ℕ → Type 0
 TellsPromise entries (Make log (Loosen domain plan early late robust)) text = SaysFragile entries domain.now plan.now (slack_read early late) text
 TellsPromise entries line text = ⊥
 
--- a refusal of a command whose words are well: a log that has a fault, an event that the plan lacks, times, one for each event, or what
--- is not robust
+-- a refusal of a command whose words are well: a log that has a fault, what the log's plan refuses, what is not robust, or what can't be
+-- explained
 pub data TellsLog (entries : Entries) (line : Line) (refusal : Refusal) (text : List ℕ) : Type 0 where
   of_log : (log : SiteLog) → log_of line ≡ Some log → IsUnopened entries log.name.now (Refused refusal)
       → text ≡ file_text log.name.now refusal → TellsLog entries line refusal text
   of_other : (other : List ℕ) → other_of line ≡ Some other → IsUnopened entries other (Refused refusal)
       → text ≡ file_text other refusal → TellsLog entries line refusal text
-  of_event : (steps : ℕ) → HasSteps entries line (Some steps) → TellsEvent steps line refusal text → TellsLog entries line refusal text
-  of_times : (steps times : ℕ) → HasSteps entries line (Some steps) → refusal.code ≡ number_of code.Line
-      → times_given line ≡ Some times → text ≡ times_count_text times (2 * steps) → TellsLog entries line refusal text
+  of_plan : (source : PlanSource) → HasPlan entries line source → text ≡ plan_told source line refusal.code → TellsLog entries line refusal text
   of_promise : refusal.code ≡ number_of code.NotRobust → TellsPromise entries line text → TellsLog entries line refusal text
+  of_code : log_of line ≡ None → text ≡ code_told line → TellsLog entries line refusal text
 
 abbrev pub TellsFile : Option (List ℕ) → Entries → Line → Refusal → List ℕ → Type 0
 TellsFile (Some name) entries line refusal text = text ≡ file_text name refusal

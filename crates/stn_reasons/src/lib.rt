@@ -10,6 +10,7 @@ pub use waiting::waiting_of;
 
 mod absent;
 mod file;
+mod flags;
 mod hints;
 mod reason;
 mod telling;

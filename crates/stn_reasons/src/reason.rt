@@ -1,11 +1,11 @@
 //! Why a command ends without an answer, as it is told after the line that says so.
 
-ghost use Rattle.std.specs.Prelude.{◌≡◌, ◌⊎◌, ◌*◌, ◌-◌, ◌++◌, [], Some, IfOk, IfSome, OnOk, codes, decimal, length, option_map, take};
+ghost use Rattle.std.specs.Prelude.{◌≡◌, ◌⊎◌, ◌*◌, ◌-◌, ◌++◌, ◌∷◌, [], Some, IfOk, IfSome, OnOk, codes, decimal, length, option_map, take};
 ghost use Rattle.stn_line.specs.Explanations.Explained.{IsMeant};
+ghost use Rattle.stn_text.specs.Bytes.{line_feed};
 ghost use Rattle.stn_reasons.specs.Reasons as spec;
-ghost use Rattle.stn_reasons.specs.Reasons.{HasSteps, IsReason, IsReasonInLine, IsRefusalReason, TellsAbout, TellsEvent, TellsFile, TellsLog, TellsPromise, TellsWord};
+ghost use Rattle.stn_reasons.specs.Reasons.{HasSteps, IsReason, IsReasonInLine, IsRefusalReason, TellsAbout, TellsFile, TellsLog, TellsPromise, TellsWord};
 ghost use Rattle.stn_logs.specs.Words.{word_refused};
-ghost use Rattle.stn_reasons.specs.Told as told;
 ghost use Rattle.stn_refusal.specs.{Codes.number_of, declared.failure.Failure.TheVariants.Refused};
 ghost use Rattle.stn_refusal.specs.declared.code.Code.TheVariants as code;
 ghost use Rattle.stn_lift.specs.PlanSource.{steps_of as plan_steps};
@@ -14,10 +14,12 @@ ghost use Rattle.stn_store.specs.Store.{IsUnopened, Opens};
 
 use crate::absent::absent_event;
 use crate::file::{append_file, log_of, refused_file};
+use crate::flags::{append_flag, append_names_count, names_file, refused_names, steps_flag};
 use crate::telling::{append_absent, append_counts, append_refused_word};
 use itoa::Buffer;
 use std::alloc::Allocator;
 use stn_cause::{Cause, append_trouble};
+use stn_lift::Base;
 use stn_line::{Line, LogChange, LogQuestion, NewLog, SiteLog, meaning_of};
 use stn_logs::{RefusedWord, fragile_text, refused_word};
 use stn_records::Site;
@@ -176,8 +178,22 @@ impl<'c, 'l, S: Store<A>, A: Allocator + Copy> RefusedCommand<'c, 'l, S, A> {
         }
         match log_of(self.line) {
             Some(log) => self.about_opened(log),
-            None => Ok(Vec::new(self.alloc)),
+            None => self.about_code(),
         }
+    }
+
+    // The line for a word that `explain` doesn't know.
+    fn about_code(&self) -> Result<Vec<u8, A>, Memory>
+        ensures { IfOk result (λ text. text.items ≡ spec.code_told self.now.line.now) }
+    {
+        let mut text = Vec::new(self.alloc);
+        if let Line::Explain { code: Some(word) } = self.line {
+            text.extend_from_slice(word.as_bytes())?;
+            text.extend_from_slice(
+                b": no number of a refusal, and no word of a fault (explain lists them)\n",
+            )?;
+        }
+        Ok(text)
     }
 
     // What is not robust of the plan that the command loosens, where that can be found out.
@@ -209,11 +225,13 @@ impl<'c, 'l, S: Store<A>, A: Allocator + Copy> RefusedCommand<'c, 'l, S, A> {
             ⊎ (text.items ≡ [])) }
     {
         match self.store.load(log.name, log.site) {
-            Ok(plan) => {
-                let steps = plan.base().steps();
-                drop(plan);
-                self.about_plan(log.site, steps)
-            }
+            Ok(plan) => match other_of(self.line) {
+                Some(other) => {
+                    drop(plan);
+                    self.about_other(other, log.site)
+                }
+                None => self.about_plan(plan.base()),
+            },
             Err(failure) => self.unopened_text(log.name, failure),
         }
     }
@@ -227,21 +245,6 @@ impl<'c, 'l, S: Store<A>, A: Allocator + Copy> RefusedCommand<'c, 'l, S, A> {
             self.file_text(name)
         } else {
             Ok(Vec::new(self.alloc))
-        }
-    }
-
-    // What a refusal by a plan of so many steps is about.
-    fn about_plan(&self, site: Site, steps: u16) -> Result<Vec<u8, A>, Memory>
-        requires { HasSteps (S.entries self.now.store.now) self.now.line.now (Some steps) }
-        ensures { IfOk result (λ text. TellsLog (S.entries self.now.store.now) self.now.line.now self.now.refusal text.items
-            ⊎ (text.items ≡ [])) }
-    {
-        match other_of(self.line) {
-            Some(other) => self.about_other(other, site),
-            None => match times_given(self.line) {
-                Some(times) => self.counts_text(times, steps),
-                None => self.event_text(steps),
-            },
         }
     }
 
@@ -259,29 +262,61 @@ impl<'c, 'l, S: Store<A>, A: Allocator + Copy> RefusedCommand<'c, 'l, S, A> {
         }
     }
 
-    // The line for times of which there are too many or too few, where these are refused; else nothing.
-    fn counts_text(&self, times: usize, steps: u16) -> Result<Vec<u8, A>, Memory>
-        ensures { IfOk result (λ text. ((self.now.refusal.code ≡ number_of code.Line) × (text.items ≡ told.times_count_text times (2 * steps)))
-            ⊎ (text.items ≡ [])) }
+    // What a refusal by the plan of the log is about.
+    fn about_plan(&self, base: &Base<A>) -> Result<Vec<u8, A>, Memory>
+        ensures { IfOk result (λ text. text.items ≡ spec.plan_told base.now self.now.line.now self.now.refusal.code) }
     {
-        if self.refusal.code == Code::Line.number() {
-            let mut text = Vec::new(self.alloc);
-            append_counts(self.alloc, times, 2 * usize::from(steps), &mut text)?;
-            Ok(text)
+        if self.refusal.code == Code::NoEvent.number() {
+            self.absent_text(base.steps())
+        } else if self.refusal.code == Code::Line.number() {
+            self.about_form(base)
         } else {
             Ok(Vec::new(self.alloc))
         }
     }
 
-    // The line for an event that the plan lacks, or that never takes place, where that is refused; else nothing.
-    fn event_text(&self, steps: u16) -> Result<Vec<u8, A>, Memory>
-        ensures { IfOk result (λ text. TellsEvent steps self.now.line.now self.now.refusal text.items ⊎ (text.items ≡ [])) }
+    // The line for an event or a step that a plan of so many steps lacks, or for an event that never takes place.
+    fn absent_text(&self, steps: u16) -> Result<Vec<u8, A>, Memory>
+        ensures { IfOk result (λ text. text.items ≡ spec.absent_told steps self.now.line.now) }
     {
         let mut text = Vec::new(self.alloc);
-        if self.refusal.code == Code::NoEvent.number()
-            && let Some(word) = absent_event(self.line, steps)
-        {
+        if let Some(word) = absent_event(self.line, steps) {
             append_absent(word, steps, &mut text)?;
+        } else if let Some(flag) = steps_flag(self.line) {
+            append_flag(flag, steps, &mut text)?;
+        }
+        Ok(text)
+    }
+
+    // The line for flags of names that the plan can't have, for times, or for a file of names.
+    fn about_form(&self, base: &Base<A>) -> Result<Vec<u8, A>, Memory>
+        ensures { IfOk result (λ text. text.items ≡ spec.form_told base.now self.now.line.now) }
+    {
+        match refused_names(self.line, base) {
+            Some(told) => self.line_of(told),
+            None => self.about_counts(base.steps()),
+        }
+    }
+
+    // A line of its own.
+    fn line_of(&self, told: &str) -> Result<Vec<u8, A>, Memory>
+        ensures { IfOk result (λ text. text.items ≡ told.now ++ line_feed ∷ []) }
+    {
+        let mut text = Vec::new(self.alloc);
+        text.extend_from_slice(told.as_bytes())?;
+        text.extend_from_slice(b"\n")?;
+        Ok(text)
+    }
+
+    // The line for times of which there are too many or too few, or for a file with names of other steps.
+    fn about_counts(&self, steps: u16) -> Result<Vec<u8, A>, Memory>
+        ensures { IfOk result (λ text. text.items ≡ spec.counts_told steps self.now.line.now) }
+    {
+        let mut text = Vec::new(self.alloc);
+        if let Some(times) = times_given(self.line) {
+            append_counts(self.alloc, times, 2 * usize::from(steps), &mut text)?;
+        } else if let Some(name) = names_file(self.line) {
+            append_names_count(name, steps, &mut text)?;
         }
         Ok(text)
     }

@@ -23,7 +23,7 @@ pub fn append_refused_word<A: Allocator + Copy>(
     let mut line = Vec::new(alloc);
     line.extend_from_slice(refused.word.as_bytes())?;
     line.extend_from_slice(b": ")?;
-    append_form(refused.form, refused.failure, steps, &mut line)?;
+    append_form(refused, steps, &mut line)?;
     line.extend_from_slice(b"\n")?;
     out.extend_from_slice(&line)
 }
@@ -86,21 +86,20 @@ pub fn append_counts<A: Allocator + Copy>(
 
 // Appends what a word is instead of what it should be.
 fn append_form<A: Allocator>(
-    form: Form,
-    failure: Failure,
+    refused: &RefusedWord<'_>,
     steps: Option<u16>,
     out: &mut Vec<u8, A>,
 ) -> Result<(), Memory>
-    ensures { OnOk result (out.new.items ≡ out.old.items ++ spec.form_text steps form failure) }
+    ensures { OnOk result (out.new.items ≡ out.old.items ++ spec.form_text steps refused.now.word.now refused.now.form refused.now.failure) }
 {
-    match form {
+    match refused.form {
         Form::Event => {
             out.extend_from_slice(b"not an event (")?;
             append_events(steps, out)?;
             out.extend_from_slice(b")")
         }
-        Form::Id => out.extend_from_slice(b"not an id (as 1.2)"),
-        Form::Time => out.extend_from_slice(time_text(failure)),
+        Form::Id => out.extend_from_slice(id_text(refused.word)),
+        Form::Time => out.extend_from_slice(time_text(refused.word, refused.failure)),
         Form::Tolerance => out.extend_from_slice(b"a tolerance below 0"),
         Form::Steps => out.extend_from_slice(b"not steps (as 2,4-6)"),
         Form::Owned => out.extend_from_slice(
@@ -110,16 +109,38 @@ fn append_form<A: Allocator>(
     }
 }
 
+// What a word that should be an id is instead.
+fn id_text(word: &str) -> &'static [u8]
+    ensures { result.now ≡ spec.id_reason word.now }
+{
+    if word.as_bytes().starts_with(b"plan.") {
+        b"a bound of the plan, which stays (records have ids, as 1.2)"
+    } else {
+        b"not an id (as 1.2)"
+    }
+}
+
 // What a word that should be a time is instead.
-fn time_text(failure: Failure) -> &'static [u8]
-    ensures { result.now ≡ spec.time_reason failure }
+fn time_text(word: &str, failure: Failure) -> &'static [u8]
+    ensures { result.now ≡ spec.time_reason word.now failure }
 {
     match failure.code() {
         Some(code) if code == Code::TooFine.number() => b"finer than a millisecond (0.001)",
         Some(code) if code == Code::OutOfRange.number() => {
             b"more than a year from the origin (31536000 seconds)"
         }
-        _ => b"not a time (seconds, as 5, 2.5 or 0.001)",
+        _ => untimely(word),
+    }
+}
+
+// What a word that spells no time is instead.
+fn untimely(word: &str) -> &'static [u8]
+    ensures { result.now ≡ spec.untimely word.now }
+{
+    if word == "*" {
+        b"not a time (for an open side, leave out --lo or --hi)"
+    } else {
+        b"not a time (seconds, as 5, 2.5 or 0.001)"
     }
 }
 

@@ -1,10 +1,15 @@
-use Rattle.std.proofs.{Common.{◌∙◌, sym, ap, inl, inr, ⊎_elim}, lemmas.Result.IfOk-weaker}
-use Rattle.stn_lift.specs.PlanSource.{steps_of}
-use Rattle.stn_reasons.{specs.Reasons.of_log, proofs.Opened.refuses}
+use Rattle.std.proofs.{Common.{◌≡◌, ◌∙◌, Some, sym, ap, inl, inr, ⊎_elim, option_map}, lemmas.Result.IfOk-weaker}
+use Rattle.stn_reasons.{specs.Reasons.{of_log, of_other, of_plan, other_of}, proofs.Opened.refuses}
 use Rattle.stn_reasons.proofs.reason.RefusedCommand.about_opened.Goals as goal
 
-pub about_plan-requires : goal.about_plan-requires
-about_plan-requires g c = (c.args.log.now, c.in-Ok.plan, c.requires, c.in-Ok.ensures.opened, sym (c.steps-steps.ensures.value ∙ ap steps_of c.base.ensures))
+pub returns-in-Some : goal.returns-in-Some
+returns-in-Some g c =
+    let other : other_of c.args.self.now.line.now ≡ Some c.in-Some.other.now = sym c.other_of.ensures ∙ ap (option_map (λ name. name.now)) c.in-Some.is in
+    IfOk-weaker c.about_other.result _ _ (λ text told. ⊎_elim (λ is. inl (of_other c.in-Some.other.now other is.0 is.1)) inr told) c.about_other.ensures
+
+pub returns-in-None : goal.returns-in-None
+returns-in-None g c = IfOk-weaker c.about_plan.result _ _
+    (λ text told. inl (of_plan _ (c.args.log.now, c.in-Ok.plan, c.requires, c.in-Ok.ensures.opened, sym c.base.ensures) told)) c.about_plan.ensures
 
 pub returns-in-Err : goal.returns-in-Err
 returns-in-Err g c =
