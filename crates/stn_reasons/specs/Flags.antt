@@ -28,14 +28,14 @@ steps_flag (Ask log (Draw drawing) names) = Some (codes "--own")
 steps_flag line = None
 
 -- the steps of a plan of so many
-abbrev pub steps_text : ℕ → List ℕ
-steps_text steps = if steps == 0 then codes "the plan has no step" else (if steps == 1
+abbrev pub all_steps_text : ℕ → List ℕ
+all_steps_text steps = if steps == 0 then codes "the plan has no step" else (if steps == 1
     then codes "the plan has one step"
     else codes "the plan has steps 1 to " ++ decimal steps)
 
 -- the line for a flag that names a step that the plan lacks
 abbrev pub flag_text : ℕ → List ℕ → List ℕ
-flag_text steps flag = flag ++ (codes ": " ++ (steps_text steps ++ line_feed ∷ []))
+flag_text steps flag = flag ++ (codes ": " ++ (all_steps_text steps ++ line_feed ∷ []))
 
 -- the line for a file of names, whose plan has another number of steps
 abbrev pub names_count_text : ℕ → List ℕ → List ℕ

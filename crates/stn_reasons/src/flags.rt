@@ -71,7 +71,7 @@ pub fn append_flag<A: Allocator>(flag: &str, steps: u16, out: &mut Vec<u8, A>) -
 
 // Appends which steps a plan of so many has.
 fn append_steps<A: Allocator>(steps: u16, out: &mut Vec<u8, A>) -> Result<(), Memory>
-    ensures { OnOk result (out.new.items ≡ out.old.items ++ spec.steps_text steps) }
+    ensures { OnOk result (out.new.items ≡ out.old.items ++ spec.all_steps_text steps) }
 {
     match steps {
         0 => out.extend_from_slice(b"the plan has no step"),
