@@ -1,7 +1,7 @@
 -- The earliest, the latest and the soonest times that a search finds.
 use Rattle.std.{proofs.{Common.{rules, ◌≡◌, ℕ, ℤ, pos, ◌+◌, ◌≤◌, ◌≤ℤ◌, neg_ℤ, Bool, List, ◌++◌, length, map, append_assoc, arith}, lemmas.{Int.ints, List.{get_or-map, Elements.All-append}}}, specs.Prelude.{Vec, All, Option, Some, None, MatchOption}}
 use Rattle.stn_time.specs.Time.{horizon}
-use Rattle.stn_net.{specs.{Difference.{Difference, NamesEvents}, Schedule.{IsSchedule, HasSchedule, times_of}, Windows.{Dispatch.{IsLeft, CanWaitUntil}, Leading.AreFloorsBelow, Soonest.{AreEarliest, AreLatest, AreSoonest}}}, proofs.{Readiness.left_within, Ends.{earliest_of_tightest, latest_of_tightest}, Soonest.{waits_above, soonest_of_earliest}}}
+use Rattle.stn_net.{specs.{Difference.{Difference, NamesEvents}, Schedule.{IsSchedule, HasSchedule, times_of}, Windows.{Dispatch.{IsLeft, CanWaitUntil}, Leading.AreFloorsBelow, Soonest.{AreEarliest, AreLatest, AreSoonest}}}, proofs.{Readiness.left_within, Ends.{earliest_of_tightest, latest_of_tightest}, Floors.{waits_above, soonest_of_earliest}}}
 use Rattle.stn_conflict.{specs.{declared.relaxation.Search.Search, Distances.{AreDistancesFrom, AreDistancesTo}, Relaxation.{AreDistances, HasTables, IsNetwork}}, proofs.Relaxing.network_near}
 
 -- the distances that a search has found

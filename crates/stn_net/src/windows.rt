@@ -1,19 +1,10 @@
-//! The windows of a plan's events, which event may run next, and a rehearsal of the whole rest of a
-//! plan.
+//! What comes next in a plan, and why it can't be rehearsed; which events are left.
 //!
 //! A list of tests says which events are done: one for each event, the origin's first. The origin's
 //! counts for nothing.
 
 pub use answers::{Next, RehearseFault};
-pub use dispatch::{is_left, next, ready, ready_times};
-pub use ends::window;
-pub use laws::{next_unique, rehearsal_unique, rehearsed_or_overdue, something_comes_next};
-pub use rehearsal::rehearse;
-pub use soonest::{overdue, soonest_next, soonest_runs};
+pub use left::is_left;
 
 mod answers;
-mod dispatch;
-mod ends;
-mod laws;
-mod rehearsal;
-mod soonest;
+mod left;

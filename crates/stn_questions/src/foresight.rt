@@ -10,7 +10,8 @@ ghost use Rattle.stn_questions.specs.Foresight.{IsForecast, AreSoonestOf};
 
 use std::alloc::Allocator;
 use stn_conflict::{latest, soonest};
-use stn_net::{Event, Next, RehearseFault, overdue, soonest_next, soonest_runs};
+use stn_matrix::{overdue, soonest_next, soonest_runs};
+use stn_net::{Event, Next, RehearseFault};
 use stn_site::SitePlan;
 use stn_time::{Memory, Ms};
 

@@ -6,7 +6,8 @@ ghost use Rattle.stn_site.specs.{Bounds.all_bounds, Report.done_events, Own.done
 
 use crate::replica::Replica;
 use std::alloc::Allocator;
-use stn_net::{Event, Matrix, Next, RehearseFault, next, rehearse};
+use stn_matrix::{Matrix, next, rehearse};
+use stn_net::{Event, Next, RehearseFault};
 use stn_site::{EVENT_FLAGS, Own, flags_among};
 use stn_time::Ms;
 

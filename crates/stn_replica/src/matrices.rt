@@ -10,7 +10,7 @@ use crate::plan_matrix::PlanMatrix;
 use crate::risen::Risen;
 use std::alloc::Allocator;
 use stn_lift::Base;
-use stn_net::Matrix;
+use stn_matrix::Matrix;
 use stn_records::{Id, Records};
 use stn_time::Memory;
 

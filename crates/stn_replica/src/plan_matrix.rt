@@ -7,7 +7,7 @@ use std::alloc::Allocator;
 use std::marker::Model;
 use std::rc::Rc;
 use stn_lift::Base;
-use stn_net::Matrix;
+use stn_matrix::Matrix;
 use stn_time::Memory;
 
 /// The matrix of a plan's own bounds, which is made once for all replicas of the plan and then only read.

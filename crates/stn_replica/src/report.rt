@@ -4,7 +4,8 @@ ghost use Rattle.stn_site.specs.{Report.{most_report, IsReport}, Windows.AreWind
 
 use crate::replica::Replica;
 use std::alloc::Allocator;
-use stn_net::{Event, Matrix, window};
+use stn_matrix::{Matrix, window};
+use stn_net::Event;
 use stn_time::{Memory, Ms};
 
 impl<A: Allocator + Copy> Replica<A> {

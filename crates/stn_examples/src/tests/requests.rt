@@ -1,7 +1,8 @@
 use std::alloc::Global;
 use std::rc::Rc;
 use stn_lift::Base;
-use stn_net::{Event, Matrix};
+use stn_matrix::Matrix;
+use stn_net::Event;
 use stn_records::{Id, Site};
 use stn_refusing::Refusing;
 use stn_replica::Replica;

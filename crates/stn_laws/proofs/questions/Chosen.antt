@@ -1,6 +1,6 @@
 -- The first link of which something holds that can be told.
 use Rattle.std.{proofs.Common.{rules, ◌≡◌, ◌⊎◌, inl, inr, ℕ, ◌+◌, ◌/◌, ◌%◌, ◌<◌, eqb, refl, arith}, specs.Prelude.if◌then◌else◌}
-use Rattle.stn_net.proofs.Told.{Told, least_below}
+use Rattle.stn_matrix.proofs.Told.{Told, least_below}
 use Rattle.stn_conflict.{specs.{declared.links.{Link.Link, Side.TheVariants.{Upper, Lower}}, Arcs.rank}, proofs.OneCycle.rank_tells}
 
 -- the link of a rank

@@ -2,7 +2,8 @@
 use Rattle.std.proofs.lemmas.Grind.{common_steps}
 use Rattle.std.{proofs.{Common.{rules, ◌≡◌, inl, inr, ℕ, zero, suc, ◌+◌, ◌<◌, ◌≤◌, List, [], ◌∷◌, ◌++◌, length, refl, sym, subst, ap, ◌∙◌, arith}, lemmas.{Bool.{cases_lt, cases_eq}, Int.ints, List.length_push}}, specs.{Prelude.{ℤ, ◌+ℤ◌, ◌≤ℤ◌}, List.AllByRecursion}}
 use Rattle.stn_time.proofs.Each.{each_parted, each_pushed}
-use Rattle.stn_net.{specs.Difference.{Difference, NamesEvents}, proofs.Told.{Told, both_told, told_as, same_told, least_below}}
+use Rattle.stn_net.specs.Difference.{Difference, NamesEvents}
+use Rattle.stn_matrix.proofs.Told.{Told, both_told, told_as, same_told, least_below}
 use Rattle.stn_conflict.{specs.{declared.links.{Link.Link, Side.Side}, Arcs.{arc, arc_of, IsChain, weight_of}, Named.{IsTight, IsTightChain, IsLevel, IsLevelStep, IsFirstStep, IsWay}}, proofs.{Tightness.{link_reaches, tight_from_sum, sum_from_tight}, Chains.{chain-push, chain-unpush, last_of}, OneCycle.level_unique, Steps.rank_within}}
 use Rattle.stn_laws.proofs.questions.{Found.{AreFound, tightest_found}, Chosen.{first_below, first_of_some}}
 

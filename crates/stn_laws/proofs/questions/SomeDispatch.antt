@@ -1,6 +1,7 @@
 -- From each time on, each plan and each state have what comes next, a rehearsal and a text of the events that are ready.
 use Rattle.std.{proofs.Common.{◌≡◌, ◌⊎◌, inl, inr, ℕ, ℤ, ◌+◌, Bool, List, ◌++◌, length, codes, refl}, specs.List.flat_map}
-use Rattle.stn_net.{specs.{Event.event_text, Schedule.HasSchedule, declared.windows.answers.Next.{Next, TheVariants.{Run, AllDone, Overdue}}, Windows.{Dispatch.IsNext, Rehearsal.{IsRehearsal, IsRehearseFault}}, Matrix.Table.Table}, proofs.{Fixed.{table_of, exact_of_tightest}, SomeNext.{AreFlagged, some_next as next_by_table}, SomeRehearsal.rehearsed_or_overdue, Rehearsals.{rehearsed_schedule, rehearsed_rising, rehearsed_in_time, rehearsed_once}}}
+use Rattle.stn_net.specs.{Event.event_text, Schedule.HasSchedule, declared.windows.answers.Next.{Next, TheVariants.{Run, AllDone, Overdue}}, Windows.{Dispatch.IsNext, Rehearsal.{IsRehearsal, IsRehearseFault}}, Matrix.Table.Table}
+use Rattle.stn_matrix.proofs.{Fixed.{table_of, exact_of_tightest}, SomeNext.{AreFlagged, some_next as next_by_table}, SomeRehearsal.rehearsed_or_overdue, Rehearsals.{rehearsed_schedule, rehearsed_rising, rehearsed_in_time, rehearsed_once}}
 use Rattle.stn_net.specs.declared.windows.answers.RehearseFault.TheVariants as fault
 use Rattle.stn_lift.specs.PlanSource.{PlanSource, events_of}
 use Rattle.stn_records.specs.Content.{Content, AllProper}

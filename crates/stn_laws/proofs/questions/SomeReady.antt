@@ -1,6 +1,7 @@
 -- The events that are ready have a list in their order.
 use Rattle.std.{proofs.{Common.{rules, ◌≡◌, ◌⊎◌, inl, inr, ℕ, ℤ, zero, suc, ◌+◌, ◌≤◌, Bool, eqb, cond, List, [], ◌∷◌, ◌++◌, get_or, All, Option, Some, None, refl, ◌∙◌, arith}, lemmas.List.{Elements.{All-nil, All-cons, All-push}, Kept.AllPairs-cons, Sorted.{IsPermutation-refl, IsPermutation-cons, IsPermutation-middle, IsPermutation-trans, All-permutation, sum_by-IsPermutation}}}, specs.List.{AllPairs, Sorted.IsPermutation}}
-use Rattle.stn_net.{specs.{Difference.Difference, Matrix.Table.Table, Windows.Dispatch.AreReadyTimes}, proofs.{Readiness.left_within, ReadyTimes.some_ready_times, SomeNext.AreFlagged}}
+use Rattle.stn_net.{specs.{Difference.Difference, Matrix.Table.Table, Windows.Dispatch.AreReadyTimes}, proofs.Readiness.left_within}
+use Rattle.stn_matrix.proofs.{ReadyTimes.some_ready_times, SomeNext.AreFlagged}
 use Rattle.stn_questions.{specs.{declared.ready_event.ReadyEvent.ReadyEvent, Ready.{IsBefore, AreReadyEvents}}, proofs.ReadyLists.{counted, HasTimes, HasEachBelow, pushed_other, ready_pushed, ready_kept}}
 use Rattle.stn_laws.proofs.questions.OneReady.{first_before}
 

@@ -1,5 +1,5 @@
 use Rattle.std.proofs.{Common.{◌≡◌, List, [], ◌∷◌, ◌++◌, ap, ◌∙◌, append_assoc, arith, rules}, lemmas.{Bool.false≢true, List.Elements.All-push}}
-use Rattle.stn_net.{specs.{Difference.{Difference, NamesEvents}, Windows.{Dispatch.IsLeft, Leading.floor_at}}, proofs.Soonest.{floor_pushed, floor_kept}}
+use Rattle.stn_net.{specs.{Difference.{Difference, NamesEvents}, Windows.{Dispatch.IsLeft, Leading.floor_at}}, proofs.Floors.{floor_pushed, floor_kept}}
 use Rattle.stn_conflict.proofs.times.append_floors.Goals.{then-is_left+in_ok-push, else-is_left}
 use Rattle.stn_conflict.proofs.times.append_floors.Goals as goal
 

@@ -1,5 +1,6 @@
 use Rattle.std.proofs.Common.{inr, refl, arith}
-use Rattle.stn_net.{specs.{Schedule.{HasSchedule, times_of}, Windows.{Dispatch.IsOverdue, Soonest.AreSoonest}}, proofs.Rehearsals.{overdue_cannot_wait, rehearsed_schedule, rehearsed_rising, rehearsed_in_time, rehearsed_once}}
+use Rattle.stn_net.specs.{Schedule.{HasSchedule, times_of}, Windows.{Dispatch.IsOverdue, Soonest.AreSoonest}}
+use Rattle.stn_matrix.proofs.Rehearsals.{overdue_cannot_wait, rehearsed_schedule, rehearsed_rising, rehearsed_in_time, rehearsed_once}
 use Rattle.stn_lift.specs.PlanSource.{events_of}
 use Rattle.stn_site.{specs.Bounds.all_bounds, proofs.Rest.rest_of_plan}
 use Rattle.stn_questions.specs.Foresight.{AreSoonestOf}

@@ -1,5 +1,6 @@
 use Rattle.std.{proofs.{Common.{◌≡◌, ◌≢◌, ◌<◌, ◌∷◌, ◌++◌, [], pos, None, length, cond, eqb, ap, sym, ◌∙◌, arith, rules}, lemmas.{Bool.{false≢true, Decides.Decides-int_eq}, List.{get_or_read, Elements.All-push, Sorted.{All-permutation, sum_by-IsPermutation}}}}, specs.Ordering.{ord_max, int_cmp}}
-use Rattle.stn_net.{specs.{Schedule.times_of, Windows.Dispatch.{IsLeft, AreReadyTimes}}, proofs.{Readiness.left_within, Soonest.{ready_until_last, ready_never}}}
+use Rattle.stn_net.{specs.{Schedule.times_of, Windows.Dispatch.{IsLeft, AreReadyTimes}}, proofs.Readiness.left_within}
+use Rattle.stn_matrix.proofs.Soonest.{ready_until_last, ready_never}
 use Rattle.stn_questions.{specs.declared.ready_event.ReadyEvent.ReadyEvent, proofs.{ReadyLists.{HasTimes, pushed_other, sorted_in_order, ready_pushed, ready_kept}, ready.ready_until.Goals.{then-is_left+then-eq+in_ok-push, else-is_left, else-is_left-via-then-is_left+else-eq, else-is_left-via-else-is_left}}}
 use Rattle.stn_questions.proofs.ready.ready_until.Goals as goal
 

@@ -1,0 +1,11 @@
+pub mod Entries
+pub mod Passing
+pub mod Coming
+pub mod Rehearsals
+pub mod UnderWay
+pub mod ReadyTimes
+pub mod Told
+pub mod Fixed
+pub mod SomeNext
+pub mod SomeRehearsal
+pub mod Soonest

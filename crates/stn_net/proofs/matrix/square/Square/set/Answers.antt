@@ -1,6 +1,0 @@
-use Rattle.std.proofs.{lemmas.Grind.common_steps, Common.arith}
-use Rattle.stn_net.proofs.Entries.{written-set}
-use Rattle.stn_net.proofs.matrix.square.Square.set.Goals as goal
-
-pub returns-clause-written : goal.returns-clause-written
-returns-clause-written g c = grind (arith, common_steps, written-set)
