@@ -1,7 +1,8 @@
 ghost use Rattle.std.specs.{Prelude.{◌≡◌, ◌⊎◌, ◌<◌, ◌^◌, ℕ, List, Some, Result, Err, IsErrAnd}, List.AllByRecursion};
 ghost use Rattle.stn_effects.specs.Effects.{EndAlike};
 ghost use Rattle.stn_line.specs.declared.words.Line.{Line};
-ghost use Rattle.stn_logs.specs.{Commands.DoesLine, Words.word_refused, declared.words.RefusedWord.RefusedWord};
+ghost use Rattle.stn_asked.specs.{Words.word_refused, declared.words.RefusedWord.RefusedWord};
+ghost use Rattle.stn_logs.specs.Commands.{DoesLine};
 ghost use Rattle.stn_refusal.specs.declared.failure.Failure.{Failure};
 ghost use Rattle.stn_store.specs.{Log.{Log, IsLog}, Steps.Entries, Store.{Entry, IsLack}, declared.log.fault.LoadFault.LoadFault};
 

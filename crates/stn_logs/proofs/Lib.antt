@@ -1,3 +1,4 @@
 mod Made
 mod Spelled
 mod Refused
+mod Done

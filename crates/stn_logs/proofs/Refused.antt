@@ -3,7 +3,8 @@ use Rattle.std.proofs.Common.{rules, ◌≡◌, ◌⊎◌, Result, Ok, Err, ap}
 use Rattle.stn_effects.specs.Effects.{failing}
 use Rattle.stn_refusal.specs.{declared.failure.{Failure.Failure, Fault.Fault}, Refusals.out_of_memory}
 use Rattle.stn_store.{specs.Steps.Entries}
-use Rattle.stn_logs.specs.{Commands.Reads, declared.words.RefusedWord.RefusedWord}
+use Rattle.stn_asked.specs.declared.words.RefusedWord.{RefusedWord}
+use Rattle.stn_logs.specs.Commands.{Reads}
 
 abbrev pub failed : {X : Type 0} → Result X RefusedWord → Result X Failure
 failed = failing (λ refused. refused.failure)

@@ -9,7 +9,8 @@ use Rattle.stn_loosen.specs.Asked.{IsLoosened, IsLooseningRefusal}
 use Rattle.stn_command.specs.{Change.{made_by, made_text}, Query.Query, Guarding.guard_text, Named.{IsSaidBy, IsRefusedBy}, Words.no_such_word}
 use Rattle.stn_guard.specs.Adding.{AddsGuard, IsGuardRefusal}
 use Rattle.stn_store.specs.{Log.log_held, Merging.IsMergeRefusal, Steps.{Entries, FindsFree, FindsText, LoadsLog, Saves, SavesNew}}
-use Rattle.stn_logs.specs.{Words.{Update, change, merge, guard, slack_read, update_read, question_read}, declared.{changes.Outcome.Outcome, words.RefusedWord.RefusedWord}}
+use Rattle.stn_asked.specs.{Words.{Update, change, merge, guard, slack_read, update_read, question_read}, declared.words.RefusedWord.RefusedWord}
+use Rattle.stn_logs.specs.declared.changes.Outcome.{Outcome}
 use Rattle.stn_logs.specs.declared.changes.Outcome.TheVariants as came
 use Rattle.stn_line.specs.{Explanations.Explained.{IsExplained, NamesNothing}, declared.words.{SiteLog.SiteLog, NameWords.NameWords, NewLog.TheVariants.{Bare, Init, Loosen}, Line.{Line, TheVariants.{Run, Make, Change, Ask, Explain, Shell, Serve, Send}}}}
 use Rattle.stn_refusal.specs.declared.failure.{Failure.Failure, Fault.Fault}

@@ -1,4 +1,3 @@
 pub mod Commands
-pub mod Loosening
-pub mod Words
 pub mod Keeping
+pub mod Hints

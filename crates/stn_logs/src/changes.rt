@@ -6,13 +6,14 @@ ghost use Rattle.stn_command.specs.Guarding.{guard_text};
 ghost use Rattle.stn_lift.specs.{Failures.base_failure, PlanSource.{plan_source, base_of}};
 ghost use Rattle.stn_records.specs.Content.{no_content};
 ghost use Rattle.stn_site.specs.{Change.change_refusal, Failures.replica_failure};
-ghost use Rattle.stn_logs.specs.{Commands.{seen_outcome, IsChanged, IsGuarded, IsUnguarded, Updates}, Words.{merge, seen_update}};
+ghost use Rattle.stn_asked.specs.Words.{merge, seen_update};
+ghost use Rattle.stn_logs.specs.Commands.{seen_outcome, IsChanged, IsGuarded, IsUnguarded, Updates};
 ghost use Rattle.stn_refusal.specs.declared.failure.Failure.TheVariants.{Failed};
 ghost use Rattle.stn_refusal.specs.declared.failure.Fault.TheVariants as lack;
 
-use crate::asked::Update;
 use std::alloc::Allocator;
 use std::rc::Rc;
+use stn_asked::Update;
 use stn_command::{Made, print_guard};
 use stn_guard::add_guard;
 use stn_lift::{Base, Source};

@@ -7,15 +7,15 @@ ghost use Rattle.stn_effects.specs.Effects.{seen};
 ghost use Rattle.stn_lift.specs.PlanSource.{plan_source};
 ghost use Rattle.stn_command.specs.Query.{seen_query};
 ghost use Rattle.stn_line.specs.declared.words.Line.TheVariants.{Make};
-ghost use Rattle.stn_logs.specs.{Words.seen_update, Commands.{FindsSource, FindsNames, MakesLog, SavesMade, AnswersAsked, UpdatesLog, DoesLine}};
+ghost use Rattle.stn_asked.specs.Words.{seen_update};
+ghost use Rattle.stn_logs.specs.Commands.{FindsSource, FindsNames, MakesLog, SavesMade, AnswersAsked, UpdatesLog, DoesLine};
 ghost use Rattle.stn_store.specs.{Log.log_held, Store.{IsMissing, IsLack}, Steps.{FindsFree, LoadsLog, SavesNew}};
 
-use crate::asked::{Update, read_question, read_update};
 use crate::changes::{Outcome, copied, make_update, opened};
 use crate::explaining::explain;
 use crate::keeping::Kept;
-use crate::words::read_tolerance;
 use std::alloc::Allocator;
+use stn_asked::{Update, read_question, read_tolerance, read_update};
 use stn_command::{Query, no_such_word, say_named};
 use stn_lift::Source;
 use stn_line::{Line, NameWords, NewLog, SiteLog};

@@ -1,17 +1,13 @@
-//! The commands on logs: what each changes or says, by the words of its command line.
+//! The commands on logs: what each changes or says, by the words of its command line, and what people may not expect of a change.
 #![tactic(auto)]
 
-pub use asked::refused_word;
 pub use commands::{answer, answer_with};
-pub use fragile::fragile_text;
+pub use hints::{Hint, hints_of};
 pub use keeping::{Kept, Known, find_log};
-pub use words::{Form, RefusedWord};
 
 mod answered;
-mod asked;
 mod changes;
 mod commands;
 mod explaining;
-mod fragile;
+mod hints;
 mod keeping;
-mod words;

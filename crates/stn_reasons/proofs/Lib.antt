@@ -1,4 +1,3 @@
-mod Done
 mod Opened
 mod Steps
 mod OneLine

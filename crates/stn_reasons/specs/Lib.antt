@@ -1,6 +1,6 @@
 pub mod Absent
 pub mod Flags
-pub mod Hints
+pub mod Loosening
 pub mod Reasons
 pub mod Told
 pub mod Waiting

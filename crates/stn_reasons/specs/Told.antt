@@ -2,8 +2,8 @@
 use Rattle.std.specs.{Prelude.{ℕ, ◌==◌, nat_eq, bytes_eq, List, [], ◌∷◌, ◌++◌, codes, decimal, Option, Some, None, if◌then◌else◌}, List.starts_with}
 use Rattle.stn_text.specs.Bytes.{line_feed}
 use Rattle.stn_refusal.specs.{Codes.number_of, Refusals.code_of, declared.{failure.Failure.Failure, code.Code.TheVariants.{TooFine, OutOfRange}}}
-use Rattle.stn_logs.specs.declared.words.{Form.Form, RefusedWord.RefusedWord}
-use Rattle.stn_logs.specs.declared.words.Form.TheVariants as form
+use Rattle.stn_asked.specs.declared.words.{Form.Form, RefusedWord.RefusedWord}
+use Rattle.stn_asked.specs.declared.words.Form.TheVariants as form
 
 -- the events of a plan of so many steps; of any plan, where that is not known
 abbrev pub events_text : Option ℕ → List ℕ

@@ -2,7 +2,7 @@
 use Rattle.std.specs.Prelude.{◌≡◌, ◌⊎◌, ℕ, List, [], ◌∷◌, ◌++◌, codes, Option, Some, None, is_some, if◌then◌else◌}
 use Rattle.stn_text.specs.Bytes.{line_feed}
 use Rattle.stn_line.specs.declared.words.Line.{Line, TheVariants.Change}
-use Rattle.stn_logs.specs.Words.{word_refused}
+use Rattle.stn_asked.specs.Words.{word_refused}
 
 -- the log that a command changes, if no word refuses it; it is held from its load to its save
 abbrev pub changed_log : Line → Option (List ℕ)

@@ -4,7 +4,7 @@ ghost use Rattle.stn_reasons.specs.Told as spec;
 
 use itoa::Buffer;
 use std::alloc::Allocator;
-use stn_logs::{Form, RefusedWord};
+use stn_asked::{Form, RefusedWord};
 use stn_refusal::{Code, Failure};
 use stn_text::append_decimal;
 use stn_time::Memory;

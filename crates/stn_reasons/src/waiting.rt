@@ -5,8 +5,8 @@ ghost use Rattle.stn_reasons.specs.Waiting as spec;
 ghost use Rattle.stn_reasons.specs.Waiting.{TellsWaiting};
 
 use std::alloc::Allocator;
+use stn_asked::refused_word;
 use stn_line::Line;
-use stn_logs::refused_word;
 use stn_store::Store;
 use stn_time::Memory;
 

@@ -7,7 +7,8 @@ use Rattle.stn_effects.specs.{Effects.{Effect, Then, Repeats, Catches, Gives, se
 use Rattle.stn_exec.specs.Script.{is_skipped}
 use Rattle.stn_line.specs.{Commands.stn, declared.words.{SiteLog.SiteLog, Line.{Line, TheVariants.{Run, Make, Change, Ask, Explain, Shell, Serve, Send}}}}
 use Rattle.stn_logs.specs.Commands.{DoesLine}
-use Rattle.stn_reasons.specs.{Hints.IsHinted, Reasons.IsReasonInLine, Waiting.TellsWaiting}
+use Rattle.stn_logs.specs.Hints.{IsHinted}
+use Rattle.stn_reasons.specs.{Reasons.IsReasonInLine, Waiting.TellsWaiting}
 use Rattle.stn_shell.specs.{Asking.{AskFor, no_text, not_of_shell}, Lines.TakesLine, Outside.{Outside, outside, InStore, Mentions, OnStandardOutput, OnError, TellsOnly}}
 use Rattle.stn_store.specs.Steps.{LoadsLog}
 use Rattle.stn_refusal.specs.{Printed.refusal_text, Refusals.{refused_at, out_of_memory}, declared.{failure.{Failure.{Failure, TheVariants.{Refused, Failed}}, Fault.Fault}, refusal.Refusal.Refusal}}

@@ -2,7 +2,7 @@
 
 ghost use Rattle.std.specs.Prelude.{◌≡◌, MatchResult};
 ghost use Rattle.stn_effects.specs.Printing.{device_of, TellsText};
-ghost use Rattle.stn_reasons.specs.Hints.{IsHinted};
+ghost use Rattle.stn_logs.specs.Hints.{IsHinted};
 ghost use Rattle.stn_refusal.specs.declared.failure.{Failure.TheVariants.Failed, Fault.TheVariants.Net as FaultOfNet};
 ghost use Rattle.stn_shell.specs.Outside.{TellsSome};
 
@@ -12,8 +12,7 @@ use stn_cause::Cause;
 use stn_device::Counted;
 use stn_effects::tell;
 use stn_line::Line;
-use stn_logs::Kept;
-use stn_reasons::hints_of;
+use stn_logs::{Kept, hints_of};
 use stn_refusal::{Failure, Fault};
 use stn_store::{Store, Trouble};
 use stn_time::Memory;

@@ -13,7 +13,8 @@ use Rattle.stn_refusal.specs.declared.failure.{Failure.Failure, Fault.Fault}
 use Rattle.stn_effects.{specs.Effects.{Effect, Then, Finds, Settles, EndAlike}, proofs.Endings.{ChangesNothing, EndSo, makes_same, reads_same, then_alike, then_done_alike, gives_alike, gives_lacks, lacks_alike, finds_alike, makes_alike, reads_alike, as_alike}}
 use Rattle.stn_records.specs.Content.{Content}
 use Rattle.stn_line.specs.declared.words.{SiteLog.SiteLog, NameWords.NameWords, NewLog.TheVariants.{Bare, Init, Loosen}, Line.{Line, TheVariants.{Make, Change, Ask, Explain}}}
-use Rattle.stn_logs.specs.{Words.{Update, change, merge, guard}, Commands.{SavesUpdated, SavesMade, MakesLog, FindsSource, IsUnguarded, Updates, UpdatesLog, own_plan_text, FindsNames, SaysAsked, AnswersAsked, IsExplainRefusal, DoesLine}}
+use Rattle.stn_asked.specs.Words.{Update, change, merge, guard}
+use Rattle.stn_logs.specs.Commands.{SavesUpdated, SavesMade, MakesLog, FindsSource, IsUnguarded, Updates, UpdatesLog, own_plan_text, FindsNames, SaysAsked, AnswersAsked, IsExplainRefusal, DoesLine}
 
 one_error : {X E : Type 0} (f g : E) → (let none : Result X E = Err f in none) ≡ Err g → f ≡ g
 one_error f g e = cc

@@ -5,7 +5,8 @@ use Rattle.stn_effects.specs.Effects.{Effect, Then}
 use Rattle.stn_line.specs.declared.words.{NewLog.TheVariants.Loosen, Line.{Line, TheVariants.{Make, Change, Ask}}}
 use Rattle.stn_refusal.specs.declared.failure.{Failure.Failure, Fault.Fault}
 use Rattle.stn_store.specs.{Steps.Entries, Store.IsLack}
-use Rattle.stn_logs.specs.{Commands.{Reads, DoesLine}, Words.{refused_by, word_refused}, declared.words.RefusedWord.RefusedWord}
+use Rattle.stn_asked.specs.{Words.{refused_by, word_refused}, declared.words.RefusedWord.RefusedWord}
+use Rattle.stn_logs.specs.Commands.{Reads, DoesLine}
 
 module _ (Fails : Fault → Type 0) (refused : RefusedWord) where
   abbrev IsRefused : Result (List ℕ) Failure → Type 0

@@ -5,7 +5,8 @@ use Rattle.stn_lift.specs.PlanSource.{PlanSource}
 use Rattle.stn_records.specs.Content.{Content}
 use Rattle.stn_line.specs.declared.words.{NewLog.TheVariants.{Bare, Init, Loosen}, Line.{Line, TheVariants.{Make, Change, Ask, Explain}}}
 use Rattle.stn_site.specs.{Held.Held}
-use Rattle.stn_logs.specs.{Words.{Update, change, guard, merge}, Commands.{Updated, updated, unchanged, SavesUpdated, SavesMade, FindsSource, Updates, FindsNames, DoesLine}}
+use Rattle.stn_asked.specs.Words.{Update, change, guard, merge}
+use Rattle.stn_logs.specs.Commands.{Updated, updated, unchanged, SavesUpdated, SavesMade, FindsSource, Updates, FindsNames, DoesLine}
 use Rattle.stn_refusal.specs.declared.failure.{Fault.Fault}
 
 module _ (Fails : Fault → Type 0) where

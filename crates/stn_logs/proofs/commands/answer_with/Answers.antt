@@ -2,7 +2,8 @@ use Rattle.std.proofs.Common.{option_map, refl}
 use Rattle.stn_effects.{specs.Effects.{stopped, went}, proofs.Endings.makes_of}
 use Rattle.stn_store.proofs.Lacks.{passed_on}
 use Rattle.stn_line.specs.Explanations.Explained.{IsExplained}
-use Rattle.stn_logs.{specs.{Words.{seen_update, seen_asked}, Commands.IsExplainRefusal}, proofs.Refused.unread}
+use Rattle.stn_asked.specs.Words.{seen_update, seen_asked}
+use Rattle.stn_logs.{specs.Commands.IsExplainRefusal, proofs.Refused.unread}
 use Rattle.stn_logs.proofs.commands.answer_with.Goals as goal
 
 pub returns-in-Make : goal.returns-in-Make
