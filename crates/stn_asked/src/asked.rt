@@ -30,7 +30,8 @@ pub enum Update<'a, A: Allocator> {
     Guard(Vec<OwnedSteps, A>),
 }
 
-/// Reads the words of a change.
+/// Reads the words of a change. Refused for the first word that can't be read, in the order in which they are read: ids,
+/// events, then times, the lower side before the upper. Lack of memory may come in place of any answer.
 pub fn read_update<'a, A: Allocator + Copy>(
     alloc: A,
     change: &LogChange<'a>,
@@ -118,7 +119,9 @@ fn choice_of<A: Allocator>(steps: &Option<Vec<StepRange, A>>, starts: bool) -> C
     }
 }
 
-/// Reads the words of a question of a log.
+/// Reads the words of a question of a log. Refused for the first word that can't be read, in the order in which they are read:
+/// steps before the time; of a picture the steps of sites, the arrows, the present. Lack of memory may come in place of any
+/// answer.
 pub fn read_question<'a, A: Allocator + Copy>(
     alloc: A,
     log: &SiteLog<'a>,

@@ -207,6 +207,9 @@ pub fn read_bound<'a>(
 }
 
 /// The tolerance that the words of two times spell; a time without a word is 0.
+///
+/// Refused in this order: as `Ms::read` refuses the word of `early`, then that of `late`; as 70 where `early`, then where
+/// `late`, is below 0.
 #[tactic(auto, unfolding(crate::specs::Words::slack_read))]
 pub fn read_tolerance<'a>(
     early: Option<&'a str>,

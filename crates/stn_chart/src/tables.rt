@@ -54,7 +54,7 @@ pub fn is_open_in(windows: &[(Ms, Ms)], event: usize) -> bool
     HALF_YEAR.max(soonest_in(windows, event)) < latest_in(windows, event)
 }
 
-// Whether a step stands below another.
+// Whether another step stands above a step: it starts sooner, or as soon and has the lesser number.
 fn is_above(windows: &[(Ms, Ms)], step: u16, other: u16) -> bool
     ensures { result ≡ is_above windows.now step other }
 {

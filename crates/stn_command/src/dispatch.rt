@@ -12,7 +12,8 @@ use stn_questions::{append_event_line, next_with, rehearse_with};
 use stn_site::{BoundName, SitePlan};
 use stn_time::{Memory, Ms};
 
-/// Appends the name of the first bound that times break, or that they are a schedule.
+/// Appends the name of the first bound that times break, or that they are a schedule. After an error a part of it may stand
+/// there.
 pub fn append_check<B: Allocator>(
     broken: Option<BoundName>,
     out: &mut Vec<u8, B>,

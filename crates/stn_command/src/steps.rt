@@ -15,7 +15,8 @@ use stn_time::Memory;
 
 /// The steps that a word names: numbers and ranges of them with `,` between, as `2,4-6`.
 ///
-/// Refused as 70 where the word is not of this form, or names a step 0, or a range that falls; then where memory runs out.
+/// Refused as 70 where the word is not of this form, or names a step 0, or a range that falls. Lack of memory may come in place
+/// of any answer.
 #[tactic(auto, unfolding(crate::specs::Steps::steps_read))]
 pub fn read_steps<A: Allocator + Copy>(alloc: A, word: &str) -> Result<Vec<StepRange, A>, Failure>
     ensures { MatchResult result (λ steps. named.steps_read word.now ≡ Ok steps.items)
@@ -48,7 +49,7 @@ fn read_ranges<A: Allocator>(alloc: A, words: &[&str]) -> Result<Vec<StepRange, 
 /// Adds the steps that a word gives to a site, as `2:4-6`. After an error nothing is added.
 ///
 /// Refused as 70 where the word is not of this form, or names a site that is not from 1 to 64, or a step that is given
-/// already; then where memory runs out.
+/// already. Lack of memory may come in place of any answer.
 #[tactic(auto, unfolding(crate::specs::Steps::owned_too))]
 pub fn read_owned<A: Allocator + Copy>(
     alloc: A,

@@ -17,7 +17,7 @@ pub fn print<W: Write>(text: &[u8], out: &mut Counted<W>) -> Result<(), Failure>
     Ok(())
 }
 
-/// Prints a line that is to be seen before the program goes on.
+/// Prints a text that is to be seen before the program goes on. Fault: `Write`, after which a part of it may be printed.
 pub fn print_now<W: Write>(text: &[u8], out: &mut Counted<W>) -> Result<(), Failure>
     ensures printed { OnOk result (Prints (device_of W.contents out.old) (device_of W.contents out.new) text.now) }
     ensures failed { IfErr result (IsUnprinted (device_of W.contents out.old) (device_of W.contents out.new) text.now) }

@@ -17,10 +17,10 @@ use stn_session::{ServeFault, Served};
 use stn_site::SiteCopy;
 use stn_store::Store;
 
-/// Serves so many sites, as they come, one after another. Each session begins with what the log says by now, and ends by itself
-/// alone, however it ends; a state that its records made another one is saved before the reply to them is written. Then what the log
-/// says by then is taken in, the log is saved, and a line is printed. Status 0. When no site can be let in, the log can't be taken in
-/// or saved, or the line can't be printed, that is told and the status is 1.
+/// Serves so many sites, as they come, one after another. Each session begins with what the log says by now, and however it
+/// ends, the next site is served; a state that its records made another one is saved before the reply to them is written. Then
+/// what the log says by then is taken in, the log is saved, and a line is printed. Status 0. When no site can be let in, the
+/// log can't be taken in or saved, or the line can't be printed, that is told and the status is 1.
 pub fn serve_on<
     T: AllocGlobal,
     S: Store<Global>,

@@ -18,7 +18,8 @@ pub type Talk<'a, C> = UntilDeadline<Connection<'a, C>>;
 /// A site at the other end of a connection.
 pub type Peer<'a, C> = Partner<Talk<'a, C>, Talk<'a, C>>;
 
-/// The site at the other end of a connection, which may take this time from now on.
+/// The site at the other end of a connection, which may take this time from now on. Fault: `Net`, where the clock can't be
+/// read, or the connection can't be used both ways.
 pub fn meet<C: Clock>(clock: &C, stream: TcpStream, limit: Duration) -> Result<Peer<'_, C>, Failure>
     ensures limited { IfOk result (λ peer. MayTake peer (as_nanos limit)) }
     ensures reads { IfOk result (λ peer. failure_count peer.reader ≡ 0) }

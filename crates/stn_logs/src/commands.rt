@@ -32,7 +32,8 @@ struct OpenLog<H: Drop, A: Allocator> {
 }
 
 /// Does a command on a log: the answer. A refused command changes nothing; nor does one for which memory runs out or a device of
-/// the store fails. `run`, `shell`, `serve` and `send` are no commands on a log, and are refused as words of a wrong form.
+/// the store fails, but for a log that was saved as a file and whose folder then could not be forced to the disk. `run`, `shell`,
+/// `serve` and `send` are no commands on a log, and are refused as words of a wrong form.
 pub fn answer<S: Store<A>, A: Allocator + Copy>(
     alloc: A,
     store: &mut S,

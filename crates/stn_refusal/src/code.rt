@@ -26,11 +26,11 @@ pub enum Code {
     DomainTooDeep,
     /// A domain uses what is not supported.
     DomainUnsupported,
-    /// A word of a domain should be a number.
+    /// The duration of an action is no time of at least 0.
     DomainNumber,
     /// A domain says something twice.
     DomainTwice,
-    /// A variable of a domain has no meaning.
+    /// A term of a domain begins with `?`, and is no parameter of its action.
     DomainVariable,
     /// The text of a plan has too many bytes.
     PlanTooLong,

@@ -17,16 +17,18 @@ pub enum Fault {
     Bound,
     /// Memory ran out.
     Memory,
-    /// A file can't be opened, made or renamed.
+    /// A file can't be opened, made, locked, linked or renamed.
     File,
-    /// An address can't be bound or reached.
+    /// An address can't be bound or reached in time, a connection can't be accepted, or the clock can't be read.
     Net,
 }
 
 /// Why a call or a command ends without its answer. Each type of faults says its failure by `From`.
 #[derive(Clone, Copy, Debug, PartialEq, Eq)]
 pub enum Failure {
+    /// What was asked is refused.
     Refused(Refusal),
+    /// A device failed, or memory ran out.
     Failed(Fault),
 }
 

@@ -27,8 +27,9 @@ use stn_time::Memory;
 // What is said of a command line that a shell doesn't do.
 const NOT_OF_SHELL: &[u8] = b"error: not a command of a shell\n";
 
-/// Does each line of an input as the command on the log, and answers it, before it reads more. Its status is 0 where no line was refused,
-/// else 1; or a device failed, and the shell did not read on.
+/// Finds that a log can be opened, and then does each line of an input as a command on it, and answers it before it reads more.
+/// Its status is 0 where no line was refused, else 1. It ends with a refusal or a fault where the log can't be opened, and
+/// reads nothing then; and with a fault where a device or memory failed, and does not read on.
 pub fn run_shell<S: Store<Global>, R: Read, W: Write, E: Write>(
     alloc: Global,
     store: &mut S,
@@ -137,8 +138,8 @@ fn reply<S: Store<Global>, E: Write>(
     }
 }
 
-// The words of the command line that a line asks for; none where one is no text. After the command, but for the one of no log, stand
-// words in place of LOG and SITE.
+// The words of the command line that a line asks for; none where one is no text. After the command, but for the one of no log,
+// stand words in place of LOG and SITE.
 fn read_words<'a>(alloc: Global, text: &'a [u8]) -> Result<Option<Vec<&'a str>>, Memory>
     ensures words { IfOk result (λ read. IfSome read (λ words. map (λ word. word.now) words.items ≡ line_words (words_of text.entry.now))) }
     ensures texts { IfOk result (λ read. IfSome read (λ _. AllByRecursion IsUtf8 (words_of text.entry.now))) }

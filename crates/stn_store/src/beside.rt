@@ -89,7 +89,7 @@ fn fill(
     }
 }
 
-/// Waits until the device has what was written to the file of a path, or the names of a folder. The log is saved by then.
+/// Waits until the device has what was written to the file of a path, or the names of a folder.
 pub fn force(alloc: Global, path: &str, file: &File) -> Result<(), Undone>
     ensures { IfErr result (λ undone. IsLack IsFileFault undone.failure) }
 {

@@ -65,7 +65,7 @@ impl<'a, T> FileStore<'a, T> {
 }
 
 impl<'a, T: AllocGlobal> FileStore<'a, T> {
-    // What was read of the file of a path; where its read failed, that is kept, and why.
+    // What was read of the file of a path; where its read failed, or it has too many bytes, that is kept, and why.
     fn unless_unread<X: Drop>(
         &self,
         path: &str,

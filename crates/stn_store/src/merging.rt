@@ -9,7 +9,9 @@ use stn_lift::Base;
 use stn_refusal::{Code, Failure};
 use stn_site::{SiteCopy, SitePlan};
 
-/// Takes all that another copy of the same plan holds. A refusal changes nothing.
+/// Takes all that another copy of the same plan holds.
+///
+/// Refused as 60 where the plans differ, then as `SitePlan::take` refuses it. After a refusal or a fault all is as before.
 pub fn take_in<A: Allocator + Copy, C: SiteCopy<A>>(
     copy: &mut C,
     other: &SitePlan<A>,
@@ -25,7 +27,7 @@ pub fn take_in<A: Allocator + Copy, C: SiteCopy<A>>(
     Ok(())
 }
 
-/// Finds that two plans are the same.
+/// Finds that two plans are the same, byte for byte of what they are made from; refused as 60 where they are not.
 pub fn find_same<A: Allocator>(ours: &Base<A>, theirs: &Base<A>) -> Result<(), Failure>
     ensures { MatchResult result (λ _. ours.now ≡ theirs.now) (λ failure. (ours.now ≢ theirs.now) × (failure ≡ other_plan)) }
 {

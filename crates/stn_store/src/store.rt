@@ -25,8 +25,8 @@ pub trait Store<A: Allocator + Copy> {
     /// The name of the log that is held.
     ghost held_name: { Self.Held → List ℕ };
 
-    /// Waits until no other program holds the log of a name, and holds it. Whoever changes a log holds it from its load to its save. A
-    /// log is held once at a time: who holds it and asks again waits without end.
+    /// Waits until no other program holds the log of a name, and holds it. Whoever changes a log holds it from its load to its
+    /// save. A log is held once at a time: who holds it and asks again waits without end.
     fn hold(&self, name: &str) -> Result<Self::Held, Failure>
         ensures named { IfOk result (λ held. held_name held ≡ name.now) }
         ensures failed { IfErr result (IsLack fails) };
@@ -34,8 +34,8 @@ pub trait Store<A: Allocator + Copy> {
     /// Whether another program holds the log of a name, as far as that shows. Nobody is waited for, and no lock is made.
     fn is_held(&self, name: &str) -> bool;
 
-    /// Finds out whether a log can be held and saved under a name. No log is changed, and nobody is waited for. Of files, the lock may be
-    /// made, and a file beside the log is made and removed.
+    /// Finds out whether a log can be held and saved under a name. No log is changed, and nobody is waited for. Of files, the
+    /// lock may be made, and a file beside the log is made and removed.
     fn can_save(&self, name: &str) -> Result<(), Failure>
         ensures failed { IfErr result (IsLack fails) };
 
@@ -81,14 +81,16 @@ pub trait Store<A: Allocator + Copy> {
         ensures spelled { IfOk result (λ text. Spells (entries self.now) name.now text.items) }
         ensures failed { IfErr result (λ failure. IsMissing (entries self.now) name.now failure ⊎ IsLack fails failure) };
 
-    /// Saves a site's copy of a plan as the log that is held, under a name that is free at that moment. What stands there stays.
+    /// Saves a site's copy of a plan as the log that is held, under a name that is free at that moment. What stands there
+    /// stays. Of files, the log may stand there after a fault, if only the last force of its folder failed.
     fn save_new(&mut self, held: &Self::Held, plan: &SitePlan<A>) -> Result<(), Failure>
         ensures free { OnOk result (IsThere (entries self.old) (held_name held.now) false) }
         ensures saved { OnOk result (entries self.new ≡ saved_too (entries self.old) (held_name held.now) (log_held plan.now)) }
         ensures kept { OnErr result (entries self.new ≡ entries self.old) }
         ensures failed { IfErr result (λ failure. IsTaken (entries self.old) (held_name held.now) failure ⊎ IsLack fails failure) };
 
-    /// Saves a site's copy of a plan as the log that is held: the bytes that were saved. Where it can't be, the old one stays.
+    /// Saves a site's copy of a plan as the log that is held: the bytes that were saved. Where it can't be, the old one stays;
+    /// of files, the new one may stand there after a fault, if only the last force of its folder failed.
     fn save(&mut self, held: &Self::Held, plan: &SitePlan<A>) -> Result<Vec<u8, A>, Failure>
         ensures spelled { IfOk result (λ text. IsLog text.items (Ok (log_held plan.now))) }
         ensures saved { OnOk result (entries self.new ≡ saved_too (entries self.old) (held_name held.now) (log_held plan.now)) }

@@ -16,7 +16,7 @@ pub const AXIS_LEFT: u64 = 500;
 pub const AXIS_WIDTH: u64 = 440;
 
 impl<'a, 'b, A: Allocator> Walk<'a, 'b, A> {
-    /// Where a row begins.
+    /// The sum of the links above a row, in milliseconds: the time at which the row begins.
     pub fn sum_at(&self, row: usize) -> i64
         ensures value { result ≡ is.sum_at (seen_walk self.now) row }
         ensures small { unsigned_abs result < 2 ^ 45 }

@@ -4,13 +4,14 @@ ghost use Rattle.stn_net.specs.{Event.most_events, Matrix.{Closed.IsClosed, Tabl
 use crate::matrix::square::{Arc, Square};
 use std::alloc::Allocator;
 
-// How many columns begin a run. Without runs the bounds of `windows` take 1,108 million instructions in place of 366, and those of
-// `conflict` 1,332 in place of 519. With ten `conflict` takes two in a hundred more; with twelve, and eight in place of five below,
-// `merges` takes two in a hundred more, and `amended` three.
+// How many columns begin a run. Measured on matrices of the bounds of the scripts of bench/bench.py, which make none any more:
+// without runs the bounds of `windows` took 1,108 million instructions in place of 366, and those of `conflict` 1,332 in place
+// of 519. With ten, `conflict` took two in a hundred more; with twelve, and eight in place of five below, `merges` two in a
+// hundred more, and `amended` three.
 const HUBS: usize = 11;
 
-// Every eighth row is asked whether it changes. To put the columns into runs without asking takes six in a hundred more instructions
-// in `windows`, and eleven in a hundred in the matrices of `merges`.
+// Every eighth row is asked whether it changes. To put the columns into runs without asking takes six in a hundred more
+// instructions in `windows`, and eleven in a hundred in the matrices of `merges`.
 const SAMPLED: usize = 8;
 
 // If so many of those asked change, the columns are put into runs.

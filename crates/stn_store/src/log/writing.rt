@@ -10,8 +10,8 @@ use stn_site::{SiteCopy, SitePlan};
 use stn_time::Memory;
 use stn_wire::{Said, say};
 
-/// Writes the log of a site's copy of a plan, as a replica: what the plan is made from, and all that the site holds. The site is not in
-/// it.
+/// Writes the log of a site's copy of a plan, be it a `SitePlan` or a replica: what the plan is made from, and all that the
+/// site holds. The site is not in it.
 ///
 /// Faults: `Write`, where a call of the writer failed or took nothing; then a front part of the log was written. `Memory`; then
 /// nothing was written.
