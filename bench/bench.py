@@ -380,6 +380,8 @@ OTHERS = {made.__name__: made for made in (by_hand, memory, frames, commands, cr
 
 
 def main():
+    if not set(sys.argv[1:]) <= {*SCRIPTS, *OTHERS}:
+        sys.exit(__doc__)
     subprocess.run([str(TOP / "stn"), "build"], stdout=subprocess.DEVNULL, check=True)
     print(f"{os.cpu_count()} processors, {processor()}")
     with tempfile.TemporaryDirectory() as name:

@@ -245,6 +245,8 @@ TRIED = [no_words, told_at_once, unproved, building, failing, changed, no_rt, li
 
 
 def main():
+    if not set(sys.argv[1:]) <= {trial.__name__ for trial in TRIED}:
+        sys.exit(__doc__)
     for trial in TRIED:
         if trial.__name__ in (sys.argv[1:] or [trial.__name__]):
             with tempfile.TemporaryDirectory(prefix="first_run.") as folder:

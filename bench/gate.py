@@ -187,7 +187,7 @@ def main():
     ended, began = threading.Event(), time.time()
     with subprocess.Popen(["rt", "ci", *from_nothing()], cwd=TOP, stdin=subprocess.DEVNULL, env={**os.environ, "RT_JOBS": jobs}) as process:
         gate = Gate(process)
-        watcher = threading.Thread(target=gate.watch, args=(ended,))
+        watcher = threading.Thread(target=gate.watch, args=(ended,), daemon=True)
         watcher.start()
         status = process.wait()
         ended.set()

@@ -4,7 +4,7 @@
 usage: bench/implicit.py CRATE
 
 All that might do are tried at once; the checker says where one is not decided. There it is given by name, or stays explicit. Lemmas that
-another crate cites stay as they are. Commit first: while it runs, it changes the crate's proofs. Run `rt fmt` after it.
+another crate cites stay as they are. Commit first: while it runs, it changes the crate's proofs.
 """
 import bisect
 import collections

@@ -16,7 +16,6 @@ import socket
 import subprocess
 import sys
 import tempfile
-import time
 from pathlib import Path
 
 TOP = Path(__file__).resolve().parent.parent
@@ -41,11 +40,8 @@ class Tried:
         options = {"stdin": subprocess.DEVNULL, "stdout": subprocess.DEVNULL, "stderr": subprocess.PIPE, **options}
         return subprocess.Popen([self.program, *words], **options)
 
-    def says(self, *words, given=None, **options):
+    def says(self, *words, **options):
         """What a command says on standard error."""
-        if given is not None:
-            put("given.txt", given)
-            options["stdin"] = open("given.txt", "rb")
         running = self.start(*words, **options)
         return running.communicate(timeout=SECONDS)[1].decode()
 

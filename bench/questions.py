@@ -173,6 +173,8 @@ def compare_all(program, text):
 
 
 def main():
+    if len(sys.argv) != 2:
+        sys.exit(__doc__)
     program = Path(sys.argv[1]).resolve()
     count, failed = 0, False
     for path in sorted((TOP / "examples").glob("*.stn")):

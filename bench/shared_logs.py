@@ -1,7 +1,7 @@
 #!/usr/bin/env python3
 """Tries logs that several programs use: prints `passed`, or what failed, with status 1.
 
-usage: bench/shared_logs.py PROGRAM
+usage: bench/shared_logs.py PROGRAM [NAME ..]    with no name: every trial
 
 PROGRAM is the built program, whose path ./stn build prints. The logs are made in a fresh folder, which is
 removed at the end. What can't be tried here, as for lack of rights, is said so. It takes about a minute.
@@ -367,7 +367,7 @@ def reachable(stn, **options):
     """Whether another user can run the program here."""
     try:
         return subprocess.run([os.path.abspath(stn.path), "--version"], capture_output=True, check=False, **options).returncode == 0
-    except OSError:
+    except (OSError, subprocess.SubprocessError):
         return False
 
 
@@ -648,17 +648,12 @@ def unprinted(stn):
 
 def closed_folder(stn):
     """A folder that can't be written."""
-    if not os.access(stn.path, os.X_OK):
-        return "a folder that can't be written"
+    options = as_user(NOBODY, NOBODY) if os.geteuid() == 0 else {}
+    if not reachable(stn, **options):
+        return "a folder that can't be written: another user can't run the program"
     os.mkdir("closed")
     stn.answers("made\n", "bare", "closed/a.log", "1", "1")
     before = contents("closed/a.log")
-    options = {}
-    if os.geteuid() == 0:
-        reached = subprocess.run([stn.path, "--version"], capture_output=True, preexec_fn=lambda: os.setuid(NOBODY))
-        if reached.returncode != 0:
-            return "a folder that can't be written: another user can't run the program"
-        options = {"preexec_fn": lambda: os.setuid(NOBODY)}
     os.chmod("closed", 0o555)
     try:
         stn.fails("fault file\n", "add", "closed/a.log", "1", "z", "s1", **options)
@@ -885,7 +880,7 @@ TRIED = [
 
 
 def main():
-    if len(sys.argv) < 2:
+    if len(sys.argv) < 2 or not set(sys.argv[2:]) <= {trial.__name__ for trial in TRIED}:
         sys.exit(__doc__)
     stn = Program(sys.argv[1])
     chosen = sys.argv[2:]

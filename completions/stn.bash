@@ -46,7 +46,12 @@ _stn() {
         at=$((COMP_CWORD - 2))
     fi
     if [[ $before == = ]]; then
-        if [[ " $values " == *" ${COMP_WORDS[at]} "* ]]; then mapfile -t COMPREPLY < <(compgen -f -- "$word"); fi
+        if [[ " $values " == *" ${COMP_WORDS[at]} "* ]]; then compopt -o filenames; mapfile -t COMPREPLY < <(compgen -f -- "$word"); fi
+        return
+    fi
+    # Or one word after it, where a blank stands between.
+    if [[ " $options " == *" $before= "* ]]; then
+        if [[ " $values " == *" $before "* ]]; then compopt -o filenames; mapfile -t COMPREPLY < <(compgen -f -- "$word"); fi
         return
     fi
     if [[ $word == -* ]]; then
@@ -55,8 +60,8 @@ _stn() {
         return
     fi
     for ((at = 2; at < COMP_CWORD; at++)); do
-        if [[ ${COMP_WORDS[at]} != -* && ${COMP_WORDS[at]} != = && ${COMP_WORDS[at - 1]} != = ]]; then ((place++)); fi
+        if [[ ${COMP_WORDS[at]} != -* && ${COMP_WORDS[at]} != = && ${COMP_WORDS[at - 1]} != = && " $options " != *" ${COMP_WORDS[at - 1]}= "* ]]; then ((place++)); fi
     done
-    if [[ " $places " == *" $((place + 1)) "* ]]; then mapfile -t COMPREPLY < <(compgen -f -- "$word"); fi
+    if [[ " $places " == *" $((place + 1)) "* ]]; then compopt -o filenames; mapfile -t COMPREPLY < <(compgen -f -- "$word"); fi
 }
-complete -o filenames -F _stn stn
+complete -F _stn stn

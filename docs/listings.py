@@ -36,7 +36,7 @@ READING = TOP / "docs" / "READING.md"
 LISTED = [README, TOP / "docs" / "GUIDE.md", READING]
 HELP = CRATES / "stn_line" / "src" / "help.rt"
 FORMATS = TOP / "docs" / "FORMATS.md"
-DOCUMENTS = [README, *sorted((TOP / "docs").glob("*.md")), TOP / "bench" / "README.md"]
+DOCUMENTS = [README, TOP / "CHANGELOG.md", *sorted((TOP / "docs").glob("*.md")), TOP / "bench" / "README.md"]
 PROMISES = TOP / "docs" / "PROMISES.md"
 CRATE_NAMES = {crate.name for crate in CRATES.iterdir()}
 OF_TESTS = {"answers", "command_lines", "stn_examples", "stn_refusing"}
@@ -89,7 +89,7 @@ def stands_in(part, text):
 def not_run():
     """The listings that the gate doesn't run."""
     stored = [lines_of(path) for crate in CRATES.iterdir() for name in ("stdin", "stdout") for path in [crate / name] if path.exists()]
-    stored += [lines_of(path) for path in sorted((CRATES / "answers" / "data").iterdir())]
+    stored += [lines_of(path) for path in sorted((CRATES / "answers" / "data").iterdir()) if path.is_file()]
     for document in LISTED:
         for begins, block in listings(document):
             for part in parts(block):

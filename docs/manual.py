@@ -46,8 +46,8 @@ def entries(rows):
 
 
 def words_of(part):
-    """Returns the rows of a part of the help: words, and after two spaces or more what they mean."""
-    return [re.match(r" *(.*?)  +(.*)", it).groups() for it in part[1:]]
+    """Returns the rows of a part of the help: words, and after spaces what they mean."""
+    return [re.match(r" *(\w+|.*?(?=  )) +(.*)", it).groups() for it in part[1:]]
 
 
 def command(name, does):

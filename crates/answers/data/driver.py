@@ -91,9 +91,11 @@ def longest_durations(log):
     return longest
 
 
-def told_by_names(log, plan):
+def told_by_names(program, path, plan):
     """Prints the line of an event that took place, with the action and the arguments of its step, as the plan names them."""
-    names = dict(line.split(" ", 1) for line in log.ask("steps", "--plan=" + plan))
+    words = [program, "steps", str(path), SITE, "--plan=" + plan]
+    steps = subprocess.run(words, capture_output=True, text=True, check=True).stdout
+    names = dict(line.split(" ", 1) for line in steps.splitlines())
     return lambda line: print(line, names[line.split()[1][1:]])
 
 
@@ -160,7 +162,7 @@ def main():
         for seed in range(words.first, words.first + words.seeds):
             shutil.copyfile(loose, path)
             with Shell(words.program, path, SITE) as log:
-                tell = (lambda line: None) if words.quiet else told_by_names(log, words.plan)
+                tell = (lambda line: None) if words.quiet else told_by_names(words.program, path, words.plan)
                 end = run(log, SimulatedMachine(durations, early, late, seed), tell, words.robust)
             complete += end == "all done"
             print(f"seed {seed}: {end}")

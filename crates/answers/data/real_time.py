@@ -42,6 +42,8 @@ class ThreadMachine:
 
 
 def main():
+    if len(sys.argv) not in (4, 5):
+        sys.exit(__doc__)
     program, domain, plan, *rest = sys.argv[1:]
     tolerance = float(rest[0]) if rest else 0.5
     with tempfile.TemporaryDirectory() as name:

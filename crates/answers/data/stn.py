@@ -53,6 +53,8 @@ class Shell:
 
     def ask(self, *words):
         """The lines that a command prints. A negative time as a word of its own comes after the word `--`."""
+        if any("\n" in str(word) for word in words):
+            raise ValueError("a command is one line")
         if re.match(r"\s*(#|$)", " ".join(map(str, words))):
             raise ValueError("an empty line and a comment have no answer")
         lines = []
