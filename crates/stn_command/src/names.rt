@@ -54,10 +54,9 @@ fn tell_named<A: Allocator + Copy>(
 {
     match question {
         Question::Steps => Ok(names_of(plan.alloc(), named)?),
-        Question::Records => say_with_names(plan, &Query::Ask(question), named),
-        Question::Bounds => say_with_names(plan, &Query::Ask(question), named),
-        Question::Why(_) => say_with_names(plan, &Query::Ask(question), named),
-        Question::WhyApart(..) => say_with_names(plan, &Query::Ask(question), named),
+        Question::Records | Question::Bounds | Question::Why(_) | Question::WhyApart(..) => {
+            say_with_names(plan, &Query::Ask(question), named)
+        }
     }
 }
 
