@@ -1,5 +1,5 @@
 -- Answers whose lines end in the names of the steps that they are about.
-use Rattle.std.specs.{Prelude.{ℕ, ◌-◌, ◌==◌, ◌||◌, bytes_eq, if◌then◌else◌, List, [], ◌∷◌, ◌++◌, codes, length, take, slice_index_or, Option, Some, None}, List.{filter_map, flat_map, list_any, range_with_len}}
+use Rattle.std.specs.{Prelude.{ℕ, Bool, ◌-◌, ◌==◌, ◌||◌, bytes_eq, if◌then◌else◌, List, [], ◌∷◌, ◌++◌, codes, length, take, slice_index_or, Option, Some, None}, List.{filter_map, flat_map, list_any, range_with_len}}
 use Rattle.std.specs.FinMap as map
 use Rattle.stn_text.specs.Lines.{lines_of, words_of}
 use Rattle.stn_lift.specs.BaseBounds.{step_of}
@@ -24,10 +24,13 @@ named_events state (word ∷ words) = if bytes_eq word (codes "drop")
     then flat_map (λ one. ends_of_record (record_at state (id_of one))) words
     else filter_map event_of (word ∷ words)
 
--- two spaces and the name of an event's step; nothing for the origin, and where an event before is of the same step
+-- two spaces and the name of an event's step; nothing for the origin, and where the step is named already
+abbrev pub name_unless : List (List ℕ) → Bool → ℕ → List ℕ
+name_unless names is_named event = if (event == 0) || is_named then [] else codes "  " ++ slice_index_or names (step_of event - 1) []
+
+-- the same, where a step is named already if an event before is of it
 abbrev pub name_after : List (List ℕ) → List ℕ → ℕ → List ℕ
-name_after names before event = if (event == 0) || list_any (λ other. step_of other == step_of event) before
-    then [] else codes "  " ++ slice_index_or names (step_of event - 1) []
+name_after names before event = name_unless names (list_any (λ other. step_of other == step_of event) before) event
 
 -- the same of each of the events, in their order: so each step is named once
 abbrev pub names_of_events : List (List ℕ) → List ℕ → List ℕ

@@ -1,19 +1,21 @@
 //! The names of steps at the ends of lines.
 
-ghost use Rattle.std.specs.{Prelude.{◌≡◌, ◌==◌, ◌++◌, map, IfOk, OnOk}, List.{filter_map, flat_map, list_any}};
-ghost use Rattle.stn_lift.specs.BaseBounds as steps;
+ghost use Rattle.std.specs.{Prelude.{◌≡◌, ◌==◌, ◌++◌, map, IfOk, OnOk}, List.{filter_map, flat_map}};
 ghost use Rattle.stn_text.specs.Lines.{words_of};
-ghost use Rattle.stn_command.specs.{Words.{event_of, id_of}, NamedLines.{ends_of_record, name_after, named_events, names_of_events, line_with_names, with_names}};
+ghost use Rattle.stn_command.specs.{Words.{event_of, id_of}, NamedLines.{ends_of_record, name_unless, named_events, names_of_events, line_with_names, with_names}};
 ghost use Rattle.stn_command.specs.NamedLines as named;
 
 use crate::words::{read_event, read_id};
 use std::alloc::Allocator;
 use stn_lift::step_of;
-use stn_net::Event;
+use stn_net::{Event, MOST_EVENTS, MOST_STEPS};
 use stn_records::{Record, Records};
 use stn_site::SitePlan;
 use stn_text::{first_line, first_word};
 use stn_time::Memory;
+
+// A flag for each step, and for the step 0 of the origin.
+const STEP_FLAGS: usize = MOST_STEPS as usize + 1;
 
 /// An answer about a site's copy of a plan, and at the end of each line, after two spaces each, the names of the steps whose events it
 /// names, in their order and each once. The ids after `drop` stand for the events of their records.
@@ -129,22 +131,26 @@ fn append_names<A: Allocator, B: Allocator>(
 ) -> Result<(), Memory>
     ensures { OnOk result (out.new.items ≡ out.old.items ++ names_of_events (map (λ name. name.items) names.now) events.now) }
 {
-    for place in 0..events.len() {
-        append_name(names, &events[..place], events[place], out)?;
+    let mut named_steps = [false; STEP_FLAGS];
+    for event in events {
+        prove!(event.number() <= MOST_EVENTS);
+        let step = usize::from(step_of(*event));
+        append_name(names, *event, named_steps[step], out)?;
+        named_steps[step] = true;
     }
     Ok(())
 }
 
-// Appends the name of an event's step, unless an event before it has the same.
+// Appends the name of the step of an event, unless it is the origin, or the step is named already.
 fn append_name<A: Allocator, B: Allocator>(
     names: &[Vec<u8, A>],
-    before: &[Event],
     event: Event,
+    is_named: bool,
     out: &mut Vec<u8, B>,
 ) -> Result<(), Memory>
-    ensures { OnOk result (out.new.items ≡ out.old.items ++ name_after (map (λ name. name.items) names.now) before.now event) }
+    ensures { OnOk result (out.new.items ≡ out.old.items ++ name_unless (map (λ name. name.items) names.now) is_named event) }
 {
-    if event == Event::origin() || has_step(before, step_of(event)) {
+    if event == Event::origin() || is_named {
         return Ok(());
     }
     out.extend_from_slice(b"  ")?;
@@ -152,11 +158,4 @@ fn append_name<A: Allocator, B: Allocator>(
         Some(name) => out.extend_from_slice(name),
         None => Ok(()),
     }
-}
-
-// Whether one of the events is of the step.
-fn has_step(events: &[Event], step: u16) -> bool
-    ensures { result ≡ list_any (λ other. steps.step_of other == step) events.now }
-{
-    events.iter().any(|other| step_of(*other) == step)
 }
