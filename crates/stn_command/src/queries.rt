@@ -181,28 +181,9 @@ fn of_own<A: Allocator + Copy>(
 ) -> Result<Vec<u8, A>, Failure>
     ensures { Foresees outlook now (done_or_others own.now plan.now.source plan.now.state) plan.now result }
 {
-    let done = done_flags(plan, own)?;
-    let mut text = Vec::new(plan.alloc());
-    match outlook {
-        Outlook::Next => append_next(plan, &done, now, &mut text)?,
-        Outlook::Ready => print_ready_with(plan, &done, now, &mut text)?,
-        Outlook::Rehearse => append_rest(plan, &done, now, &mut text)?,
-    }
-    Ok(text)
-}
-
-// For each event of the plan, the origin first, whether it doesn't count as left.
-fn done_flags<A: Allocator + Copy>(
-    plan: &SitePlan<A>,
-    own: &Own<'_>,
-) -> Result<Vec<bool, A>, Memory>
-    ensures value { IfOk result (λ flags. flags.items ≡ done_or_others own.now plan.now.source plan.now.state) }
-    ensures one_each { IfOk result (λ flags. length flags.items ≡ events_of plan.now.source + 1) }
-    ensures fixed { AllProper plan.now.state.additions }
-{
     let flags = flags_among(plan, own);
-    let known = flags_within(&flags, plan.base().events());
-    Vec::from_slice(plan.alloc(), known)
+    let done = flags_within(&flags, plan.base().events());
+    foresee_with(plan, outlook, now, done)
 }
 
 // Those of the flags that are about so many events.
@@ -212,6 +193,26 @@ fn flags_within(flags: &[bool; EVENT_FLAGS], events: u16) -> &[bool]
     ensures one_each { length result.now ≡ events + 1 }
 {
     &flags[..usize::from(events) + 1]
+}
+
+// What is said of the events that are left, where these count as done.
+fn foresee_with<A: Allocator + Copy>(
+    plan: &SitePlan<A>,
+    outlook: Outlook,
+    now: Ms,
+    done: &[bool],
+) -> Result<Vec<u8, A>, Failure>
+    requires one_each { length done.now ≡ events_of plan.now.source + 1 }
+    requires fixed { AllProper plan.now.state.additions }
+    ensures { Foresees outlook now done.now plan.now result }
+{
+    let mut text = Vec::new(plan.alloc());
+    match outlook {
+        Outlook::Next => append_next(plan, done, now, &mut text)?,
+        Outlook::Ready => print_ready_with(plan, done, now, &mut text)?,
+        Outlook::Rehearse => append_rest(plan, done, now, &mut text)?,
+    }
+    Ok(text)
 }
 
 // The answer to a question.
