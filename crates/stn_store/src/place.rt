@@ -135,8 +135,7 @@ impl Place {
     pub fn can_save<T: Files<File = File> + AllocGlobal>(&self, rt: &T) -> Result<(), Undone>
         ensures { IfErr result (λ undone. IsLack IsFileFault undone.failure) }
     {
-        let folder = self.open_folder(rt)?;
-        named(rt.alloc(), self.folder(), caused(folder.sync_all()))?;
+        let _folder = self.force_folder(rt)?;
         let (path, _file) = make_beside(rt, self.path.as_str(), NEW_MODE)?;
         named(
             rt.alloc(),
@@ -153,8 +152,7 @@ impl Place {
     ) -> Result<(), Undone>
         ensures { IfErr result (λ undone. (undone.failure ≡ log_there) ⊎ IsLack IsFileFault undone.failure) }
     {
-        let folder = self.open_folder(rt)?;
-        named(rt.alloc(), self.folder(), caused(folder.sync_all()))?;
+        let folder = self.force_folder(rt)?;
         let beside = write_beside(rt, self.path.as_str(), None, text)?;
         let linked = fs::hard_link(rt, beside.as_str(), self.path.as_str());
         let _ = fs::remove_file(rt, beside.as_str());
@@ -181,10 +179,10 @@ impl Place {
     ) -> Result<(), Undone>
         ensures { IfErr result (λ undone. IsLack IsFileFault undone.failure) }
     {
-        let folder = self.open_folder(rt)?;
+        let folder = self.force_folder(rt)?;
         let found = self.found(rt)?;
         let beside = write_beside(rt, self.path.as_str(), found.as_ref(), text)?;
-        match self.take_name(rt, lock, &folder, beside.as_str()) {
+        match self.take_name(rt, lock, beside.as_str()) {
             Ok(()) => force(rt.alloc(), self.folder(), &folder),
             Err(cause) => {
                 let _ = fs::remove_file(rt, beside.as_str());
@@ -193,16 +191,13 @@ impl Place {
         }
     }
 
-    // Gives the name of the log to the file beside, where the device takes the folder, the lock still holds and nobody else replaced
-    // the log.
+    // Gives the name of the log to the file beside, where the lock still holds and nobody else replaced the log.
     fn take_name<T: Files<File = File>>(
         &self,
         rt: &T,
         lock: &Lock,
-        folder: &File,
         beside: &str,
     ) -> Result<(), Cause> {
-        folder.sync_all()?;
         if !lock.holds(rt)? || !self.stands(rt)? {
             return Err(Cause::Changed);
         }
@@ -217,14 +212,13 @@ impl Place {
         }
     }
 
-    // Opens the folder of the log.
-    fn open_folder<T: Files<File = File> + AllocGlobal>(&self, rt: &T) -> Result<File, Undone>
+    // Opens the folder of the log and forces it to the disk, so that a system that can't is found out before a log is written.
+    fn force_folder<T: Files<File = File> + AllocGlobal>(&self, rt: &T) -> Result<File, Undone>
         ensures { IfErr result (λ undone. IsLack IsFileFault undone.failure) }
     {
-        named(
-            rt.alloc(),
-            self.folder(),
-            caused(fs::open(rt, self.folder())),
-        )
+        let path = self.folder();
+        let folder = named(rt.alloc(), path, caused(fs::open(rt, path)))?;
+        named(rt.alloc(), path, caused(folder.sync_all()))?;
+        Ok(folder)
     }
 }
