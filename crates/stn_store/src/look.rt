@@ -60,10 +60,10 @@ impl FileState {
     pub fn is(&self, other: &FileState) -> bool
         ensures { result ≡ true → IsSameFile self.now other.now × HasSameTimes self.now other.now }
     {
-        self.is_file(other) && self.has_times_of(other)
+        self.is_same_file(other) && self.has_times_of(other)
     }
 
-    fn is_file(&self, other: &FileState) -> bool
+    fn is_same_file(&self, other: &FileState) -> bool
         ensures { result ≡ true → IsSameFile self.now other.now }
     {
         self.device == other.device && self.number == other.number && self.length == other.length
