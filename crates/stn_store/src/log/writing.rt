@@ -5,6 +5,7 @@ ghost use Rattle.stn_store.specs.Log.{log_held, log_text, IsLog};
 use std::alloc::Allocator;
 use std::io::Write;
 use stn_device::{Counted, write_whole};
+use stn_records::MOST_KNOWN;
 use stn_refusal::Failure;
 use stn_site::{SiteCopy, SitePlan};
 use stn_time::Memory;
@@ -40,7 +41,7 @@ pub fn spell_log<A: Allocator + Copy>(alloc: A, plan: &SitePlan<A>) -> Result<Ve
     say(&Said::Hello(plan.base().source()), &mut text)?;
     // Whatever is held is short enough for a frame.
     let records = plan.records();
-    let _held = records.state();
+    prove!(records.known() <= MOST_KNOWN);
     say(&Said::Records(records), &mut text)?;
     Ok(text)
 }

@@ -6,7 +6,7 @@ use Rattle.stn_store.{specs.Log.log_held, proofs.log.Saved.{HasBase, saved_log}}
 use Rattle.stn_store.proofs.log.writing.spell_log.Goals as goal
 
 pub say-requires-2 : goal.say-requires-2
-say-requires-2 g c = state_fits c.records-records.result.now c.state-held.ensures.sound
+say-requires-2 g c = state_fits c.records-records.result.now c.known.ensures.sound
 
 pub returns-clause-loaded : goal.returns-clause-loaded
 returns-clause-loaded g c =
@@ -15,4 +15,4 @@ returns-clause-loaded g c =
     saved_log
     (subst (λ (s : PlanSource). IsFrame (hello s)) source c.in_ok-say.ensures.sound)
     (subst (λ (s : Content). IsFrame (records s)) state c.in_ok-say-2.ensures.sound)
-    (subst HasBase c.base.ensures c.source.ensures.sound.based) c.records-records.ensures.named (subst IsSound state c.state-held.ensures.sound)
+    (subst HasBase c.base.ensures c.source.ensures.sound.based) c.records-records.ensures.named (subst IsSound state c.known.ensures.sound)
