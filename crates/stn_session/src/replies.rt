@@ -7,7 +7,7 @@ ghost use Rattle.stn_session.specs.{Session.answer, Turns.IsAnswered};
 
 use std::alloc::{AllocError, Allocator};
 use stn_lift::Source;
-use stn_records::Records;
+use stn_records::{MOST_KNOWN, Records};
 use stn_refusal::{Code, Failure};
 use stn_site::SiteCopy;
 use stn_time::Memory;
@@ -149,6 +149,6 @@ pub(crate) fn append_state<A: Allocator + Copy>(
     ensures { OnOk result (out.new.items ≡ out.old.items ++ spelling (records state.now)) }
 {
     // Whatever is held is short enough for a frame.
-    let _held = state.state();
+    prove!(state.known() <= MOST_KNOWN);
     say(&Said::Records(state), out)
 }
