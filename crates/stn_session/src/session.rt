@@ -150,6 +150,13 @@ fn refuse<W: Write, A: Allocator + Copy>(
     Ok(())
 }
 
+// What a session did: it answered so many frames, and ended so.
+fn ended_after(frames: u32, end: End) -> Served
+    ensures { result ≡ record { frames = frames; end = end } }
+{
+    Served { frames, end }
+}
+
 /// Serves one session: reads frames to the end, answers each before it asks for more, and takes in
 /// what the other site holds. At most `MOST_BYTES` bytes are read.
 ///
@@ -210,36 +217,17 @@ pub fn serve_keeping<P, K: Keeper<P, A>, R: Read, W: Write, A: Allocator + Copy,
                 let turn = answered?;
                 count += 1;
                 greeted = turn.greeted;
-                match turn.ended {
-                    None => {}
-                    Some(code) => {
-                        return Ok(Served {
-                            frames: count,
-                            end: End::Refused(code),
-                        });
-                    }
+                if let Some(code) = turn.ended {
+                    return Ok(ended_after(count, End::Refused(code)));
                 }
             }
             Next::Faulty(fault) => {
                 let code = fault.code();
                 refuse(alloc, code, writer)?;
-                return Ok(Served {
-                    frames: count,
-                    end: End::Refused(code),
-                });
+                return Ok(ended_after(count, End::Refused(code)));
             }
-            Next::Closed => {
-                return Ok(Served {
-                    frames: count,
-                    end: End::Closed,
-                });
-            }
-            Next::Cut => {
-                return Ok(Served {
-                    frames: count,
-                    end: End::Cut,
-                });
-            }
+            Next::Closed => return Ok(ended_after(count, End::Closed)),
+            Next::Cut => return Ok(ended_after(count, End::Cut)),
         }
     }
 }

@@ -51,7 +51,7 @@ frames-preserved g c =
     record {
       reading = gave.next.2;
       progress = frame_answered i.progress _ gave.bytes gave.consumed gave.counted.1 (c.in_ok-frame.ensures.kept (λ e. cc)) (content c.in-Frame.frame) (pending c.next.new.self) gave.next.0 gave.next.1 _
-          (g.C.SiteCopy.held c.answer_frame-answered.new.copy).state c.answer_frame-answered.new.place turn.turn (rw i.source at (turn.ensures.answered (device_of g.R.Read.remaining c.next.new.reader))) c.in-None.is c.next.new.self.count gave.counted.0;
+          (g.C.SiteCopy.held c.answer_frame-answered.new.copy).state c.answer_frame-answered.new.place turn.turn (rw i.source at (turn.ensures.answered (device_of g.R.Read.remaining c.next.new.reader))) c.in_default.is c.next.new.self.count gave.counted.0;
       source = turn.ensures.source ∙ i.source;
       site = turn.ensures.site ∙ i.site;
       few = count_fits (pending c.frames.frames) gave.bytes (pending c.next.new.self) (content c.in-Frame.frame) gave.next.1 c.frames.frames.count c.next.new.self.count gave.counted.0 c.frames.count i.few;
@@ -62,8 +62,8 @@ returns-in-Some-clause-served g c =
     let gave = rw c.in-Frame.is at c.in_ok-frame.ensures.gives in
     let i = c.frames.invariant in
     let turn = c.in_ok-turn-in-Frame in
-    frame_ends i.progress _ gave.bytes gave.consumed gave.counted.1 (c.in_ok-frame.ensures.kept (λ e. cc)) (content c.in-Frame.frame) (pending c.next.new.self) gave.next.0 gave.next.1 _
-    (g.C.SiteCopy.held c.answer_frame-answered.new.copy).state c.answer_frame-answered.new.place turn.turn (rw i.source at (turn.ensures.answered (device_of g.R.Read.remaining c.next.new.reader))) c.in-Some.code c.in-Some.is
+    rw c.ended_after.ensures (frame_ends i.progress _ gave.bytes gave.consumed gave.counted.1 (c.in_ok-frame.ensures.kept (λ e. cc)) (content c.in-Frame.frame) (pending c.next.new.self) gave.next.0 gave.next.1 _
+    (g.C.SiteCopy.held c.answer_frame-answered.new.copy).state c.answer_frame-answered.new.place turn.turn (rw i.source at (turn.ensures.answered (device_of g.R.Read.remaining c.next.new.reader))) c.in-Some.code c.in-Some.is)
 
 pub returns-in_err-refuse-in-Faulty-clause-served : goal.returns-in_err-refuse-in-Faulty-clause-served
 returns-in_err-refuse-in-Faulty-clause-served g c =
@@ -77,16 +77,16 @@ pub returns-in-Faulty-clause-served : goal.returns-in-Faulty-clause-served
 returns-in-Faulty-clause-served g c =
     let gave = rw c.in-Faulty.is at c.in_ok-frame.ensures.gives in
     let i = c.frames.invariant in
-    refuses i.progress _ gave.bytes gave.consumed gave.counted.1 (c.in_ok-frame.ensures.kept (λ e. cc)) c.in-Faulty.fault gave.next _ c.code-code.result c.code-code.ensures c.in_ok-refuse-in-Faulty.ensures
+    rw c.ended_after-in-Faulty.ensures (refuses i.progress _ gave.bytes gave.consumed gave.counted.1 (c.in_ok-frame.ensures.kept (λ e. cc)) c.in-Faulty.fault gave.next _ c.code-code.result c.code-code.ensures c.in_ok-refuse-in-Faulty.ensures)
 
 pub returns-in-Closed-clause-served : goal.returns-in-Closed-clause-served
 returns-in-Closed-clause-served g c =
     let gave = rw c.in-Closed.is at c.in_ok-frame.ensures.gives in
     let i = c.frames.invariant in
-    closes i.progress _ gave.bytes gave.consumed gave.counted.1 (c.in_ok-frame.ensures.kept (λ e. cc)) gave.next (c.in_ok-frame.ensures.closed (ap Ok c.in-Closed.is))
+    rw c.ended_after-in-Closed.ensures (closes i.progress _ gave.bytes gave.consumed gave.counted.1 (c.in_ok-frame.ensures.kept (λ e. cc)) gave.next (c.in_ok-frame.ensures.closed (ap Ok c.in-Closed.is)))
 
 pub returns-in-Cut-clause-served : goal.returns-in-Cut-clause-served
 returns-in-Cut-clause-served g c =
     let gave = rw c.in-Cut.is at c.in_ok-frame.ensures.gives in
     let i = c.frames.invariant in
-    cuts i.progress _ gave.bytes gave.consumed gave.counted.1 (c.in_ok-frame.ensures.kept (λ e. cc)) gave.next.0 gave.next.1 (c.in_ok-frame.ensures.cut (ap Ok c.in-Cut.is))
+    rw c.ended_after-in-Cut.ensures (cuts i.progress _ gave.bytes gave.consumed gave.counted.1 (c.in_ok-frame.ensures.kept (λ e. cc)) gave.next.0 gave.next.1 (c.in_ok-frame.ensures.cut (ap Ok c.in-Cut.is)))
