@@ -21,7 +21,6 @@ cause_of kind.QuotaExceeded = cause.NoRoom
 cause_of kind.ResourceBusy = cause.Changed
 cause_of kind.AddrInUse = cause.InUse
 cause_of kind.AddrNotAvailable = cause.Elsewhere
-cause_of kind.InvalidInput = cause.NoAddress
 cause_of kind.ConnectionRefused = cause.Nobody
 cause_of kind.HostUnreachable = cause.Unreachable
 cause_of kind.NetworkUnreachable = cause.Unreachable

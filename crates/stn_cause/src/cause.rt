@@ -74,7 +74,6 @@ impl Cause {
             ErrorKind::ResourceBusy => Cause::Changed,
             ErrorKind::AddrInUse => Cause::InUse,
             ErrorKind::AddrNotAvailable => Cause::Elsewhere,
-            ErrorKind::InvalidInput => Cause::NoAddress,
             ErrorKind::ConnectionRefused => Cause::Nobody,
             ErrorKind::HostUnreachable | ErrorKind::NetworkUnreachable | ErrorKind::NetworkDown => {
                 Cause::Unreachable

@@ -7,7 +7,7 @@ ghost use Rattle.stn_refusal.specs.declared.failure.{Failure.TheVariants.Failed,
 ghost use Rattle.stn_shell.specs.Outside.{TellsSome};
 
 use std::alloc::Global;
-use std::io::{self, Write};
+use std::io::{self, ErrorKind, Write};
 use stn_cause::Cause;
 use stn_device::Counted;
 use stn_effects::tell;
@@ -53,9 +53,17 @@ pub fn unusable<S: Store<Global>>(
 ) -> Failure
     ensures { result ≡ Failed FaultOfNet }
 {
-    match Trouble::new(alloc, address, Cause::from(error)) {
+    match Trouble::new(alloc, address, cause_of_address(error)) {
         Ok(trouble) => store.note(trouble),
         Err(_) => {}
     }
     Failure::Failed(Fault::Net)
+}
+
+// Why an address can't be used. What is no valid input is none, as one without a port.
+fn cause_of_address(error: io::Error) -> Cause {
+    match error.kind() {
+        ErrorKind::InvalidInput => Cause::NoAddress,
+        _ => Cause::from(error),
+    }
 }
