@@ -1,4 +1,4 @@
-ghost use Rattle.std.specs.Prelude.{◌≡◌, map, All, IfOk};
+ghost use Rattle.std.specs.Prelude.{◌≡◌, All, IfOk};
 ghost use Rattle.stn_net.specs.Difference.{NamesEvents};
 ghost use Rattle.stn_lift.specs.PlanSource.{events_of};
 ghost use Rattle.stn_records.specs.Content.{live_of};
@@ -7,7 +7,7 @@ ghost use Rattle.stn_repairs.specs.Repairs.{without};
 
 use std::alloc::Allocator;
 use stn_net::Bound;
-use stn_records::{Id, Mark, Record};
+use stn_records::{Id, Record};
 use stn_site::SitePlan;
 use stn_time::Memory;
 
@@ -16,20 +16,7 @@ pub fn live_records<A: Allocator + Copy>(plan: &SitePlan<A>) -> Result<Vec<(Id, 
     ensures live { IfOk result (λ live. live.items ≡ live_of plan.now.state) }
     ensures named { All (NamesEvents (events_of plan.now.source)) (bounds_of (live_of plan.now.state)) }
 {
-    let listed = plan.records().live()?;
-    entries_of(plan.alloc(), &listed)
-}
-
-fn entries_of<A: Allocator>(
-    alloc: A,
-    listed: &[(Id, Mark, Bound)],
-) -> Result<Vec<(Id, Record), A>, Memory>
-    ensures { IfOk result (λ entries. entries.items ≡ map (λ one. (one.0, record { mark = one.1; bound = one.2 })) listed.now) }
-{
-    listed
-        .iter()
-        .map(|&(id, mark, bound)| (id, Record { mark, bound }))
-        .collect(alloc)
+    plan.records().live_records().collect(plan.alloc())
 }
 
 // The bounds of records.
