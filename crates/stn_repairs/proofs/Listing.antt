@@ -1,23 +1,23 @@
 -- Lists that have grown by one more of the live records, and their bounds.
-use Rattle.std.{proofs.{lemmas.{Grind.common_steps, Bool.false≢true, List.Elements.{All-append, All-filter}, Map.Made.is_member-Decides}, Common.{rules, arith, ◌≡◌, ℕ, ◌+◌, ◌<◌, Bool, true, false, cond, not, List, [], ◌∷◌, ◌++◌, length, map, filter, take, get_or, refl, sym, ap, subst, ◌↔◌, IsTrue, All}}, specs.{List.Contains, Set.is_member}}
-use Rattle.stn_net.specs.Difference.{Difference, NamesEvents}
-use Rattle.stn_records.specs.{Id.{SiteCounter, same_ids}, Record.same_marks, declared.record.{Mark.{Mark, TheVariants.{Plain, Done}}, Record.Record}, Content.listed, ContentLaws.ids_decide}
+use Rattle.std.{proofs.{lemmas.{Grind.common_steps, List.{Elements.{All-append, All-filter, filter_agree}, Sorted.list_any-IsPermutation}}, Common.{rules, arith, ◌≡◌, ℕ, ◌+◌, ◌<◌, ◌≤◌, true, false, cond, not, List, [], ◌∷◌, ◌++◌, length, map, filter, take, take_all, get_or, Result, is_ok, sym, ap, subst, ◌∙◌, All}}, specs.{List.Sorted.{IsBinarySearchResult, IsPermutation, IsSearchInRange, IsSorted}, Set.is_member}}
+use Rattle.stn_net.specs.Difference.{NamesEvents}
+use Rattle.stn_records.{specs.{Id.{SiteCounter, id_cmp, same_ids}, Record.same_marks, declared.record.{Mark.TheVariants.{Plain, Done}, Record.Record}}, proofs.Places.id_searched}
 use Rattle.stn_site.{specs.Bounds.bounds_of, proofs.Named.{records_from_bounds, bounds_from_records}}
 use Rattle.stn_repairs.specs.{Repairs.without, Dropped.{marked, facts_first}}
 
--- the records as they were listed
-pub records_listed : (records : List (SiteCounter × Record)) → map (λ (one : SiteCounter × Mark × Difference). (one.0, record { mark = one.1; bound = one.2 })) (map listed records) ≡ records
-records_listed [] = refl
-records_listed (entry ∷ records) = ap (λ (rest : List (SiteCounter × Record)). entry ∷ rest) (records_listed records)
+-- a search of ids in order tells whether an id is among them
+pub found_is : (ids seen : List SiteCounter) (id : SiteCounter) (found : Result ℕ ℕ) → seen ≡ ids → IsSorted id_cmp ids → IsSearchInRange found (length seen)
+    → IsBinarySearchResult (λ one. id_cmp one id) seen found → is_ok found ≡ is_member same_ids ids id
+found_is ids seen id found is in_order in_range at =
+    id_searched seen id (subst (IsSorted id_cmp) (sym is) in_order) found in_range at ∙ ap (λ (all : List SiteCounter). is_member same_ids all id) is
 
--- whether an id is a member
-pub member_is : (ids : List SiteCounter) (id : SiteCounter) (so : Bool) → (IsTrue so ↔ Contains ids id) → is_member same_ids ids id ≡ so
-member_is ids id true says = (is_member-Decides ids_decide ids id).1 (says.0 refl)
-member_is ids id false says = by (is_member same_ids ids id) refl
-  where
-    by : (b : Bool) → is_member same_ids ids id ≡ b → is_member same_ids ids id ≡ false
-    by true e = absurd (false≢true (says.1 ((is_member-Decides ids_decide ids id).0 e)))
-    by false e = e
+-- ids that were moved are the same ids
+pub same_among : (ids moved : List SiteCounter) (live : List (SiteCounter × Record)) (place : ℕ) (kept : List SiteCounter) → IsPermutation ids moved → length live ≤ place
+    → kept ≡ filter (λ id. is_member same_ids moved id) (map (λ (e : SiteCounter × Record). e.0) (take place live)) → kept ≡ filter (λ id. is_member same_ids ids id) (map (λ (e : SiteCounter × Record). e.0) live)
+same_among ids moved live place kept shuffled past is =
+    is
+    ∙ ap (λ (all : List (SiteCounter × Record)). filter (λ id. is_member same_ids moved id) (map (λ (e : SiteCounter × Record). e.0) all)) (take_all place live past)
+    ∙ filter_agree (λ id. is_member same_ids moved id) (λ id. is_member same_ids ids id) (λ id. sym (list_any-IsPermutation (same_ids id) ids moved shuffled)) (map (λ (e : SiteCounter × Record). e.0) live)
 
 -- the ids of one more record that are among some
 module _ (ids : List SiteCounter) (live : List (SiteCounter × Record)) (place : ℕ) (entry : SiteCounter × Record) (there : place < length live) (is_at : entry ≡ get_or live place entry) where

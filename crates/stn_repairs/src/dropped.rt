@@ -1,4 +1,4 @@
-ghost use Rattle.std.specs.{Prelude.{◌≡◌, ◌++◌, ◌↔◌, All, IsTrue, IfOk, OnOk}, List.Contains};
+ghost use Rattle.std.specs.Prelude.{◌≡◌, ◌++◌, All, IfOk, OnOk};
 ghost use Rattle.stn_net.specs.Difference.{NamesEvents};
 ghost use Rattle.stn_lift.specs.PlanSource.{base_bounds, events_of};
 ghost use Rattle.stn_site.specs.Bounds.{bounds_of};
@@ -19,10 +19,11 @@ pub fn dropped_ids<A: Allocator + Copy>(
     ensures { IfOk result (λ ids. AreDropped (base_bounds plan.now.source) live.now ids.items) }
 {
     let order = facts_first(plan.alloc(), live)?;
-    let refused = refused_ids(plan, &order)?;
+    let mut refused = refused_ids(plan, &order)?;
+    refused.sort_unstable();
     let mut ids = Vec::new(plan.alloc());
     for &(id, _) in live {
-        if is_among(&refused, id) {
+        if refused.binary_search(&id).is_ok() {
             ids.push(id)?;
         }
     }
@@ -75,10 +76,4 @@ fn refused_ids<A: Allocator + Copy>(
         }
     }
     Ok(refused)
-}
-
-fn is_among(ids: &[Id], id: Id) -> bool
-    ensures { IsTrue result ↔ Contains ids.now id }
-{
-    ids.iter().any(|one| *one == id)
 }
