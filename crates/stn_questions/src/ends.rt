@@ -1,12 +1,12 @@
-ghost use Rattle.std.specs.{Prelude.{◌≡◌, ◌<◌, ◌≤◌, ◌++◌, neg_ℤ, length, codes, All, IfOk, OnOk, MatchOption}, List.flat_map};
+ghost use Rattle.std.specs.Prelude.{◌≡◌, ◌<◌, ◌≤◌, ◌++◌, neg_ℤ, length, codes, All, IfOk, OnOk, MatchOption};
 ghost use Rattle.stn_time.specs.{Text.printed, Time.IsWithinHorizon};
 ghost use Rattle.stn_net.specs.Schedule.{HasSchedule};
-ghost use Rattle.stn_lift.specs.PlanSource.{events_of, base_bounds};
-ghost use Rattle.stn_site.specs.{Bounds.{all_bounds, live_bounds}, Names.live_ids, Lines.{line, link_line}};
-ghost use Rattle.stn_questions.specs.Why.{HoldEnds, end_text, ends_text};
+ghost use Rattle.stn_lift.specs.PlanSource.{events_of};
+ghost use Rattle.stn_site.specs.{Bounds.all_bounds, Lines.line};
+ghost use Rattle.stn_questions.specs.Why.{HoldEnds, ends_text};
 
 use std::alloc::Allocator;
-use stn_conflict::{BothWays, Link, both_ways};
+use stn_conflict::{BothWays, both_ways};
 use stn_net::Event;
 use stn_site::{SitePlan, append_link_lines};
 use stn_time::{Memory, Ms};
@@ -39,7 +39,7 @@ pub fn times_of<A: Allocator>(ends: &BothWays<A>) -> (Ms, Ms)
     (least, greatest)
 }
 
-// Appends both ends, each after its word.
+// Appends both ends: of each its time after its word, and then the lines of the links of the way that holds it.
 pub fn append_ends<A: Allocator + Copy>(
     plan: &SitePlan<A>,
     least_word: &[u8],
@@ -55,25 +55,16 @@ pub fn append_ends<A: Allocator + Copy>(
         ++ ends_text plan.now.source plan.now.state least_word.now greatest_word.now ends.now) }
 {
     let (least, greatest) = times_of(ends);
-    append_end(plan, least_word, least, &ends.onward.links, out)?;
-    append_end(plan, greatest_word, greatest, &ends.back.links, out)
+    let base = plan.base().bounds();
+    let ids = plan.live_ids()?;
+    let others = plan.live_bounds()?;
+    append_time(out, least_word, least)?;
+    append_link_lines(base, &ids, &others, &ends.onward.links, out)?;
+    append_time(out, greatest_word, greatest)?;
+    append_link_lines(base, &ids, &others, &ends.back.links, out)
 }
 
-// Appends an end: its time after a word, and the links of the way that holds it.
-fn append_end<A: Allocator + Copy>(
-    plan: &SitePlan<A>,
-    word: &[u8],
-    time: Ms,
-    links: &[Link],
-    out: &mut Vec<u8, A>,
-) -> Result<(), Memory>
-    requires { All (λ link. link.place < length (all_bounds plan.now.source plan.now.state)) links.now }
-    ensures { OnOk result (out.new.items ≡ out.old.items ++ end_text plan.now.source plan.now.state word.now time links.now) }
-{
-    append_time(out, word, time)?;
-    append_way(plan, links, out)
-}
-
+// Appends the line of a time after a word.
 fn append_time<B: Allocator>(out: &mut Vec<u8, B>, word: &[u8], time: Ms) -> Result<(), Memory>
     ensures { OnOk result (out.new.items ≡ out.old.items ++ line (word.now ++ codes " " ++ printed time)) }
 {
@@ -81,19 +72,4 @@ fn append_time<B: Allocator>(out: &mut Vec<u8, B>, word: &[u8], time: Ms) -> Res
     out.extend_from_slice(b" ")?;
     time.print(out)?;
     out.extend_from_slice(b"\n")
-}
-
-// Appends the lines of the links of a way.
-fn append_way<A: Allocator + Copy>(
-    plan: &SitePlan<A>,
-    links: &[Link],
-    out: &mut Vec<u8, A>,
-) -> Result<(), Memory>
-    requires { All (λ link. link.place < length (all_bounds plan.now.source plan.now.state)) links.now }
-    ensures { OnOk result (out.new.items ≡ out.old.items
-        ++ flat_map (link_line (base_bounds plan.now.source) (live_ids plan.now.state) (live_bounds plan.now.state)) links.now) }
-{
-    let ids = plan.live_ids()?;
-    let others = plan.live_bounds()?;
-    append_link_lines(plan.base().bounds(), &ids, &others, links, out)
 }
