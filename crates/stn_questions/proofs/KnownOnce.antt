@@ -1,6 +1,6 @@
 -- The known ids, each once and in order.
-use Rattle.std.{proofs.{Common.{rules, ◌≡◌, Bool, true, ◌&&◌, ◌||◌, eqb, List, [], ◌∷◌, ◌++◌, refl, sym, ap, subst, ◌∙◌, ◌↔◌, IsTrue, map}, lemmas.{Bool.Decides.same_from_decides, List.{Folds.{Any-from_list_any, list_any-from_Any}, Sorted.{Contains-permutation, IsPermutation-sym}, Kept.{Contains-dedup, Contains-from_dedup, IsStrictlySortedBy-dedup}}, Map.Views.{Contains-from_any, list_any-from_Contains}}, Math.Bool.{or_assoc, or_comm}}, specs.{Cmp.{IsEquivalence, eq_by_cmp_equiv}, List.{Any, Contains, dedup, list_any, Sorted.{IsPermutation, IsSorted, IsStrictlySortedBy}}, Set.is_member, FinMap.contains_key-keys}}
-use Rattle.stn_records.{specs.{Id.{SiteCounter, id_cmp}, Content.{Content, is_known, same_ids}, ContentLaws.{ids_total, ids_decide}}, proofs.{KnownIds.member-append, Replaced.with_ids_member}}
+use Rattle.std.{proofs.{Common.{rules, ◌≡◌, Bool, true, ◌&&◌, ◌||◌, eqb, List, ◌++◌, refl, sym, ap, subst, ◌∙◌}, lemmas.{List.{Sorted.{Contains-permutation, IsPermutation-sym}, Kept.{Contains-dedup, Contains-from_dedup, IsStrictlySortedBy-dedup}}, Map.Views.{Contains-from_any, list_any-from_Contains}}, Math.Bool.{or_assoc, or_comm}}, specs.{Cmp.{IsEquivalence, eq_by_cmp_equiv}, List.{Contains, dedup, Sorted.{IsPermutation, IsSorted, IsStrictlySortedBy}}, Set.is_member, FinMap.contains_key-keys}}
+use Rattle.stn_records.{specs.{Id.{SiteCounter, id_cmp}, Content.{Content, is_known, same_ids}, ContentLaws.{ids_total}}, proofs.{KnownIds.member-append, Replaced.with_ids_member}}
 use Rattle.std.specs.FinMap as fin
 use Rattle.stn_questions.specs.Records.{AreKnown}
 
@@ -50,17 +50,3 @@ known_once state listed sorted ids all moved in_order is =
             subst (λ (xs : List SiteCounter). Contains xs id) (sym once) (Contains-dedup laws same_is sorted id moved_there)),
       );
     }
-
-any_value : (id : SiteCounter) (entries : List (SiteCounter × SiteCounter)) → list_any (λ entry. same_ids id entry.1) entries ≡ is_member same_ids (map (λ entry. entry.1) entries) id
-any_value id [] = refl
-any_value id (entry ∷ entries) = cc (any_value id entries)
-
--- an id is replaced where an entry replaces it
-pub amended_is : (entries : List (SiteCounter × SiteCounter)) (id : SiteCounter) (so : Bool) → (IsTrue so ↔ Any (λ entry. entry.1 ≡ id) entries)
-    → so ≡ is_member same_ids (map (λ entry. entry.1) entries) id
-amended_is entries id so says =
-    same_from_decides so (list_any (λ entry. same_ids id entry.1) entries) says (
-      λ t. let one = Any-from_list_any (λ entry. same_ids id entry.1) entries t in (one.0, one.1, one.2, one.3, sym ((ids_decide id one.1.1).0 one.4)),
-      λ one. list_any-from_Any (λ entry. same_ids id entry.1) entries (one.0, one.1, one.2, one.3, (ids_decide id one.1.1).1 (sym one.4)),
-    )
-    ∙ any_value id entries

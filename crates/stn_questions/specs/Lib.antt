@@ -3,6 +3,7 @@ pub mod Bounds
 pub mod Durations
 pub mod Ready
 pub mod Records
+pub mod Replaced
 pub mod Steps
 pub mod Why
 pub mod Words

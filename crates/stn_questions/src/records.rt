@@ -1,5 +1,5 @@
-ghost use Rattle.std.specs.{Prelude.{◌≡◌, ◌↔◌, ◌++◌, ℕ, List, map, Option, IsTrue, IfOk, OnOk, OnErr}, List.{Any, flat_map}};
-ghost use Rattle.stn_questions.specs.Records.{AreKnown, IsRecordsText, amends_text, held_text, word_where, record_line};
+ghost use Rattle.std.specs.{Prelude.{◌≡◌, ◌++◌, ℕ, List, map, Option, IfOk, OnOk, OnErr}, List.flat_map};
+ghost use Rattle.stn_questions.specs.{Records.{AreKnown, IsRecordsText, amends_text, held_text, word_where, record_line}, Replaced.AreReplaced};
 
 use crate::bounds::append_bound;
 use std::alloc::Allocator;
@@ -26,8 +26,9 @@ fn text_of<A: Allocator + Copy>(alloc: A, records: &Records<A>) -> Result<Vec<u8
     ensures { IfOk result (λ text. IsRecordsText records.now text.items) }
 {
     let ids = known_ids(alloc, records)?;
+    let replaced = replaced_ids(alloc, records)?;
     let mut text = Vec::new(alloc);
-    append_lines(records, &ids, &mut text)?;
+    append_lines(records, &replaced, &ids, &mut text)?;
     Ok(text)
 }
 
@@ -63,24 +64,44 @@ fn listed_ids<A: Allocator>(
     added.chain(withdrawn).chain(replaced).collect(alloc)
 }
 
+// The ids that records replace, in order.
+fn replaced_ids<A: Allocator + Copy>(alloc: A, records: &Records<A>) -> Result<Vec<Id, A>, Memory>
+    ensures { IfOk result (λ ids. AreReplaced records.now ids.items) }
+{
+    let mut ids = old_ids(alloc, records.state().replacements().entries())?;
+    ids.sort_unstable();
+    Ok(ids)
+}
+
+// The ids that the entries replace.
+fn old_ids<A: Allocator>(alloc: A, replacing: &[(Id, Id)]) -> Result<Vec<Id, A>, Memory>
+    ensures { IfOk result (λ ids. ids.items ≡ map (λ entry. entry.1) replacing.now) }
+{
+    replacing.iter().map(|entry| entry.1).collect(alloc)
+}
+
 fn append_lines<A: Allocator + Copy, B: Allocator>(
     records: &Records<A>,
+    replaced: &[Id],
     ids: &[Id],
     out: &mut Vec<u8, B>,
 ) -> Result<(), Memory>
+    requires { AreReplaced records.now replaced.now }
     ensures { OnOk result (out.new.items ≡ out.old.items ++ flat_map (record_line records.now) ids.now) }
 {
     for id in ids {
-        append_line(records, *id, out)?;
+        append_line(records, replaced, *id, out)?;
     }
     Ok(())
 }
 
 fn append_line<A: Allocator + Copy, B: Allocator>(
     records: &Records<A>,
+    replaced: &[Id],
     id: Id,
     out: &mut Vec<u8, B>,
 ) -> Result<(), Memory>
+    requires { AreReplaced records.now replaced.now }
     ensures { OnOk result (out.new.items ≡ out.old.items ++ record_line records.now id) }
 {
     let state = records.state();
@@ -88,11 +109,7 @@ fn append_line<A: Allocator + Copy, B: Allocator>(
     append_held(state.additions().get(id), out)?;
     append_amended(state.replacements().get(id), out)?;
     append_word(state.tombstones().contains(id), b" withdrawn", out)?;
-    append_word(
-        is_replaced(state.replacements().entries(), id),
-        b" replaced",
-        out,
-    )?;
+    append_word(replaced.binary_search(&id).is_ok(), b" replaced", out)?;
     out.extend_from_slice(b"\n")
 }
 
@@ -121,13 +138,6 @@ fn append_amended<B: Allocator>(old: Option<Id>, out: &mut Vec<u8, B>) -> Result
         }
         None => Ok(()),
     }
-}
-
-// Whether one of the entries replaces the id.
-fn is_replaced(entries: &[(Id, Id)], id: Id) -> bool
-    ensures { IsTrue result ↔ Any (λ entry. entry.1 ≡ id) entries.now }
-{
-    entries.iter().any(|entry| entry.1 == id)
 }
 
 // Appends the word where it is so.

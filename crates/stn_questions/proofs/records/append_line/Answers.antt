@@ -1,7 +1,7 @@
-use Rattle.std.{proofs.{Common.{◌≡◌, List, [], ◌∷◌, ◌++◌, ap, ◌∙◌, codes, map}, lemmas.Result.IfOk-weaker}, specs.{Set.is_member, FinMap.{entries, get, contains_key}}}
-use Rattle.stn_records.specs.{Id.{SiteCounter, same_ids, id_text}, Content.Content}
+use Rattle.std.{proofs.{Common.{◌≡◌, [], ◌∷◌, ◌++◌, ap, ◌∙◌, codes}, lemmas.Result.IfOk-weaker}, specs.FinMap.{get, contains_key}}
+use Rattle.stn_records.{specs.{Id.{id_text}, Content.Content}, proofs.Places.id_searched}
 use Rattle.stn_site.proofs.Printing.{appended_ok}
-use Rattle.stn_questions.{specs.Records.{amends_text, held_text, word_where, is_amended}, proofs.{KnownOnce.amended_is, Listing.line_in_parts}}
+use Rattle.stn_questions.{specs.Records.{amends_text, held_text, word_where, is_amended}, proofs.Listing.line_in_parts}
 use Rattle.stn_questions.proofs.records.append_line.Goals as goal
 
 pub returns : goal.returns
@@ -12,9 +12,8 @@ returns g c =
     let added = c.get.ensures ∙ ap (λ m. get m id) (c.additions.ensures ∙ ap (λ (s : Content). s.additions) there) in
     let old = c.get-2.ensures ∙ ap (λ m. get m id) (c.replacements.ensures ∙ ap (λ (s : Content). s.replacements) there) in
     let gone = c.contains.ensures ∙ ap (λ m. contains_key m id) (c.tombstones.ensures ∙ ap (λ (s : Content). s.tombstones) there) in
-    let listed = c.entries.ensures.value ∙ ap entries (c.replacements-2.ensures ∙ ap (λ (s : Content). s.replacements) there) in
-    let replaced : c.is_replaced.result ≡ is_amended state id = amended_is c.entries.result.now id c.is_replaced.result c.is_replaced.ensures
-    ∙ ap (λ (es : List (SiteCounter × SiteCounter)). is_member same_ids (map (λ entry. entry.1) es) id) listed in
+    let replaced : c.is_ok.result ≡ is_amended state id = c.is_ok.ensures.value
+    ∙ id_searched c.args.replaced.now id c.requires.order c.binary_search.result c.binary_search.ensures.bound c.binary_search.ensures.position ∙ c.requires.each id in
     IfOk-weaker c.extend_from_slice.result _ _ (λ _ ended. line_in_parts c.args.out.now.items (id_text id) (held_text (get state.additions id)) (amends_text (get state.replacements id))
     (word_where (contains_key state.tombstones id) (codes " withdrawn")) (word_where (is_amended state id) (codes " replaced"))
     c.print.new.out.items c.append_held.new.out.items c.append_amended.new.out.items c.append_word.new.out.items c.append_word-2.new.out.items c.extend_from_slice.new.self.items
