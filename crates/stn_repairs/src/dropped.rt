@@ -1,6 +1,7 @@
-ghost use Rattle.std.specs.Prelude.{◌≡◌, ◌++◌, All, IfOk, OnOk};
+ghost use Rattle.std.specs.{Prelude.{◌≡◌, ◌++◌, All, IsTrue, IfOk, OnOk}, FinMap.is_sorted};
 ghost use Rattle.stn_net.specs.Difference.{NamesEvents};
 ghost use Rattle.stn_lift.specs.PlanSource.{base_bounds, events_of};
+ghost use Rattle.stn_records.specs.Id.{id_cmp};
 ghost use Rattle.stn_site.specs.Bounds.{bounds_of};
 ghost use Rattle.stn_repairs.specs.Dropped.{marked, facts_first, AreRefused, AreDropped};
 
@@ -15,18 +16,13 @@ pub fn dropped_ids<A: Allocator + Copy>(
     plan: &SitePlan<A>,
     live: &[(Id, Record)],
 ) -> Result<Vec<Id, A>, Memory>
-    requires { All (NamesEvents (events_of plan.now.source)) (bounds_of live.now) }
+    requires named { All (NamesEvents (events_of plan.now.source)) (bounds_of live.now) }
+    requires in_order { IsTrue (is_sorted id_cmp live.now) }
     ensures { IfOk result (λ ids. AreDropped (base_bounds plan.now.source) live.now ids.items) }
 {
     let order = facts_first(plan.alloc(), live)?;
-    let mut refused = refused_ids(plan, &order)?;
-    refused.sort_unstable();
-    let mut ids = Vec::new(plan.alloc());
-    for &(id, _) in live {
-        if refused.binary_search(&id).is_ok() {
-            ids.push(id)?;
-        }
-    }
+    let mut ids = refused_ids(plan, &order)?;
+    ids.sort_unstable();
     Ok(ids)
 }
 

@@ -1,7 +1,7 @@
-ghost use Rattle.std.specs.Prelude.{◌≡◌, All, IfOk};
+ghost use Rattle.std.specs.{Prelude.{◌≡◌, All, IsTrue, IfOk}, FinMap.is_sorted};
 ghost use Rattle.stn_net.specs.Difference.{NamesEvents};
 ghost use Rattle.stn_lift.specs.PlanSource.{events_of};
-ghost use Rattle.stn_records.specs.Content.{live_of};
+ghost use Rattle.stn_records.specs.{Id.id_cmp, Content.live_of};
 ghost use Rattle.stn_site.specs.Bounds.{bounds_of};
 ghost use Rattle.stn_repairs.specs.Repairs.{without};
 
@@ -15,6 +15,7 @@ use stn_time::Memory;
 pub fn live_records<A: Allocator + Copy>(plan: &SitePlan<A>) -> Result<Vec<(Id, Record), A>, Memory>
     ensures live { IfOk result (λ live. live.items ≡ live_of plan.now.state) }
     ensures named { All (NamesEvents (events_of plan.now.source)) (bounds_of (live_of plan.now.state)) }
+    ensures in_order { IsTrue (is_sorted id_cmp (live_of plan.now.state)) }
 {
     plan.records().live_records().collect(plan.alloc())
 }

@@ -1,6 +1,6 @@
 use Rattle.std.proofs.{Common.{ap, ◌∙◌}, lemmas.Iterator.{items_from_collect, Consumers.YieldsList-from_rest}}
 use Rattle.stn_lift.specs.PlanSource.{events_of}
-use Rattle.stn_records.specs.Content.{live_of}
+use Rattle.stn_records.{specs.Content.live_of, proofs.Live.live_sorted}
 use Rattle.stn_site.proofs.Named.{live_named}
 use Rattle.stn_repairs.proofs.live.live_records.Goals as goal
 
@@ -10,3 +10,6 @@ returns-clause-live g c =
 
 pub returns-clause-named : goal.returns-clause-named
 returns-clause-named g c = live_named (events_of c.args.plan.now.source) c.args.plan.now.state c.records.ensures.named
+
+pub returns-clause-in_order : goal.returns-clause-in_order
+returns-clause-in_order g c = live_sorted c.args.plan.now.state

@@ -14,6 +14,14 @@ repairs_on-requires g c =
       negative = rw (c.deref-4.ensures.value, ← all) (rw c.in-Some.is at c.in_ok-found.ensures.negative);
     }
 
+pub dropped_ids-requires : goal.dropped_ids-requires
+dropped_ids-requires g c =
+    let listed = c.deref-5.ensures.value ∙ c.in_ok-live.ensures.live in
+    record {
+      named = rw listed c.live_records.ensures.named;
+      in_order = rw listed c.live_records.ensures.in_order;
+    }
+
 pub returns : goal.returns
 returns g c =
     let all : c.bounds.result.now ++ c.deref-2.result.now ≡ base_bounds c.args.plan.now.source ++ bounds_of (live_of c.args.plan.now.state) = search rules in
