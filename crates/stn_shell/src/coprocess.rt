@@ -234,6 +234,8 @@ fn answer_line<S: Store<Global>, E: Write>(
         }
         Err(Failure::Refused(refusal)) => {
             tell_made(reason_in_line(alloc, store, line, refusal), err);
+            // What the search for the reason could not read is no fault of the command.
+            drop(store.trouble());
             Err(Failure::Refused(refusal))
         }
         Err(Failure::Failed(fault)) => Err(Failure::Failed(fault)),
