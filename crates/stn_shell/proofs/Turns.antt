@@ -1,5 +1,5 @@
 -- The lines of a shell: their words, how they are read, and how they come one after the other; and what is told.
-use Rattle.std.{proofs.Common.{Bor, Vec, inl, inr, map, Bool, true, false, ◌≡◌, ◌∙◌, ap, sym, refl, ℕ, List, [], ◌∷◌, ◌++◌, append_assoc}, specs.{Prelude.{IsUtf8, IfOk, MatchResult, if◌then◌else◌, Ok, Err, Result}, Int.from_bool, List.AllByRecursion}}
+use Rattle.std.{proofs.{Common.{Bor, Vec, inl, inr, map, Bool, true, false, Option, Some, None, is_some, ◌≡◌, ◌∙◌, ap, sym, refl, ℕ, List, [], ◌∷◌, ◌++◌, append_assoc}, lemmas.Bool.false≢true}, specs.{Prelude.{not, IsUtf8, IfNone, IfSome, IfOk, MatchResult, if◌then◌else◌, Ok, Err, Result}, Int.from_bool, List.AllByRecursion}}
 use Rattle.stn_effects.specs.{Effects.{Effect, stopped, went, seen}, Printing.{Device, TellsText}}
 use Rattle.stn_refusal.specs.declared.failure.Failure.{Failure}
 use Rattle.stn_shell.specs.{Carried.{Succeeds, Does}, Outside.{Outside, TellsSome}}
@@ -47,3 +47,11 @@ pub tells_some : {A E : Type 0} (Is : List ℕ → Type 0) (made : Result (Vec �
     → MatchResult made (λ text. TellsText text.items err told) (λ _. told ≡ err) → TellsSome Is err told
 tells_some Is (Ok text) err told is tells = inl (text.items, is, tells)
 tells_some Is (Err lack) err told is same = inr same
+
+-- whether a line is skipped, by whether there is a word that opens it
+pub skipped_without : {X : Type 0} (word : Option X) (none skipped : Bool) → IfNone word (skipped ≡ true) → IfSome word (λ _. skipped ≡ false) → is_some word ≡ not none
+    → skipped ≡ none
+skipped_without None true skipped skips keeps is = skips
+skipped_without None false skipped skips keeps is = absurd (false≢true is)
+skipped_without (Some word) true skipped skips keeps is = absurd (false≢true (sym is))
+skipped_without (Some word) false skipped skips keeps is = keeps

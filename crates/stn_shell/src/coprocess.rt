@@ -3,7 +3,6 @@
 ghost use Rattle.std.specs.{Prelude.{◌≡◌, ◌≢◌, ◌≤◌, ◌++◌, [], ◌∷◌, ℕ, List, true, false, None, Some, Ok, map, IsUtf8, IfOk, IfErr, OnOk, OnErr, IfSome, IsNone}, List.AllByRecursion};
 ghost use Rattle.stn_effects.specs.{Effects.{seen, Then}, Printing.{Device, device_of, Prints, IsUnprinted, TellsText}};
 ghost use Rattle.stn_text.specs.{Bytes.line_feed, Lines.words_of};
-ghost use Rattle.stn_exec.specs.Script.{is_skipped as skips};
 ghost use Rattle.stn_logs.specs.Commands.{DoesLine};
 ghost use Rattle.stn_refusal.specs.Printed.{refusal_text};
 ghost use Rattle.stn_shell.specs.{Coprocess.{line_words, of_shell, DoesText, DoesWords, ReadsTexts, RunsShell, SaysWhy}, Outside.{outside, InStore, Mentions, OnError}};
@@ -16,6 +15,7 @@ use std::alloc::Global;
 use std::io::{Read, Write};
 use stn_device::{Counted, MOST_BYTES};
 use stn_effects::{print_now, tell};
+use stn_exec::opening_word;
 use stn_line::{Line, LineFault, SiteLog, line, said};
 use stn_logs::{Kept, answer_with, find_log};
 use stn_reasons::{reason_in_line, waiting_of};
@@ -70,7 +70,7 @@ fn do_line<S: Store<Global>, W: Write, E: Write>(
         (outside (S.entries store.old) unread (device_of W.contents out.old) (device_of E.contents err.old))
         (outside (S.entries store.new) unread (device_of W.contents out.new) (device_of E.contents err.new)) result }
 {
-    if is_skipped(text) {
+    if opening_word(text).is_none() {
         return Ok(false);
     }
     match reply(alloc, store, kept, log, number, text, err) {
@@ -83,16 +83,6 @@ fn do_line<S: Store<Global>, W: Write, E: Write>(
             Ok(true)
         }
         Err(Failure::Failed(fault)) => Err(Failure::Failed(fault)),
-    }
-}
-
-// Whether a line has no words, or is a comment.
-fn is_skipped(text: &[u8]) -> bool
-    ensures { result ≡ skips (words_of text.now) }
-{
-    match first_word(text) {
-        Some((word, _)) => word.first() == Some(&b'#'),
-        None => true,
     }
 }
 
