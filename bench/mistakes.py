@@ -203,6 +203,7 @@ MISTAKES = [
     ("names of a bare plan", simple("report", "t.log", "1", "--names"), "give --plan=PLAN", True),
     ("a code that there is not", simple("explain", "99"), "explain lists them", True),
     ("a log that is not there", simple("report", "tt.log", "1"), "tt.log: no such file or folder", True),
+    ("a change of a log that is not there", simple("add", "tt.log", "1", "s1", "e1"), "tt.log: no such file or folder", True),
     ("a log that is there already", simple("bare", "t.log", "1", "2"), "see t.log", True),
     ("a folder in place of a log", folder, "plans: is a folder", True),
     ("a file of another program", notes, "see notes.txt", True),

@@ -1,11 +1,11 @@
 //! A question about a log, and what was answered.
 
 ghost use Rattle.std.specs.Prelude.{◌≡◌, true, IfSome};
-ghost use Rattle.stn_command.specs.Query.{seen_query, seen_choice};
-ghost use Rattle.stn_logs.specs.Keeping.{asked_query, of_all};
+ghost use Rattle.stn_command.specs.Query.{seen_query};
+ghost use Rattle.stn_logs.specs.Keeping.{asked_query};
 
 use std::alloc::Allocator;
-use stn_command::{Choice, Query};
+use stn_command::Query;
 use stn_questions::Outlook;
 use stn_time::Ms;
 
@@ -52,7 +52,10 @@ impl AskedBefore {
             (AskedBefore::Report, Query::Report) => true,
             (AskedBefore::Repairs, Query::Repairs) => true,
             (AskedBefore::Foresee(outlook, now, starts), Query::Foresee(other, time, choice)) => {
-                is_outlook(*outlook, *other) && *now == *time && is_of_all(choice, *starts)
+                is_outlook(*outlook, *other)
+                    && *now == *time
+                    && choice.steps.is_none()
+                    && choice.starts == *starts
             }
             _ => false,
         }
@@ -67,17 +70,6 @@ impl<A: Allocator + Copy> Answered<A> {
         let asked = AskedBefore::of(query)?;
         let text = Vec::from_slice(alloc, text).ok()?;
         Some(Answered { asked, text })
-    }
-}
-
-// Whether a choice is of all steps, or of all starts.
-fn is_of_all(choice: &Choice<'_>, starts: bool) -> bool
-    ensures { result ≡ true → of_all starts ≡ seen_choice choice.now }
-{
-    match (choice.steps, starts, choice.starts) {
-        (None, true, true) => true,
-        (None, false, false) => true,
-        _ => false,
     }
 }
 

@@ -91,7 +91,7 @@ fn merge_log<S: Store<A>, A: Allocator + Copy>(
     let theirs = store.load(other, plan.site())?;
     take_in(plan, &theirs)?;
     drop(theirs);
-    Ok(Outcome::Updated(copied(alloc, b"merged\n")?))
+    Ok(Outcome::Updated(Vec::from_slice(alloc, b"merged\n")?))
 }
 
 // Adds the guard of what a site holds.
@@ -115,14 +115,5 @@ fn guard_lines<A: Allocator>(alloc: A, ids: Option<&[Id]>) -> Result<Vec<u8, A>,
 {
     let mut text = Vec::new(alloc);
     print_guard(ids, &mut text)?;
-    Ok(text)
-}
-
-/// A copy of a text.
-pub fn copied<A: Allocator>(alloc: A, line: &[u8]) -> Result<Vec<u8, A>, Memory>
-    ensures { IfOk result (λ text. text.items ≡ line.now) }
-{
-    let mut text = Vec::new(alloc);
-    text.extend_from_slice(line)?;
     Ok(text)
 }

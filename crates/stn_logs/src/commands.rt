@@ -11,7 +11,7 @@ ghost use Rattle.stn_asked.specs.Words.{seen_update};
 ghost use Rattle.stn_logs.specs.Commands.{FindsSource, FindsNames, MakesLog, SavesMade, AnswersAsked, UpdatesLog, DoesLine};
 ghost use Rattle.stn_store.specs.{Log.log_held, Store.{IsMissing, IsLack}, Steps.{FindsFree, LoadsLog, SavesNew}};
 
-use crate::changes::{Outcome, copied, make_update, opened};
+use crate::changes::{Outcome, make_update, opened};
 use crate::explaining::explain;
 use crate::keeping::Kept;
 use std::alloc::Allocator;
@@ -20,7 +20,7 @@ use stn_command::{Query, no_such_word, say_named};
 use stn_lift::Source;
 use stn_line::{Line, NameWords, NewLog, SiteLog};
 use stn_loosen::loosen;
-use stn_refusal::{Code, Failure, Fault};
+use stn_refusal::{Code, Failure};
 use stn_site::SitePlan;
 use stn_store::Store;
 
@@ -143,7 +143,7 @@ fn save_made<S: Store<A>, A: Allocator + Copy>(
 ) -> Result<Vec<u8, A>, Failure>
     ensures { SavesMade S.fails name.now plan.now.source plan.now.state (S.entries store.old) (S.entries store.new) (seen (λ text. text.items) result) }
 {
-    let text = copied(alloc, b"made\n")?;
+    let text = Vec::from_slice(alloc, b"made\n")?;
     save_new(store, name, plan)?;
     Ok(text)
 }
@@ -178,11 +178,11 @@ fn hold_log<S: Store<A>, A: Allocator + Copy>(store: &S, name: &str) -> Result<S
     ensures named { IfOk result (λ held. S.held_name held ≡ name.now) }
     ensures failed { IfErr result (λ failure. IsMissing (S.entries store.now) name.now failure ⊎ IsLack S.fails failure) }
 {
-    if store.is_there(name)? {
-        store.hold(name)
-    } else {
-        Err(Failure::Failed(Fault::File))
+    if !store.is_there(name)? {
+        // What is missing can't be read, and the store keeps why; no lock is made for it. What came meanwhile is held.
+        store.has(name, b"")?;
     }
+    store.hold(name)
 }
 
 // Holds a log that is there: it, and what it says. No other program changes it until what is held is dropped.
@@ -270,7 +270,7 @@ fn own_plan_text<A: Allocator + Copy>(ours: &SitePlan<A>) -> Result<Option<Vec<u
     match ours.base().source() {
         Source::Bare(_) => Err(no_such_word()),
         Source::Files(_, plan) => {
-            let text = copied(ours.alloc(), plan)?;
+            let text = Vec::from_slice(ours.alloc(), plan)?;
             Ok(Some(text))
         }
     }

@@ -8,7 +8,6 @@ ghost use Rattle.stn_logs.specs.Keeping.{IsKeptAnswer, SawLogOf};
 ghost use Rattle.stn_store.specs.{Log.{log_held, IsLog}, Store.{Opens, IsMissing, IsUnopened, IsLack}};
 
 use crate::answered::Answered;
-use crate::changes::copied;
 use std::alloc::Allocator;
 use std::marker::Model;
 use stn_command::{Query, say};
@@ -207,7 +206,7 @@ impl<A: Allocator + Copy> Known<A> {
     {
         let alloc = self.plan.alloc();
         if let Some(text) = self.answer_to(query) {
-            return Ok(copied(alloc, text)?);
+            return Ok(Vec::from_slice(alloc, text)?);
         }
         match self.say_anew(query) {
             Ok(text) => {

@@ -14,10 +14,10 @@ returns-in_err-take_in g c =
     rw (passed_on _ _ c.from_residual-in_err-take_in.ensures.1) (went c.in_ok-theirs.theirs _ (refl, opened)
     (refl, ⊎_elim (λ memory. inr (lack_of_memory _ _ memory)) inl c.in_err-take_in.ensures.refused))
 
-pub returns-in_err-copied : goal.returns-in_err-copied
-returns-in_err-copied g c =
+pub returns-in_err-from_slice : goal.returns-in_err-from_slice
+returns-in_err-from_slice g c =
     let opened = rw c.site.ensures at c.in_ok-theirs.ensures.opened in
-    rw (passed_on _ _ c.from_residual-in_err-copied.ensures.1) (went c.in_ok-theirs.theirs _ (refl, opened) (refl, inr (lack_of_memory g.S.Store.fails _ refl)))
+    rw (passed_on _ _ c.from_residual-in_err-from_slice.ensures.1) (went c.in_ok-theirs.theirs _ (refl, opened) (refl, inr (lack_of_memory g.S.Store.fails _ refl)))
 
 pub returns : goal.returns
 returns g c =
@@ -25,6 +25,6 @@ returns g c =
     let taken = c.in_ok-take_in.ensures in
     went c.in_ok-theirs.theirs _ (refl, opened) (
       refl,
-      (taken.same, (c.take_in.new.copy, taken.left, ap (updated c.take_in.new.copy) c.in_ok-copied.ensures)),
+      (taken.same, (c.take_in.new.copy, taken.left, ap (updated c.take_in.new.copy) c.in_ok-from_slice.ensures.items)),
       inr (taken.same, sym (ap (option_map replica_failure) taken.accepted)),
     )

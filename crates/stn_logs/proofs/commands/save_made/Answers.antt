@@ -10,4 +10,4 @@ pub returns-in_err-save_new : goal.returns-in_err-save_new
 returns-in_err-save_new g c = rw (passed_on _ _ c.from_residual-in_err-save_new.ensures.1) (stopped _ c.in_err-save_new.ensures refl)
 
 pub returns : goal.returns
-returns g c = went tt _ c.in_ok-save_new.ensures (refl, ap Ok c.in_ok-text.ensures)
+returns g c = went tt _ c.in_ok-save_new.ensures (refl, ap Ok c.in_ok-text.ensures.items)
