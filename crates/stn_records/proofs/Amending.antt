@@ -1,5 +1,5 @@
 -- When an amendment is refused, and what it leaves where it is not.
-use Rattle.std.{proofs.{Common.{rules, ◌≡◌, ◌≢◌, ℕ, ◌+◌, ◌-◌, ◌≤◌, Bool, true, false, cond, not, Option, Some, None, is_some, sym, refl, ap, ◌∙◌, arith, ltb}, lemmas.Bool.{false≢true, or_parts}}, specs.Bool.Decides}
+use Rattle.std.{proofs.{Common.{rules, ◌≡◌, ◌≢◌, ℕ, ◌+◌, ◌-◌, ◌≤◌, Bool, true, false, cond, Option, Some, None, is_some, sym, refl, ap, ◌∙◌, arith, ltb}, lemmas.Bool.{false≢true, or_parts}}, specs.Bool.Decides}
 use Rattle.std.specs.FinMap as fin
 use Rattle.stn_net.specs.Difference.{Difference}
 use Rattle.stn_records.{specs.{Id.{SiteCounter, same_ids}, Maps.{differ, AgreesAt}, Refusals.{clashes, is_too_much, amendment_refusal, replace_refusal}, Content.{Content, IsSound, plain, is_known, known_count, with_amendment}}, proofs.{OneItem.amendment_again, Replaced.replaced_by_entry, Limits.amended_count}}

@@ -1,5 +1,5 @@
 -- An id that is replaced is withdrawn, or some record replaces it.
-use Rattle.std.{proofs.{Common.{rules, ◌≡◌, ◌⊎◌, inl, inr, ⊎_elim, Bool, true, false, cond, ◌||◌, List, [], ◌∷◌, map, ℕ, ◌+◌, ◌<◌, get_or, drop, Option, Some, None, is_some, length, sym, refl, ap, subst, ◌∙◌, All}, lemmas.{Bool.{false≢true, or_left, or_right, or_cases}, List.{drop_more, Elements.{All-head, All-tail}}, Option.same_Some}, Math.Bool.or_assoc}, specs.{Ordering.eq_by_cmp, FinMap.{get-insert, get-entries}, Set.is_member, Option.option_or}}
+use Rattle.std.{proofs.{Common.{rules, ◌≡◌, ◌⊎◌, inl, inr, ⊎_elim, Bool, true, false, cond, ◌||◌, List, [], ◌∷◌, map, ℕ, ◌+◌, ◌<◌, get_or, drop, Option, Some, None, is_some, length, sym, refl, ap, subst, ◌∙◌, All}, lemmas.{Bool.{false≢true, or_left, or_right, or_cases}, List.{drop_more, Elements.{All-head, All-tail}, Sorted.list_any-IsPermutation}, Option.same_Some}, Math.Bool.or_assoc}, specs.{Ordering.eq_by_cmp, FinMap.{get-empty, get-insert, get-entries}, List.Sorted.IsPermutation, Set.is_member, Option.option_or}}
 use Rattle.std.specs.FinMap as fin
 use Rattle.stn_records.{specs.{Id.{SiteCounter, id_cmp, same_ids}, Maps.union, MapLaws.get-union, Content.{Content, Item, IdSet, ReplacementMap, withdrawal, replacement, HasItem, dispute_contents, joined_contents, is_replaced, replaced_set, with_ids, with_tombstone, with_amendment}, ContentLaws.{ids_total, ids_exact, ids_decide, contents_join, contents_undisputed}}, proofs.{Gets.entries_from_get, Places.nothing_listed, OneItem.{gone, inserted_value, inserted_here, kept_value}}}
 use Rattle.stn_net.specs.Difference.{Difference}
@@ -102,9 +102,22 @@ or_swap a b c = search rules
 pub put_before : (t : IdSet) (ids : List SiteCounter) (id : SiteCounter) → fin.insert (with_ids t ids) id tt ≡ with_ids (fin.insert t id tt) ids
 put_before t ids id = search (rules, same_sets, inserted_key, with_ids_member)
 
--- the first entry of the rest may be put in first
-pub put_next : (all new : IdSet) (es : List (SiteCounter × SiteCounter)) (i : ℕ) (e : SiteCounter × SiteCounter) → i < length es → new ≡ fin.insert all (get_or es i e).1 tt → with_ids new (map (λ e. e.1) (drop (i + 1) es)) ≡ with_ids all (map (λ e. e.1) (drop i es))
-put_next all new es i e within is = search (rules, put_before, drop_more)
+-- the first id of the rest may be put in first
+pub put_next : (all new : IdSet) (ids : List SiteCounter) (i : ℕ) (id : SiteCounter) → i < length ids → new ≡ fin.insert all (get_or ids i id) tt → with_ids new (drop (i + 1) ids) ≡ with_ids all (drop i ids)
+put_next all new ids i id within is = search (rules, put_before, drop_more)
+
+-- sorted ids, put into a set of their own, and the union with that
+pub put_in_order : (t set all : IdSet) (ids copy sorted read : List SiteCounter) → copy ≡ ids → IsPermutation copy sorted → read ≡ sorted → set ≡ with_ids fin.empty read → all ≡ union t set → all ≡ with_ids t ids
+put_in_order t set all ids copy sorted read same moved is made united = united ∙ same_sets (union t set) (with_ids t ids) (λ q. union_key t set q
+    ∙ ap (λ b. fin.contains_key t q || b) (members q)
+    ∙ turned (fin.contains_key t q) (is_member same_ids ids q)
+    ∙ sym (with_ids_member t ids q))
+  where
+    turned : (a b : Bool) → (a || (b || false)) ≡ (b || a)
+    turned a b = search rules
+
+    members : (q : SiteCounter) → fin.contains_key set q ≡ (is_member same_ids ids q || false)
+    members q = cc (with_ids_member fin.empty read q, list_any-IsPermutation (same_ids q) copy sorted moved, ap is_some (get-empty {X = Unit {0}} id_cmp q))
 
 -- with one more id withdrawn
 pub replaced_withdrawn : (s : Content) (id : SiteCounter) → fin.insert (replaced_set s) id tt ≡ replaced_set (with_tombstone s id)

@@ -106,10 +106,11 @@ known_count s = distinct_count same_ids (known_ids s)
 abbrev pub known_in_either : Content → Content → ℕ
 known_in_either a b = distinct_count same_ids (known_ids a ++ known_ids b)
 
--- what a take leaves: the join, where it is there and knows no more ids than the most
+-- a content knows no more ids than a site may
 abbrev pub is_limited : Content → Bool
 is_limited s = nat_le (known_count s) most_known
 
+-- what a take leaves: the join, where it is there and knows no more ids than the most
 abbrev pub content_taken : Content → Content → Option Content
 content_taken = join_within is_limited join_contents
 

@@ -1,6 +1,6 @@
 -- For proofs alone: no public clause cites these words. They stand here since the laws of the trait `Join` name them.
 -- The joins of maps of records, of sets of ids and of contents are the unions of their items.
-use Rattle.std.{specs.{Prelude.{◌≡◌, Bool, true, false, cond, not, ◌↔◌, ◌⊎◌, Option, Some, None, is_some, refl}, Bool.Decides, Cmp.IsTotalOrder, FinMap.{FinMap, IsAntisymmetric}}, proofs.Common.{rules, ap}}
+use Rattle.std.{specs.{Prelude.{◌≡◌, Bool, cond, not, ◌↔◌, ◌⊎◌, Option, Some, None, is_some, refl}, Bool.Decides, Cmp.IsTotalOrder, FinMap.{FinMap, IsAntisymmetric}}, proofs.Common.{rules, ap}}
 use Rattle.stn_net.specs.Difference.{Difference}
 use Rattle.stn_records.specs.{Id.{SiteCounter, id_cmp, same_ids, lesser_of}, Record.{same_marks, same_bounds, same_records}, declared.record.{Mark.Mark, Record.Record}, Join.IsJoin, JoinLaws.repeats, Maps.same_units, MapLaws.{map_join, join_undisputed, undisputed, disputes, chosen}, Content.{RecordMap, IdSet, ReplacementMap, Content, Item, addition, withdrawal, replacement, HasItem, dispute_contents, join_contents, joined_contents}}
 use Rattle.stn_records.specs.Maps as maps

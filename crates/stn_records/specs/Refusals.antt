@@ -12,11 +12,11 @@ has_no_room s id = not (is_known s id) && (known_count s == most_known)
 abbrev pub addition_refusal : Content → SiteCounter → Record → Option RecordsFault
 addition_refusal s id one = option_or (then_some (differ same_records (map.get s.additions id) (Some one)) (Clash id)) (then_some (has_no_room s id) Full)
 
--- a withdrawal of a known id: it is not known
+-- a withdrawal that asks for a known id: the id is not known
 abbrev pub withdrawal_refusal : Content → SiteCounter → Option RecordsFault
 withdrawal_refusal s id = then_some (not (is_known s id)) Unknown
 
--- a withdrawal of any id: there is no room for it
+-- a withdrawal that takes any id: there is no room for it
 abbrev pub bury_refusal : Content → SiteCounter → Option RecordsFault
 bury_refusal s id = then_some (has_no_room s id) Full
 

@@ -91,7 +91,7 @@ impl Id {
         ensures value { result ≡ self.site }
         ensures within { IsSite result }
     {
-        let _number = self.site.number();
+        prove!(self.site.number() <= MOST_SITES);
         self.site
     }
 

@@ -5,7 +5,7 @@ use stn_net::Bound;
 pub enum Mark {
     /// A bound that a site added.
     Plain,
-    /// The time at which an event was run: a bound from the origin with equal sides.
+    /// The time at which an event took place: a bound from the origin with equal sides.
     Done,
 }
 

@@ -1,6 +1,6 @@
-ghost use Rattle.std.specs.Prelude.{◌≡◌, ◌≢◌, cond, ◌+◌, ◌<◌, ◌≤◌, ◌↔◌, IsTrue, Some, None, true, false, map, slice_get, option_map, unwrap_or, is_some, IfOk, IfErr, IfSome, IsOk, Err, IsErr, IsErrOf, OnOk, OnErr};
+ghost use Rattle.std.specs.Prelude.{◌≡◌, ◌≢◌, ◌+◌, ◌<◌, ◌≤◌, ◌↔◌, IsTrue, Some, None, true, false, map, slice_get, option_map, unwrap_or, is_some, IfOk, IfErr, IfSome, IsOk, Err, IsErr, IsErrOf, OnOk, OnErr};
 ghost use Rattle.std.specs.FinMap as fin;
-ghost use Rattle.stn_records.specs.{Id.{most_counter, SiteCounter, id_cmp}, Record.IsProper, Content.{most_known, Content, IsSound, IsPart, AllHeld, no_content, one_record, one_tombstone, one_amendment, with_record, with_tombstone, with_amendment, plain, is_known as is_known_in, is_live as is_live_in, is_replaced as is_replaced_in, AllProper, known_count, known_in_either, live_of, listed, next_counter as next_counter_of, part_of, replaced_set, dispute_contents, join_contents, content_taken as taken_of}, Refusals.{addition_refusal, withdrawal_refusal, bury_refusal, join_refusal, amendment_refusal as amend_refusal_of, replace_refusal as replace_refusal_of, clashes as clashes_in, is_too_much}};
+ghost use Rattle.stn_records.specs.{Id.{most_counter, id_cmp}, Record.IsProper, Content.{most_known, Content, IsSound, IsPart, AllHeld, no_content, one_record, one_tombstone, one_amendment, with_record, with_tombstone, with_amendment, plain, is_known as is_known_in, is_live as is_live_in, is_replaced as is_replaced_in, AllProper, known_count, known_in_either, live_of, listed, next_counter as next_counter_of, part_of, replaced_set, join_contents, content_taken as taken_of}, Refusals.{addition_refusal, withdrawal_refusal, bury_refusal, join_refusal, amendment_refusal as amend_refusal_of, replace_refusal as replace_refusal_of, clashes as clashes_in, is_too_much}};
 
 use crate::MOST_KNOWN;
 use crate::faults::{CounterSpent, PartFault, RecordsFault};
@@ -49,9 +49,9 @@ impl<A: Allocator + Copy> Records<A> {
 
     /// The records, the withdrawn ids and the entries of three lists, each of them in order of id: an
     /// entry has the new id, and then the id that it replaces. None exactly where no site holds these
-    /// lists: where ids don't rise, a Done record is not one of a time at which an event was run, the
+    /// lists: where ids don't rise, the bound of a Done record is not from the origin or its sides differ, the
     /// new id of an entry is not that of a Plain record of the first list or is the id that it
-    /// replaces, or more than 4,096 ids are known.
+    /// replaces, or more than 4,096 ids are known. `Memory` may come in place of any answer.
     pub fn from_lists(
         additions: Vec<(Id, Record), A>,
         tombstones: Vec<(Id, ()), A>,
@@ -431,7 +431,7 @@ impl<A: Allocator + Copy> Records<A> {
     }
 
     /// The withdrawn id at a place, counted from 0 in order of id.
-    pub fn tomb_at(&self, place: usize) -> Option<Id>
+    pub fn tombstone_at(&self, place: usize) -> Option<Id>
         ensures { result ≡ slice_get (fin.keys self.now.tombstones) place }
     {
         let (id, _) = *self.state.tombstones().entries().get(place)?;

@@ -289,17 +289,38 @@ impl<A: Allocator + Copy> Join for State<A> {
     ghost disputes = { contents_dispute };
 }
 
+// The ids are sorted first, so that each goes to the end of its set.
 fn replaced_of<A: Allocator + Copy>(
     tombstones: &Tombstones<A>,
     replacements: &Amendments<A>,
 ) -> Result<Tombstones<A>, Memory>
     ensures { IfOk result (λ all. all ≡ with_ids tombstones.now (map.values replacements.now)) }
 {
-    let mut all = tombstones.copy()?;
-    for entry in replacements.entries() {
-        all.insert(entry.1, ())?;
+    let mut ids = old_ids(replacements)?;
+    ids.sort_unstable();
+    let amended = set_of(replacements.allocator(), &ids)?;
+    tombstones.union(&amended)
+}
+
+fn old_ids<A: Allocator + Copy>(replacements: &Amendments<A>) -> Result<Vec<Id, A>, Memory>
+    ensures { IfOk result (λ ids. ids.items ≡ map.values replacements.now) }
+{
+    let entries = replacements.entries();
+    entries
+        .iter()
+        .map(|entry| entry.1)
+        .collect(replacements.allocator())
+}
+
+#[tactic(auto, using(crate::proofs::Replaced::put_next))]
+fn set_of<A: Allocator + Copy>(alloc: A, ids: &[Id]) -> Result<Tombstones<A>, Memory>
+    ensures { IfOk result (λ set. set ≡ with_ids map.empty ids.now) }
+{
+    let mut set = Tombstones::new(alloc);
+    for id in ids {
+        set.insert(*id, ())?;
     }
-    Ok(all)
+    Ok(set)
 }
 
 fn are_amendments<A: Allocator + Copy>(additions: &Additions<A>, entries: &[(Id, Id)]) -> bool

@@ -21,7 +21,7 @@ fn append_records(records: &Records<Global>, out: &mut Vec<u8>) -> Result<(), Me
 fn append_withdrawn(records: &Records<Global>, out: &mut Vec<u8>) -> Result<(), Memory> {
     out.extend_from_slice(b" -")?;
     for place in 0..=records.known() {
-        if let Some(id) = records.tomb_at(place) {
+        if let Some(id) = records.tombstone_at(place) {
             append_id(id, out)?;
         }
     }

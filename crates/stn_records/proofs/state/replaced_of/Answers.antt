@@ -1,8 +1,8 @@
-use Rattle.std.proofs.Common.{ap, ◌∙◌}
+use Rattle.std.proofs.lemmas.Result.{IfOk-weaker}
 use Rattle.std.specs.FinMap as fin
-use Rattle.stn_records.{specs.Id.SiteCounter, proofs.Replaced.put_next}
+use Rattle.stn_records.proofs.Replaced.{put_in_order}
 use Rattle.stn_records.proofs.state.replaced_of.Goals as goal
 
-pub loop-entry-preserved : goal.loop-entry-preserved
-loop-entry-preserved g c =
-    cc (put_next c.loop-entry.all c.insert.new.self c.entries-entry-items.result.now c.loop-entry.entry-index c.entry-item.result c.loop-entry-test.true (c.in_ok-insert.ensures.inserted ∙ ap (λ (e : SiteCounter × SiteCounter). fin.insert c.loop-entry.all e.1 tt) c.entry-item.is))
+-- the sort keeps the ids
+pub returns : goal.returns
+returns g c = IfOk-weaker c.union.result _ _ (λ all united. put_in_order c.args.tombstones.now c.in_ok-amended.amended all (fin.values c.args.replacements.now) c.in_ok-ids.ids.items c.sort_unstable.new.self.items c.deref.result.now c.in_ok-ids.ensures c.sort_unstable.ensures.permutation c.deref.ensures.value c.in_ok-amended.ensures united) c.union.ensures
