@@ -1,13 +1,10 @@
 -- The parts of a report, from what was appended.
-use Rattle.std.{proofs.{Common.{rules, ◌≡◌, ℕ, ℤ, ◌+◌, Bool, IsNone, IsSome, List, [], ◌∷◌, ◌++◌, length, map, Option, Some, IfSome, refl, sym, subst, All}, lemmas.List.length-map}, specs.{Prelude.{Result, is_ok, OnOk, OnErr, if◌then◌else◌}, List.flat_map}}
+use Rattle.std.{proofs.{Common.{rules, ◌≡◌, ℕ, ℤ, ◌+◌, Bool, IsNone, IsSome, List, ◌++◌, length, Option, Some, IfSome, sym, subst, All}, lemmas.List.length-map}, specs.{Prelude.{Result, is_ok, OnOk, OnErr, if◌then◌else◌}, List.flat_map}}
 use Rattle.stn_net.specs.{Difference.{Difference, NamesEvents}, Windows.Window.IsWindow}
 use Rattle.stn_lift.specs.PlanSource.{PlanSource, base_bounds}
-use Rattle.stn_records.specs.{Id.SiteCounter, declared.record.{Mark.Mark, Record.Record}, Content.{Content, live_of, listed}}
+use Rattle.stn_records.specs.{Id.SiteCounter, Content.Content}
 use Rattle.stn_conflict.specs.{declared.links.Link.Link, Arcs.{weight_of, IsNegativeCycle}, Named.IsNamedCycle}
-use Rattle.stn_site.{specs.{Bounds.{live_bounds, RecordsName}, Names.live_ids, Lines.{window_line, conflict_line, link_line}, Report.{IsWindowLines, IsConflictPart}}, proofs.Named.live_named}
-
-abbrev pub Listed : Type 0
-Listed = SiteCounter × Mark × Difference
+use Rattle.stn_site.specs.{Bounds.live_bounds, Names.live_ids, Lines.{window_line, conflict_line, link_line}, Report.{IsWindowLines, IsConflictPart}}
 
 -- one more line
 pub one_more_line : (bounds : List Difference) (done : ℕ → Bool) (n event : ℕ) (earliest latest : ℤ) (text : List ℕ)
@@ -15,23 +12,9 @@ pub one_more_line : (bounds : List Difference) (done : ℕ → Bool) (n event : 
     → IsWindowLines bounds done (n + 1) (text ++ window_line event earliest latest (done event))
 one_more_line bounds done n event earliest latest text before is window = search rules
 
-ids_listed : (records : List (SiteCounter × Record)) → map (λ (entry : Listed). entry.0) (map listed records) ≡ map (λ entry. entry.0) records
-ids_listed [] = refl
-ids_listed (e ∷ records) = cc (ids_listed records)
-
-bounds_listed : (records : List (SiteCounter × Record)) → map (λ (entry : Listed). entry.2) (map listed records) ≡ map (λ entry. entry.1.bound) records
-bounds_listed [] = refl
-bounds_listed (e ∷ records) = cc (bounds_listed records)
-
--- the ids and the bounds of the live records as they were listed
-pub ids_are : (state : Content) (live : List Listed) (ids : List SiteCounter) → live ≡ map listed (live_of state) → ids ≡ map (λ entry. entry.0) live → ids ≡ live_ids state
-ids_are state live ids is e = cc (ids_listed (live_of state))
-
-pub bounds_are : (state : Content) (live : List Listed) (bounds : List Difference) → live ≡ map listed (live_of state) → bounds ≡ map (λ entry. entry.2) live → bounds ≡ live_bounds state
-bounds_are state live bounds is e = cc (bounds_listed (live_of state))
-
-pub bounds_named : (state : Content) (events n : ℕ) (bounds : List Difference) → n ≡ events → bounds ≡ live_bounds state → RecordsName events state → All (NamesEvents n) bounds
-bounds_named state events n bounds e is named = subst (λ k. All (NamesEvents k) bounds) (sym e) (subst (All (NamesEvents events)) (sym is) (live_named events state named))
+-- the same bounds name as many events
+pub bounds_named : (live bounds : List Difference) (events n : ℕ) → n ≡ events → bounds ≡ live → All (NamesEvents events) live → All (NamesEvents n) bounds
+bounds_named live bounds events n e is named = subst (λ k. All (NamesEvents k) bounds) (sym e) (subst (All (NamesEvents events)) (sym is) named)
 
 -- there are as many ids as bounds
 pub one_each : (state : Content) (ids : List SiteCounter) (bounds : List Difference) → ids ≡ live_ids state → bounds ≡ live_bounds state → length ids ≡ length bounds

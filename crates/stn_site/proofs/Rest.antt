@@ -2,7 +2,7 @@
 use Rattle.std.{proofs.{Common.{rules, ◌≡◌, ℕ, ℤ, true, false, ◌+◌, ◌≤◌, Bool, List, length, get_or, take, map, not, ap, ◌∙◌, arith, get_or-take}, lemmas.{Int.ints, List.{Elements.All-filter, FromFn.fill_by_all}}}, specs.{List.range_with_len, FinMap.entries}}
 use Rattle.stn_net.{specs.{Difference.Difference, Schedule.{IsSchedule, Meets}, Windows.{Dispatch.CanWaitUntil, Rehearsal.{IsRehearsal, NeverFalls, RunsEachOnce, HasScheduleThrough}}}, proofs.Schedules.met_behind}
 use Rattle.stn_lift.specs.PlanSource.{PlanSource, base_bounds, events_of}
-use Rattle.stn_records.{specs.{Id.SiteCounter, Record.{IsProper, is_done_mark as marks_done}, declared.record.{Mark.{Mark, TheVariants.Done}, Record.Record}, Content.{Content, AllProper, live_of, is_replaced}, ContentLaws.{ids_total, ids_exact}}, proofs.Gets.entries_from_get}
+use Rattle.stn_records.{specs.{Id.SiteCounter, Record.{IsProper, is_done_mark as marks_done}, declared.record.{Mark.Mark, Record.Record}, Content.{Content, AllProper, live_of, is_replaced}, ContentLaws.{ids_total, ids_exact}}, proofs.Gets.entries_from_get}
 use Rattle.stn_site.{specs.{Bounds.{all_bounds, live_bounds}, Dispatch.{KeepsRecorded, IsRestWith}}, proofs.Named.records_from_bounds}
 
 -- the flags of the plan's events say which of them pass a test

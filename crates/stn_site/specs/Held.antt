@@ -4,8 +4,8 @@ use Rattle.stn_lift.specs.PlanSource.{PlanSource, coded_source}
 use Rattle.stn_records.specs.{Content.{Content, coded_content, next_counter}, Id.SiteCounter, declared.record.{Mark.TheVariants.Done, Record.Record}}
 pub use Rattle.stn_records.specs.Content.{plain}
 
--- what a replica holds: its site, what its plan is made from, its state, and by how many bounds its matrix was tightened; a site
--- without a matrix has done no work on one, so its steps are 0
+-- what a replica holds: its site, what its plan is made from, its state, and the steps of work that its matrix counts; a site without
+-- a matrix has done no work on one, so its steps are 0
 pub record Held : Type 0 where
   pub site : ℕ
   pub source : PlanSource

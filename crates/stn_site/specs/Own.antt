@@ -24,7 +24,7 @@ is_end event = event == 2 * step_of event
 abbrev pub is_own : Own → ℕ → Bool
 is_own own event = list_any (λ range. has range event) own.steps.now && not (own.starts && is_end event)
 
--- for each event of the plan, the origin first, that it doesn't count as left: some live record says that it is done, or the site doesn't
+-- for each event of the plan, the origin first, whether it doesn't count as left: some live record says that it is done, or the site doesn't
 -- choose it
 abbrev pub done_or_others : Own → PlanSource → Content → List Bool
 done_or_others own source state = map (λ event. is_done state event || not (is_own own event)) (range_with_len 0 (events_of source + 1))

@@ -45,7 +45,7 @@ withdraw_refusal held id = then_some (not (is_known held.state id)) Unknown
 abbrev pub records_name : ℕ → Content → Bool
 records_name events state = list_all (λ entry. names_events events entry.1.bound) (entries state.additions)
 
--- taking in what another site holds: a record is about an event that the plan has not, an id has two different records or replaces two
+-- taking in what another site holds: a record is about an event that the plan lacks, an id has two different records or replaces two
 -- different ids, the site would know more ids than it may
 abbrev pub take_refusal : Held → Content → Option ReplicaFault
 take_refusal held other =

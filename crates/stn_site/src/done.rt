@@ -1,4 +1,4 @@
-ghost use Rattle.std.specs.Prelude.{◌≡◌, ℕ, ◌≤◌, false, length, slice_index_or};
+ghost use Rattle.std.specs.Prelude.{◌≡◌, ℕ, ◌≤◌, false, slice_index_or};
 ghost use Rattle.stn_net.specs.Event.{most_events};
 ghost use Rattle.stn_records.specs.{Record.is_done_mark as marks_done, Content.AllProper};
 ghost use Rattle.stn_site.specs.Report.{is_done};

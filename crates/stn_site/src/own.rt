@@ -14,14 +14,18 @@ use stn_records::Site;
 /// Steps of a plan by their numbers, which are counted from 1: those from `first` to `last`, both included.
 #[derive(Clone, Copy, Debug, PartialEq, Eq)]
 pub struct StepRange {
+    /// The number of the first.
     pub first: u32,
+    /// The number of the last; where it is less than that of the first, there are no steps.
     pub last: u32,
 }
 
 /// Steps that a site owns.
 #[derive(Clone, Copy, Debug, PartialEq, Eq)]
 pub struct OwnedSteps {
+    /// The site.
     pub site: Site,
+    /// Its steps.
     pub steps: StepRange,
 }
 
@@ -29,7 +33,9 @@ pub struct OwnedSteps {
 /// the ends come by themselves.
 #[derive(Clone, Copy)]
 pub struct Own<'a> {
+    /// The ranges.
     pub steps: &'a [StepRange],
+    /// Whether it chooses their starts alone.
     pub starts: bool,
 }
 

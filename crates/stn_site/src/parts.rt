@@ -4,7 +4,6 @@ ghost use Rattle.stn_net.specs.{Difference.NamesEvents, Schedule.HasSchedule};
 ghost use Rattle.stn_lift.specs.PlanSource.{events_of};
 ghost use Rattle.stn_site.specs.{Bounds.{all_bounds, live_bounds}, Names.live_ids, Report.IsConflictPart};
 
-use crate::report::{bounds_of, ids_of};
 use crate::site_plan::SitePlan;
 use std::alloc::Allocator;
 use stn_net::Bound;
@@ -16,8 +15,8 @@ impl<A: Allocator + Copy> SitePlan<A> {
     pub fn live_ids(&self) -> Result<Vec<Id, A>, Memory>
         ensures { IfOk result (λ ids. ids.items ≡ live_ids self.now.state) }
     {
-        let live = self.records().live()?;
-        ids_of(self.alloc(), &live)
+        let live = self.records().live_records();
+        live.map(|entry| entry.0).collect(self.alloc())
     }
 
     /// The bounds of the live records, in order of id.
@@ -25,8 +24,8 @@ impl<A: Allocator + Copy> SitePlan<A> {
         ensures value { IfOk result (λ bounds. bounds.items ≡ live_bounds self.now.state) }
         ensures named { All (NamesEvents (events_of self.now.source)) (live_bounds self.now.state) }
     {
-        let live = self.records().live()?;
-        bounds_of(self.alloc(), &live)
+        let live = self.records().live_records();
+        live.map(|entry| entry.1.bound).collect(self.alloc())
     }
 
     /// Appends what the report says of bounds that have no schedule, from the line `conflict` on. If
@@ -36,9 +35,8 @@ impl<A: Allocator + Copy> SitePlan<A> {
         ensures part { OnOk result ((text : List ℕ) × IsConflictPart self.now.source self.now.state text × (out.new.items ≡ out.old.items ++ text)) }
         ensures kept { OnErr result (out.new.items ≡ out.old.items) }
     {
-        let live = self.records().live()?;
         let mut text = Vec::new(self.alloc());
-        self.append_conflict(&live, &mut text)?;
+        self.append_conflict(&mut text)?;
         out.extend_from_slice(&text)
     }
 }

@@ -1,8 +1,8 @@
 ghost use Rattle.std.specs.{Prelude.{◌≡◌, ℕ, ◌+◌, ◌*◌, ◌<◌, ◌≤◌, ◌++◌, ◌^◌, List, length, map, All, IfOk, OnOk, OnErr, MatchOption}, List.flat_map};
 ghost use Rattle.stn_net.specs.{Event.most_events, Schedule.HasSchedule};
 ghost use Rattle.stn_lift.specs.PlanSource.{events_of};
-ghost use Rattle.stn_records.specs.Content.{most_known, known_count, live_of, listed, replaced_count as replaced_count_of};
-ghost use Rattle.stn_site.specs.{Bounds.{all_bounds, RecordsName}, Lines.link_line, Windows.AreWindows, Report.{most_report, IsWindowsPart, IsReport, IsConflictPart, heading}};
+ghost use Rattle.stn_records.specs.Content.{most_known, known_count, live_of, replaced_count as replaced_count_of};
+ghost use Rattle.stn_site.specs.{Bounds.all_bounds, Lines.link_line, Windows.AreWindows, Report.{most_report, IsWindowsPart, IsReport, IsConflictPart, heading}};
 
 use crate::lines::{
     MOST_LINE, append_conflict_line, append_counts, append_link_line, append_window_line,
@@ -11,7 +11,7 @@ use crate::site_plan::SitePlan;
 use std::alloc::Allocator;
 use stn_conflict::{Link, cycle};
 use stn_net::{Bound, Event};
-use stn_records::{Id, Mark, Records};
+use stn_records::{Id, Records};
 use stn_text::all_or_nothing;
 use stn_time::{Memory, Ms};
 
@@ -43,33 +43,23 @@ impl<A: Allocator + Copy> SitePlan<A> {
         ensures report { IfOk result (λ text. IsReport self.now.source self.now.state text.items) }
         ensures short { IfOk result (λ text. length text.items ≤ most_report) }
     {
-        let live = self.records().live()?;
         let mut text = Vec::new(self.alloc());
-        self.append_heading(&live, &mut text)?;
+        self.append_heading(&mut text)?;
         match windows {
             Some(known) => self.append_windows(known, &mut text)?,
-            None => self.append_conflict(&live, &mut text)?,
+            None => self.append_conflict(&mut text)?,
         }
         Ok(text)
     }
 
-    fn append_heading(&self, live: &[(Id, Mark, Bound)], out: &mut Vec<u8, A>) -> Result<(), Memory>
-        requires { live.now ≡ map listed (live_of self.now.state) }
+    fn append_heading(&self, out: &mut Vec<u8, A>) -> Result<(), Memory>
         ensures text { OnOk result (out.new.items ≡ out.old.items ++ heading self.now.source self.now.state) }
         ensures short { OnOk result (length out.new.items ≤ length out.old.items + MOST_LINE * 2) }
     {
-        let replaced = replaced_count(self.records());
+        let (live, replaced) = (live_count(self.records()), replaced_count(self.records()));
         let (steps, events) = (self.base().steps(), self.base().events());
         append_counts(out, b"plan ", steps, b" steps ", events, b" events\n")?;
-        let count = live.len() as u16;
-        append_counts(
-            out,
-            b"records ",
-            count,
-            b" live ",
-            replaced,
-            b" withdrawn\n",
-        )
+        append_counts(out, b"records ", live, b" live ", replaced, b" withdrawn\n")
     }
 
     // `ok` and the windows of the events.
@@ -89,19 +79,13 @@ impl<A: Allocator + Copy> SitePlan<A> {
     }
 
     // The sum of the named cycle of all bounds, and then its links.
-    pub(crate) fn append_conflict(
-        &self,
-        live: &[(Id, Mark, Bound)],
-        out: &mut Vec<u8, A>,
-    ) -> Result<(), Memory>
-        requires live { live.now ≡ map listed (live_of self.now.state) }
-        requires named { RecordsName (events_of self.now.source) self.now.state }
-        requires conflict { ¬ HasSchedule (all_bounds self.now.source self.now.state) }
+    pub(crate) fn append_conflict(&self, out: &mut Vec<u8, A>) -> Result<(), Memory>
+        requires { ¬ HasSchedule (all_bounds self.now.source self.now.state) }
         ensures part { OnOk result ((text : List ℕ) × IsConflictPart self.now.source self.now.state text × (out.new.items ≡ out.old.items ++ text)) }
         ensures short { OnOk result (length out.new.items ≤ length out.old.items + MOST_LINE * (most_events + 2)) }
     {
-        let all_ids = ids_of(self.alloc(), live)?;
-        let all_others = bounds_of(self.alloc(), live)?;
+        let all_ids = self.live_ids()?;
+        let all_others = self.live_bounds()?;
         let ids = all_ids.as_slice();
         let others = all_others.as_slice();
         let base = self.base().bounds();
@@ -112,19 +96,11 @@ impl<A: Allocator + Copy> SitePlan<A> {
     }
 }
 
-pub fn ids_of<A: Allocator>(alloc: A, records: &[(Id, Mark, Bound)]) -> Result<Vec<Id, A>, Memory>
-    ensures { IfOk result (λ ids. ids.items ≡ map (λ entry. entry.0) records.now) }
+// How many records are live.
+fn live_count<A: Allocator + Copy>(records: &Records<A>) -> u16
+    ensures { result ≡ length (live_of records.now) }
 {
-    records.iter().map(|entry| entry.0).collect(alloc)
-}
-
-pub fn bounds_of<A: Allocator>(
-    alloc: A,
-    records: &[(Id, Mark, Bound)],
-) -> Result<Vec<Bound, A>, Memory>
-    ensures { IfOk result (λ bounds. bounds.items ≡ map (λ entry. entry.2) records.now) }
-{
-    records.iter().map(|entry| entry.2).collect(alloc)
+    records.live_records().count() as u16
 }
 
 // How many ids are replaced.

@@ -131,7 +131,7 @@ impl<A: Allocator + Copy> SitePlan<A> {
         Ok(id)
     }
 
-    /// Records at which time an event was executed, under the site's next id, which is returned. A
+    /// Records at which time an event took place, under the site's next id, which is returned. A
     /// record that contradicts others, as one of the same event at another time, is added like any
     /// other.
     ///
@@ -202,8 +202,8 @@ impl<A: Allocator + Copy> SitePlan<A> {
     /// Takes in all that another site holds. If all of it is held already, that changes nothing and asks
     /// for no memory.
     ///
-    /// Refused in this order: `NoEvent` of a bound, where a record names an event that the plan has
-    /// not; `Clash`, with the least id that has two different records or replaces two different ids;
+    /// Refused in this order: `NoEvent` of a bound, where a record names an event that the plan
+    /// lacks; `Clash`, with the least id that has two different records or replaces two different ids;
     /// `Full`, where both know more than 4,096 ids together; `Memory`. After a fault all is as before.
     pub fn take(&mut self, other: &Records<A>) -> Result<(), ReplicaFault>
         ensures leaves { OnOk result (Leaves self.old (took other.now) self.new) }

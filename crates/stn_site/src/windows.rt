@@ -55,7 +55,7 @@ pub fn windows_with<A: Allocator + Copy>(
     }
 }
 
-// The windows of the origin and of so many events, in their order, by their distances from the origin and to it.
+// The windows of the origin and of all events, in their order, by their distances from the origin and to it.
 fn windows_of<A: Allocator + Copy>(
     alloc: A,
     origin: &Distances<A>,

@@ -2,27 +2,27 @@ use Rattle.std.{proofs.{Common.{◌≡◌, ◌+◌, ◌<◌, ◌≤◌, ◌++◌
 use Rattle.stn_lift.specs.PlanSource.{events_of, base_bounds}
 use Rattle.stn_conflict.specs.{Arcs.{weight_of, IsNegativeCycle}, Named.IsNamedCycle}
 use Rattle.stn_net.specs.Schedule.{HasSchedule}
-use Rattle.stn_site.{specs.{Bounds.{live_bounds}, Names.live_ids, Lines.{conflict_line, link_line}}, proofs.{Printing.{ids_are, bounds_are, bounds_named, one_each, conflict_part, some_if, if_some}, site_plan.SitePlan.append_conflict.{Given.Over, Goals.After-bounds-base}}}
+use Rattle.stn_site.{specs.{Bounds.live_bounds, Names.live_ids, Lines.{conflict_line, link_line}}, proofs.{Printing.{bounds_named, one_each, conflict_part, some_if, if_some}, site_plan.SitePlan.append_conflict.{Given.Over, Goals.After-bounds-base}}}
 use Rattle.stn_site.proofs.site_plan.SitePlan.append_conflict.Goals as goal
 
 ids_is : (g : Over) (c : After-bounds-base g) → c.as_slice-ids.result.now ≡ live_ids c.args.self.now.state
-ids_is g c = cc (ids_are c.args.self.now.state c.args.live.now c.in_ok-all_ids.all_ids.items c.requires.live c.in_ok-all_ids.ensures)
+ids_is g c = cc (c.in_ok-all_ids.ensures)
 
 others_is : (g : Over) (c : After-bounds-base g) → c.as_slice-others.result.now ≡ live_bounds c.args.self.now.state
-others_is g c = cc (bounds_are c.args.self.now.state c.args.live.now c.in_ok-all_others.all_others.items c.requires.live c.in_ok-all_others.ensures)
+others_is g c = cc (c.in_ok-all_others.ensures.value)
 
 base_is : (g : Over) (c : After-bounds-base g) → c.bounds-base.result.now ≡ base_bounds c.args.self.now.source
 base_is g c = cc
 
 pub cycle-requires-clause-extra_named : goal.cycle-requires-clause-extra_named
 cycle-requires-clause-extra_named g c =
-    bounds_named c.args.self.now.state (events_of c.args.self.now.source) c.events.result c.as_slice-others.result.now (c.events.ensures.value ∙ ap events_of c.base-2.ensures)
-    (others_is g (goal.at.cycle-requires-clause-extra_named g c).After-bounds-base) c.requires.named
+    bounds_named (live_bounds c.args.self.now.state) c.as_slice-others.result.now (events_of c.args.self.now.source) c.events.result (c.events.ensures.value ∙ ap events_of c.base-2.ensures)
+    (others_is g (goal.at.cycle-requires-clause-extra_named g c).After-bounds-base) c.in_ok-all_others.ensures.named
 
 pub unwrap-named-requires : goal.unwrap-named-requires
 unwrap-named-requires g c =
     let at = (goal.at.unwrap-named-requires g c).After-bounds-base in
-    some_if c.in_ok-found.found (λ none. c.requires.conflict (subst HasSchedule (λ i. base_is g at i ++ others_is g at i) (c.in_ok-found.ensures.none.0 none)))
+    some_if c.in_ok-found.found (λ none. c.requires (subst HasSchedule (λ i. base_is g at i ++ others_is g at i) (c.in_ok-found.ensures.none.0 none)))
 
 pub append_link_lines-requires-clause-there : goal.append_link_lines-requires-clause-there
 append_link_lines-requires-clause-there g c =

@@ -1,9 +1,8 @@
-use Rattle.std.proofs.{Common.{◌≡◌, ◌∙◌, ap, map}, lemmas.Result.IfOk-weaker}
-use Rattle.stn_records.specs.Content.{Content, live_of, listed}
-use Rattle.stn_site.{specs.Names.live_ids, proofs.Printing.ids_are}
+use Rattle.std.proofs.{Common.{rules, ap, ◌∙◌}, lemmas.Iterator.{items_from_collect, YieldsList-from_map, Consumers.YieldsList-from_rest}}
+use Rattle.stn_records.specs.{Id.SiteCounter, declared.record.Record.Record, Content.live_of}
 use Rattle.stn_site.proofs.site_plan.SitePlan.live_ids.Goals as goal
 
 pub returns : goal.returns
-returns g c =
-    let live = c.deref.ensures.value ∙ c.in_ok-live.ensures.live ∙ ap (λ (s : Content). map listed (live_of s)) c.records.ensures.value in
-    IfOk-weaker c.ids_of.result _ (λ ids. ids.items ≡ live_ids c.args.self.now.state) (λ ids is. ids_are c.args.self.now.state c.deref.result.now ids.items live is) c.ids_of.ensures
+returns g c = items_from_collect c.collect.result c.collect.ensures.ran
+    (YieldsList-from_map _ (λ (entry : SiteCounter × Record). entry.0)
+    (YieldsList-from_rest (live_of c.args.self.now.state) (c.map.ensures.source ∙ c.live_records-live.ensures.live ∙ ap live_of c.records.ensures.value)) c.map.ensures.closure (λ x r q called. search rules))
