@@ -1,9 +1,9 @@
 -- Texts that grow by a line.
-use Rattle.std.{proofs.{Common.{◌≡◌, ℕ, ℤ, suc, ◌+◌, ◌&&◌, not, Bool, true, false, cond, if◌then◌else◌, List, [], ◌∷◌, ◌++◌, length, filter, map, drop, drop-cons, get_or, ◌<◌, ◌≤◌, refl, sym, ap, ◌∙◌, add-one, arith, append_assoc}, lemmas.List.{length-append, map-append, Elements.filter-append}}, specs.{List.range_with_len, Prelude.int_lt, Int.from_bool}}
+use Rattle.std.{proofs.{Common.{◌≡◌, ℕ, ℤ, suc, ◌+◌, not, Bool, true, false, cond, if◌then◌else◌, List, [], ◌∷◌, ◌++◌, length, filter, map, drop, drop-cons, get_or, ◌<◌, ◌≤◌, refl, sym, ap, ◌∙◌, add-one, arith, append_assoc}, lemmas.List.{length-append, map-append, Elements.filter-append}}, specs.{List.range_with_len, Prelude.{Some, find}, Int.from_bool}}
 use Rattle.stn_records.specs.Content.{Content}
-use Rattle.stn_site.specs.{Report.is_done, Windows.window_at}
+use Rattle.stn_site.specs.Report.{is_done}
 use Rattle.stn_text.proofs.Growing.{range_push}
-use Rattle.stn_chart.specs.{declared.parts.Part.Part, Frame.{entry_at, left_after, entries_text}, Chart.{Chart, floor, floors_at, overdue_from}, Seen.present_floor}
+use Rattle.stn_chart.specs.{declared.parts.Part.Part, Frame.{entry_at, left_after, entries_text}, Chart.{Chart, floor, floors_at}, Seen.present_floor}
 
 first_case : (b : Bool) (x : ℕ) (rest : List ℕ) → length (cond b (x ∷ rest) rest) ≡ cond b 1 0 + length rest
 first_case true x rest = omega arith
@@ -46,11 +46,10 @@ floors_more state now n =
     ∙ map-append (floor now) (filter left (range_with_len 1 n)) (filter left ((n + 1) ∷ []))
     ∙ ap (λ more. floors_at state n now ++ more) (left_case (is_done state (n + 1)) now (n + 1))
 
--- the search for an overdue event goes on
-pub overdue_next : (state : Content) (windows : List (ℤ × ℤ)) (now : ℤ) (event left more : ℕ) → left ≡ suc more
-    → overdue_from state windows now event left
-    ≡ (if not (is_done state event) && int_lt (window_at windows event).1 now then event else overdue_from state windows now (event + 1) more)
-overdue_next state windows now event left more e = ap (overdue_from state windows now event) e
+-- the search for the first such number goes on
+pub find_next : (p : ℕ → Bool) (n left more : ℕ) → left ≡ suc more
+    → find p (range_with_len n left) ≡ (if p n then Some n else find p (range_with_len (n + 1) more))
+find_next p n left more e = ap (λ count. find p (range_with_len n count)) e
 
 -- the legend goes on with the next part
 pub legend_step : (chart : Chart) (base place left next i : ℕ) (xs : List Part) (one : Part) (front old new : List ℕ) → place ≡ base → i < length xs → one ≡ get_or xs i one

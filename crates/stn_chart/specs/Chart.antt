@@ -1,8 +1,8 @@
 -- What is drawn of a plan.
-use Rattle.std.specs.{Prelude.{◌≡◌, ◌⊎◌, ℕ, ℤ, zero, suc, ◌+◌, ◌-◌, ◌*◌, ◌+ℤ◌, ◌-ℤ◌, ◌==◌, nat_lt, int_lt, max, Bool, not, ◌&&◌, ◌||◌, if◌then◌else◌, List, [], ◌∷◌, ◌++◌, map, filter, length, Option, Some, None, unsigned_abs}, List.range_with_len, Int.is_negative, Ordering.int_eq}
+use Rattle.std.specs.{Prelude.{◌≡◌, ◌⊎◌, ℕ, ℤ, zero, suc, ◌+◌, ◌-◌, ◌*◌, ◌+ℤ◌, ◌-ℤ◌, ◌==◌, nat_lt, int_lt, max, Bool, not, ◌&&◌, ◌||◌, if◌then◌else◌, List, [], ◌∷◌, ◌++◌, map, filter, find, length, Option, Some, None, unsigned_abs}, List.range_with_len, Int.is_negative, Option.option_or, Ordering.int_eq}
 use Rattle.stn_time.specs.Time.{horizon}
 use Rattle.stn_net.specs.{Difference.Difference, Schedule.HasSchedule}
-use Rattle.stn_lift.specs.PlanSource.{PlanSource, steps_of, events_of}
+use Rattle.stn_lift.specs.{BaseBounds.step_of, PlanSource.{PlanSource, steps_of, events_of}}
 use Rattle.stn_records.specs.Content.{Content}
 use Rattle.stn_site.specs.{Bounds.all_bounds, Report.{is_done, done_events}, Windows.{window_at, AreWindows}, declared.own.OwnedSteps.OwnedSteps}
 use Rattle.stn_drawing.specs.Ticks.{Axis, axis_reaching}
@@ -32,21 +32,20 @@ abbrev pub floors : Content → ℕ → Option ℤ → List Difference
 floors state events None = []
 floors state events (Some now) = floors_at state events now
 
--- what is left comes too late: the first of so many events after the others that is left and whose latest time is past; 0, if there is none
-abbrev pub overdue_from : Content → List (ℤ × ℤ) → ℤ → ℕ → ℕ → ℕ
-overdue_from state windows now event zero = 0
-overdue_from state windows now event (suc more) =
-    if not (is_done state event) && int_lt (window_at windows event).1 now then event else overdue_from state windows now (event + 1) more
+-- the event is left, and its latest time is past
+abbrev pub is_overdue : Content → List (ℤ × ℤ) → ℤ → ℕ → Bool
+is_overdue state windows now event = not (is_done state event) && int_lt (window_at windows event).1 now
 
-abbrev pub overdue_event : Content → List (ℤ × ℤ) → ℕ → Option ℤ → ℕ
-overdue_event state windows events None = 0
-overdue_event state windows events (Some now) = overdue_from state windows now 1 events
+-- what is left comes too late: the first overdue event of so many, if the present is shown
+abbrev pub overdue_event : Content → List (ℤ × ℤ) → ℕ → Option ℤ → Option ℕ
+overdue_event state windows events None = None
+overdue_event state windows events (Some now) = find (is_overdue state windows now) (range_with_len 1 events)
 
--- the windows that are drawn, and the overdue event, or 0: those of all bounds if each event that is left comes now or later, if they
--- have a schedule; else those of all bounds
-abbrev pub AreDrawn : PlanSource → Content → Option ℤ → List (ℤ × ℤ) → ℕ → Type 0
+-- the windows that are drawn, and the overdue event, if there is one: those of all bounds if each event that is left comes now or later,
+-- if they have a schedule; else those of all bounds
+abbrev pub AreDrawn : PlanSource → Content → Option ℤ → List (ℤ × ℤ) → Option ℕ → Type 0
 AreDrawn source state now windows overdue =
-    (AreWindows (all_bounds source state ++ floors state (events_of source) now) (events_of source) windows × (overdue ≡ 0))
+    (AreWindows (all_bounds source state ++ floors state (events_of source) now) (events_of source) windows × (overdue ≡ None))
     ⊎ ((¬ HasSchedule (all_bounds source state ++ floors state (events_of source) now)) × AreWindows (all_bounds source state) (events_of source) windows
     × (overdue ≡ overdue_event state windows (events_of source) now))
 
@@ -90,16 +89,20 @@ holds_upper windows event bound = int_eq ((window_at windows bound.to).0 -ℤ bo
 abbrev pub holds_lower : List (ℤ × ℤ) → ℕ → Difference → Bool
 holds_lower windows event bound = int_eq ((window_at windows bound.from).0 +ℤ bound.lo) (window_at windows event).0
 
--- the event of another step by whose time the bound holds the soonest start of a step; 0 for the origin, or if it doesn't hold it
-abbrev pub held_by : List (ℤ × ℤ) → ℕ → Difference → ℕ
+-- the event is one of another step, and not the origin
+abbrev pub is_of_another : ℕ → ℕ → Bool
+is_of_another step event = not (event == 0) && not (step_of event == step)
+
+-- the event of another step by whose time the bound holds the soonest start of a step
+abbrev pub held_by : List (ℤ × ℤ) → ℕ → Difference → Option ℕ
 held_by windows step bound =
-    if (bound.from == start_of step) && (not (bound.to == end_of step) && holds_upper windows (start_of step) bound) then bound.to
-    else (if (bound.to == start_of step) && (not (bound.from == end_of step) && holds_lower windows (start_of step) bound) then bound.from else 0)
+    if (bound.from == start_of step) && (is_of_another step bound.to && holds_upper windows (start_of step) bound) then Some bound.to
+    else (if (bound.to == start_of step) && (is_of_another step bound.from && holds_lower windows (start_of step) bound) then Some bound.from else None)
 
 -- that of the first of the bounds that has one
-abbrev pub holder_in : List (ℤ × ℤ) → ℕ → List Difference → ℕ
-holder_in windows step [] = 0
-holder_in windows step (bound ∷ bounds) = if held_by windows step bound == 0 then holder_in windows step bounds else held_by windows step bound
+abbrev pub holder_in : List (ℤ × ℤ) → ℕ → List Difference → Option ℕ
+holder_in windows step [] = None
+holder_in windows step (bound ∷ bounds) = option_or (held_by windows step bound) (holder_in windows step bounds)
 
 -- the present in milliseconds
 abbrev pub moment_of : Option ℤ → ℕ
@@ -124,8 +127,8 @@ abbrev pub axis_for : List (ℤ × ℤ) → ℕ → Option ℤ → ℕ → Axis
 axis_for windows events now steps = axis_reaching line_left line_width 0 (axis_reach windows events now) (row_top steps)
 
 -- what is drawn: how, the names of the steps, if they have any, how many these are, the windows of the origin and of all events, which of
--- them are done, the row of each step and the event that holds each step's start, with 0 for the origin's, the overdue event, or 0,
--- and the axis
+-- them are done, the row of each step and the event that holds each step's start, if one does, the overdue event, if there is one, and
+-- the axis
 pub record Chart : Type 0 where
   pub look : Look
   pub names : List (List ℕ)
@@ -133,12 +136,12 @@ pub record Chart : Type 0 where
   pub windows : List (ℤ × ℤ)
   pub done : List Bool
   pub rows : List ℕ
-  pub holders : List ℕ
-  pub overdue : ℕ
+  pub holders : List (Option ℕ)
+  pub overdue : Option ℕ
   pub axis : Axis
 
 -- the chart of a plan and a state with these windows
-abbrev pub chart_of : Look → List (List ℕ) → PlanSource → Content → List (ℤ × ℤ) → ℕ → Chart
+abbrev pub chart_of : Look → List (List ℕ) → PlanSource → Content → List (ℤ × ℤ) → Option ℕ → Chart
 chart_of look names source state windows overdue = record {
   look = look;
   names = names;

@@ -6,8 +6,9 @@ use Rattle.stn_drawing.specs.{Sheet.{open_text, paper_text, heading_text}, Ticks
 use Rattle.stn_chart.specs.{Chart.{Chart, moment_of}, Parts.{occurs, count_of, place_of}, Places.{row_top, height_of, legend_left, legend_apart}, Rows.{bar_text, fading_text, mark_text, row_text}, Style.{style_text, parts_text, sites_style}, declared.parts.Part.Part}
 use Rattle.stn_chart.specs.declared.parts.Part.TheVariants as part
 
-abbrev pub overdue_text : ℕ → List ℕ
-overdue_text event = if event == 0 then [] else codes ", <tspan class='w'>overdue " ++ event_text event ++ codes "</tspan>"
+abbrev pub overdue_text : Option ℕ → List ℕ
+overdue_text None = []
+overdue_text (Some event) = codes ", <tspan class='w'>overdue " ++ event_text event ++ codes "</tspan>"
 
 abbrev pub now_text : Option ℤ → List ℕ
 now_text None = []

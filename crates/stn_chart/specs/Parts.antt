@@ -97,6 +97,6 @@ place_of chart time = place_on chart.axis time
 abbrev pub top_of : Chart → ℕ → ℕ
 top_of chart step = row_top (slice_index_or chart.rows step 0)
 
--- the event that holds the start of a step; 0 for the origin, or if none does
-abbrev pub holder_of : Chart → ℕ → ℕ
-holder_of chart step = slice_index_or chart.holders step 0
+-- the event that holds the start of a step
+abbrev pub holder_of : Chart → ℕ → Option ℕ
+holder_of chart step = slice_index_or chart.holders step None

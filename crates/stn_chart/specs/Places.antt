@@ -1,4 +1,4 @@
--- Where things stand in the picture of a plan, in pixels from the left and from the top.
+-- Where things stand in the picture of a plan, in units from the left and from the top.
 use Rattle.std.specs.Prelude.{ℕ, ◌+◌, ◌*◌}
 
 -- where the axis begins, and how long it is

@@ -1,5 +1,5 @@
 -- The rows of the steps.
-use Rattle.std.specs.Prelude.{ℕ, ◌+◌, ◌-◌, ◌%◌, ◌==◌, nat_lt, max, not, ◌&&◌, List, [], ◌++◌, codes, decimal, if◌then◌else◌}
+use Rattle.std.specs.Prelude.{ℕ, ◌+◌, ◌-◌, ◌%◌, ◌==◌, nat_lt, max, not, ◌&&◌, List, [], ◌++◌, codes, decimal, if◌then◌else◌, Option, Some, None}
 use Rattle.stn_time.specs.Text.{printed}
 use Rattle.stn_lift.specs.BaseBounds.{step_of}
 use Rattle.stn_site.specs.Windows.{window_at}
@@ -122,12 +122,14 @@ arrow_path chart event step =
     let other = top_of chart step in
     if nat_lt top other then arrow_along left (top + 18) right other (codes "v6") else arrow_along left (top + 6) right (other + row_height) (codes "v-6")
 
+-- the arrow to the start of a step, if an event holds it
+abbrev pub arrow_from : Chart → Option ℕ → ℕ → List ℕ
+arrow_from chart None step = []
+arrow_from chart (Some event) step = arrow_path chart event step
+
 -- the arrow to the start of a step that has not begun, from the event that holds it
 abbrev pub arrow_text : Chart → ℕ → List ℕ
-arrow_text chart step =
-    if chart.look.arrows && (not (is_begun chart step) && not (holder_of chart step == 0))
-    then arrow_path chart (holder_of chart step) step
-    else []
+arrow_text chart step = if chart.look.arrows && not (is_begun chart step) then arrow_from chart (holder_of chart step) step else []
 
 -- the row of a step
 abbrev pub row_text : Chart → ℕ → List ℕ

@@ -1,11 +1,10 @@
 //! What is drawn of a plan that has a schedule.
-ghost use Rattle.std.specs.Prelude.{◌≡◌, ◌+◌, ◌≤◌, ◌++◌, map, IfOk, MatchOption};
+ghost use Rattle.std.specs.Prelude.{◌≡◌, ◌+◌, map, IfOk, MatchOption};
 ghost use Rattle.stn_net.specs.Schedule.{HasSchedule};
-ghost use Rattle.stn_lift.specs.PlanSource.{base_bounds};
 ghost use Rattle.stn_site.specs.{Bounds.{all_bounds, live_bounds}, Report.done_events};
-ghost use Rattle.stn_chart.specs.{Chart.{chart_of, seen_look}, Drawn.IsPlanPicture, Frame.plan_text, Seen.overdue_of};
+ghost use Rattle.stn_chart.specs.{Chart.{chart_of, seen_look}, Drawn.IsPlanPicture, Frame.plan_text};
 
-use crate::floors::{Drawn, drawn_at, overdue_of};
+use crate::floors::{Drawn, drawn_at};
 use crate::holders::holders_in;
 use crate::look::{Chart, Look};
 use crate::places::{LINE_LEFT, LINE_WIDTH, row_top};
@@ -42,7 +41,7 @@ fn text_of<'x, A: Allocator + Copy>(
     drawn: &'x Drawn<A>,
 ) -> Result<Vec<u8, A>, Memory>
     ensures { IfOk result (λ text. text.items
-        ≡ plan_text (chart_of (seen_look look.now) (map (λ name. name.items) names.now) plan.now.source plan.now.state drawn.now.windows.items (overdue_of plan.now.source plan.now.state look.now.present drawn.now))) }
+        ≡ plan_text (chart_of (seen_look look.now) (map (λ name. name.items) names.now) plan.now.source plan.now.state drawn.now.windows.items drawn.now.overdue)) }
 {
     let base = plan.base();
     let steps = base.steps();
@@ -60,7 +59,7 @@ fn text_of<'x, A: Allocator + Copy>(
         done: &done,
         rows: &rows,
         holders: &holders,
-        overdue: overdue_of(plan, drawn, look.present),
+        overdue: drawn.overdue,
         axis: Axis::reaching(LINE_LEFT, LINE_WIDTH, 0, far, bottom),
     };
     let mut text = Vec::new(plan.alloc());

@@ -3,7 +3,7 @@ ghost use Rattle.std.specs.Prelude.{◌≡◌, ◌≤◌, ◌++◌, not, ◌&&�
 ghost use Rattle.stn_net.specs.{Difference.NamesEvents, Event.most_events, Schedule.HasSchedule};
 ghost use Rattle.stn_lift.specs.PlanSource.{events_of};
 ghost use Rattle.stn_site.specs.{Bounds.{all_bounds, live_bounds}, Windows.{window_at, AreWindows}};
-ghost use Rattle.stn_chart.specs.{Chart.{floor, floors, overdue_event, AreDrawn}, Seen.{present_floor, overdue_of}};
+ghost use Rattle.stn_chart.specs.{Chart.{floor, floors, overdue_event, AreDrawn}, Seen.present_floor};
 
 use crate::look::Look;
 use crate::tables::window_at;
@@ -12,11 +12,11 @@ use stn_net::{Bound, Event};
 use stn_site::{SitePlan, windows_with};
 use stn_time::{HORIZON, Memory, Ms};
 
-/// The windows that are drawn, of the origin and of all events, and whether what is left comes too late.
+/// The windows that are drawn, of the origin and of all events, and the overdue event, where what is left comes too late.
 #[derive(Drop)]
 pub struct Drawn<A: Allocator> {
     pub windows: Vec<(Ms, Ms), A>,
-    pub late: bool,
+    pub overdue: Option<u16>,
 }
 
 /// What is drawn; none exactly where all bounds have no schedule.
@@ -25,12 +25,12 @@ pub fn drawn_at<A: Allocator + Copy>(
     look: &Look<'_>,
 ) -> Result<Option<Drawn<A>>, Memory>
     ensures { IfOk result (λ found. MatchOption found (¬ HasSchedule (all_bounds plan.now.source plan.now.state))
-        (λ drawn. AreDrawn plan.now.source plan.now.state look.now.present drawn.windows.items (overdue_of plan.now.source plan.now.state look.now.present drawn))) }
+        (λ drawn. AreDrawn plan.now.source plan.now.state look.now.present drawn.windows.items drawn.overdue)) }
 {
     match windows_from(plan, look.present)? {
         Some(windows) => Ok(Some(Drawn {
             windows,
-            late: false,
+            overdue: None,
         })),
         None => late_windows(plan, look.present),
     }
@@ -43,25 +43,14 @@ fn late_windows<A: Allocator + Copy>(
 ) -> Result<Option<Drawn<A>>, Memory>
     requires { ¬ HasSchedule (all_bounds plan.now.source plan.now.state ++ floors plan.now.state (events_of plan.now.source) now) }
     ensures { IfOk result (λ found. MatchOption found (¬ HasSchedule (all_bounds plan.now.source plan.now.state))
-        (λ drawn. AreDrawn plan.now.source plan.now.state now drawn.windows.items (overdue_of plan.now.source plan.now.state now drawn))) }
+        (λ drawn. AreDrawn plan.now.source plan.now.state now drawn.windows.items drawn.overdue)) }
 {
     match plan.windows()? {
-        Some(windows) => Ok(Some(Drawn {
-            windows,
-            late: true,
-        })),
+        Some(windows) => {
+            let overdue = overdue_event(plan, &windows, now);
+            Ok(Some(Drawn { windows, overdue }))
+        }
         None => Ok(None),
-    }
-}
-
-/// The event that is overdue; 0 where none is.
-pub fn overdue_of<A: Allocator + Copy>(plan: &SitePlan<A>, drawn: &Drawn<A>, now: Option<Ms>) -> u16
-    ensures { result ≡ overdue_of plan.now.source plan.now.state now drawn.now }
-{
-    if drawn.late {
-        overdue_event(plan, &drawn.windows, now)
-    } else {
-        0
     }
 }
 
@@ -134,25 +123,23 @@ fn floor(events: u16, event: u16, now: Ms) -> Bound
     Bound::new(events, Event::origin(), event, now, horizon).unwrap()
 }
 
-// The first event that is left and whose latest time is past; 0 where there is none.
+// The first event that is left and whose latest time is past.
 fn overdue_event<A: Allocator + Copy>(
     plan: &SitePlan<A>,
     windows: &[(Ms, Ms)],
     now: Option<Ms>,
-) -> u16
+) -> Option<u16>
     ensures { result ≡ overdue_event plan.now.state windows.now (events_of plan.now.source) now }
 {
-    let Some(now) = now else {
-        return 0;
-    };
+    let now = now?;
     let flags = plan.done_flags();
     for before in 0..plan.base().events() {
         let done = flags[usize::from(before) + 1];
         if is_overdue(windows, done, now, before + 1) {
-            return before + 1;
+            return Some(before + 1);
         }
     }
-    0
+    None
 }
 
 // Whether an event is left, and its latest time is past.

@@ -107,15 +107,17 @@ impl<'a, 'b, A: Allocator> Chart<'a, 'b, A> {
     }
 }
 
-fn append_overdue<A: Allocator>(out: &mut Vec<u8, A>, event: u16) -> Result<(), Memory>
+fn append_overdue<A: Allocator>(out: &mut Vec<u8, A>, event: Option<u16>) -> Result<(), Memory>
     ensures { OnOk result (out.new.items ≡ out.old.items ++ overdue_text event) }
 {
-    if event == 0 {
-        return Ok(());
+    match event {
+        Some(event) => {
+            out.extend_from_slice(b", <tspan class='w'>overdue ")?;
+            print_event(event, out)?;
+            out.extend_from_slice(b"</tspan>")
+        }
+        None => Ok(()),
     }
-    out.extend_from_slice(b", <tspan class='w'>overdue ")?;
-    print_event(event, out)?;
-    out.extend_from_slice(b"</tspan>")
 }
 
 fn append_now<A: Allocator>(out: &mut Vec<u8, A>, now: Option<Ms>) -> Result<(), Memory>

@@ -29,9 +29,9 @@ pub struct Chart<'a, 'b, A: Allocator> {
     pub done: &'b [bool],
     /// The row of each step, from that of number 0 on, which there is not.
     pub rows: &'b [u16],
-    /// The event that holds the start of each step; 0 for the origin, and where none does.
-    pub holders: &'b [u16],
-    /// The event that is overdue; 0 where none is.
-    pub overdue: u16,
+    /// The event of another step that holds the start of each step, if one does, from that of number 0 on.
+    pub holders: &'b [Option<u16>],
+    /// The event that is overdue, if one is.
+    pub overdue: Option<u16>,
     pub axis: Axis,
 }

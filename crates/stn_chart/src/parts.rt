@@ -178,11 +178,11 @@ impl<'a, 'b, A: Allocator> Chart<'a, 'b, A> {
         row_top(u64::from(row))
     }
 
-    /// The event that holds the start of a step; 0 for the origin, and where none does.
-    pub fn holder_of(&self, step: u16) -> u16
+    /// The event of another step that holds the start of a step, if one does.
+    pub fn holder_of(&self, step: u16) -> Option<u16>
         ensures { result ≡ is.holder_of (seen_chart self.now) step }
     {
-        self.holders.get(usize::from(step)).copied().unwrap_or(0)
+        self.holders.get(usize::from(step)).copied()?
     }
 }
 

@@ -1,4 +1,4 @@
-//! Where things stand in the picture of a plan, in pixels from the left and from the top.
+//! Where things stand in the picture of a plan, in units from the left and from the top.
 ghost use Rattle.std.specs.Prelude.{◌≡◌, ◌<◌, ◌≤◌, ◌^◌};
 ghost use Rattle.stn_chart.specs.Places.{row_top, height_of};
 

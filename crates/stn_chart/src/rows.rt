@@ -1,5 +1,5 @@
 //! The rows of the steps.
-ghost use Rattle.std.specs.Prelude.{◌≡◌, ◌++◌, ◌≤◌, ◌<◌, ◌^◌, OnOk};
+ghost use Rattle.std.specs.Prelude.{◌≡◌, ◌++◌, ◌≤◌, ◌<◌, OnOk};
 ghost use Rattle.stn_chart.specs.Rows as row;
 ghost use Rattle.stn_chart.specs.{Rows.bar_text, Seen.seen_chart};
 
@@ -245,11 +245,12 @@ impl<'a, 'b, A: Allocator> Chart<'a, 'b, A> {
     fn append_arrow(&self, out: &mut Vec<u8, A>, step: u16) -> Result<(), Memory>
         ensures { OnOk result (out.new.items ≡ out.old.items ++ row.arrow_text (seen_chart self.now) step) }
     {
-        let holder = self.holder_of(step);
-        if self.look.arrows && !self.is_begun(step) && holder != 0 {
-            self.append_arrow_from(out, holder, step)
-        } else {
-            Ok(())
+        if !self.look.arrows || self.is_begun(step) {
+            return Ok(());
+        }
+        match self.holder_of(step) {
+            Some(event) => self.append_arrow_from(out, event, step),
+            None => Ok(()),
         }
     }
 

@@ -1,5 +1,5 @@
 //! What the windows of a plan's events say.
-ghost use Rattle.std.specs.{Prelude.{◌≡◌, ◌+◌, ◌<◌, ◌≤◌, ◌^◌, length, filter, map, IfOk}, List.range_with_len};
+ghost use Rattle.std.specs.{Prelude.{◌≡◌, ◌+◌, ◌<◌, ◌≤◌, ◌^◌, map, IfOk}, List.range_with_len};
 ghost use Rattle.stn_site.specs.Windows.{window_at};
 ghost use Rattle.stn_chart.specs.Chart.{start_of, end_of, soonest_in, latest_in, is_open_in, is_above, row_in, moment_of, reach, furthest, axis_reach};
 

@@ -1,5 +1,5 @@
 -- A plan and a state have one picture.
-use Rattle.std.{proofs.{Common.{◌≡◌, ℕ, ℤ, pos, ◌≤◌, List, ◌++◌, sym, ap, ◌∙◌, ⊎_elim, arith}, lemmas.List.ext_get_or}, specs.Prelude.Option}
+use Rattle.std.{proofs.{Common.{◌≡◌, ℕ, ℤ, pos, ◌≤◌, List, ◌++◌, sym, ap, ◌∙◌, ⊎_elim, arith}, lemmas.List.ext_get_or}, specs.Prelude.{Option, None}}
 use Rattle.stn_net.{specs.{Difference.Difference, Schedule.HasSchedule}, proofs.{WindowEnds.one_window, Closure.schedule_before}}
 use Rattle.stn_lift.specs.PlanSource.{PlanSource, base_bounds, events_of}
 use Rattle.stn_records.specs.Content.{Content, live_of}
@@ -25,23 +25,23 @@ module _ (source : PlanSource) (state : Content) (now : Option ℤ) where
   abbrev waiting : List Difference
   waiting = all ++ floors state (events_of source) now
 
-  one_drawn : (one other : List (ℤ × ℤ)) (late past : ℕ) → AreDrawn source state now one late → AreDrawn source state now other past → (one ≡ other) × (late ≡ past)
+  one_drawn : (one other : List (ℤ × ℤ)) (late past : Option ℕ) → AreDrawn source state now one late → AreDrawn source state now other past → (one ≡ other) × (late ≡ past)
   one_drawn one other late past p q = ⊎_elim
-      (λ (mine : AreWindows waiting (events_of source) one × (late ≡ 0)). ⊎_elim
-      (λ (theirs : AreWindows waiting (events_of source) other × (past ≡ 0)). (one_windows waiting (events_of source) one other mine.0 theirs.0, mine.1 ∙ sym theirs.1))
+      (λ (mine : AreWindows waiting (events_of source) one × (late ≡ None)). ⊎_elim
+      (λ (theirs : AreWindows waiting (events_of source) other × (past ≡ None)). (one_windows waiting (events_of source) one other mine.0 theirs.0, mine.1 ∙ sym theirs.1))
       (λ (theirs : (¬ HasSchedule waiting) × AreWindows all (events_of source) other × (past ≡ overdue_event state other (events_of source) now)). absurd (theirs.0 mine.0.possible))
       q)
       (λ (mine : (¬ HasSchedule waiting) × AreWindows all (events_of source) one × (late ≡ overdue_event state one (events_of source) now)). ⊎_elim
-      (λ (theirs : AreWindows waiting (events_of source) other × (past ≡ 0)). absurd (mine.0 theirs.0.possible))
+      (λ (theirs : AreWindows waiting (events_of source) other × (past ≡ None)). absurd (mine.0 theirs.0.possible))
       (λ (theirs : (¬ HasSchedule waiting) × AreWindows all (events_of source) other × (past ≡ overdue_event state other (events_of source) now)).
       let same = one_windows all (events_of source) one other mine.1 theirs.1 in
       (same, mine.2 ∙ ap (λ windows. overdue_event state windows (events_of source) now) same ∙ sym theirs.2))
       q)
       p
 
-  drawn_possible : (windows : List (ℤ × ℤ)) (late : ℕ) → AreDrawn source state now windows late → HasSchedule all
+  drawn_possible : (windows : List (ℤ × ℤ)) (late : Option ℕ) → AreDrawn source state now windows late → HasSchedule all
   drawn_possible windows late p = ⊎_elim
-      (λ (mine : AreWindows waiting (events_of source) windows × (late ≡ 0)). (mine.0.possible.0, schedule_before all (floors state (events_of source) now) mine.0.possible.0 mine.0.possible.1))
+      (λ (mine : AreWindows waiting (events_of source) windows × (late ≡ None)). (mine.0.possible.0, schedule_before all (floors state (events_of source) now) mine.0.possible.0 mine.0.possible.1))
       (λ (mine : (¬ HasSchedule waiting) × AreWindows all (events_of source) windows × (late ≡ overdue_event state windows (events_of source) now)). mine.1.possible)
       p
 

@@ -1,12 +1,12 @@
 -- States with the same live records have the same picture.
-use Rattle.std.{proofs.Common.{◌≡◌, inl, inr, ℕ, ℤ, zero, suc, ◌+◌, Bool, not, ◌&&◌, if◌then◌else◌, List, ◌++◌, map, filter, refl, sym, ap, subst, ◌∙◌, ⊎_elim}, specs.{Prelude.{Option, Some, None, int_lt}, List.range_with_len}}
+use Rattle.std.{proofs.Common.{◌≡◌, inl, inr, ℕ, ℤ, ◌+◌, Bool, not, ◌&&◌, List, ◌++◌, map, filter, refl, sym, ap, subst, ◌∙◌, ⊎_elim}, specs.{Prelude.{Option, Some, None, find, int_lt}, List.range_with_len}}
 use Rattle.stn_net.specs.{Difference.Difference, Schedule.HasSchedule}
 use Rattle.stn_lift.specs.PlanSource.{PlanSource, base_bounds, events_of, steps_of}
 use Rattle.stn_records.specs.{Id.SiteCounter, declared.record.Record.Record, Content.{Content, live_of}}
 use Rattle.stn_conflict.specs.{Arcs.IsNegativeCycle, Named.IsNamedCycle}
 use Rattle.stn_site.specs.{Bounds.{all_bounds, bounds_of}, Report.{is_done, says_done}, Windows.{window_at, AreWindows}}
 use Rattle.stn_repairs.specs.Repairs.{AreRepairs}
-use Rattle.stn_chart.specs.{Chart.{Look, floor, floors, overdue_from, overdue_event, AreDrawn, chart_of, row_in, holder_in, axis_for}, Frame.plan_text, Drawn.IsPlanPicture}
+use Rattle.stn_chart.specs.{Chart.{Look, floor, floors, overdue_event, AreDrawn, chart_of, row_in, holder_in, axis_for}, Frame.plan_text, Drawn.IsPlanPicture}
 use Rattle.stn_walk.specs.{Walk.{walk_of, walk_text}, Conflict.IsWalkPicture}
 use Rattle.stn_picture.specs.Picture.{IsPicture}
 
@@ -24,22 +24,17 @@ module _ (source : PlanSource) (s t : Content) (live : live_of s ≡ live_of t) 
   same_floors None = refl
   same_floors (Some now) = ap (λ (done : ℕ → Bool). map (floor now) (filter (λ event. not (done event)) (range_with_len 1 (events_of source)))) same_done
 
-  same_late : (windows : List (ℤ × ℤ)) (now : ℤ) (event more : ℕ) → overdue_from s windows now event more ≡ overdue_from t windows now event more
-  same_late windows now event zero = refl
-  same_late windows now event (suc more) =
-      ap (λ (done : ℕ → Bool). if not (done event) && int_lt (window_at windows event).1 now then event else overdue_from s windows now (event + 1) more) same_done
-      ∙ ap (λ rest. if not (is_done t event) && int_lt (window_at windows event).1 now then event else rest) (same_late windows now (event + 1) more)
-
   same_overdue : (windows : List (ℤ × ℤ)) (now : Option ℤ) → overdue_event s windows (events_of source) now ≡ overdue_event t windows (events_of source) now
   same_overdue windows None = refl
-  same_overdue windows (Some now) = same_late windows now 1 (events_of source)
+  same_overdue windows (Some now) =
+      ap (λ (done : ℕ → Bool). find (λ event. not (done event) && int_lt (window_at windows event).1 now) (range_with_len 1 (events_of source))) same_done
 
   same_waiting : (now : Option ℤ) → all_bounds source s ++ floors s (events_of source) now ≡ all_bounds source t ++ floors t (events_of source) now
   same_waiting now = λ i. same_bounds i ++ same_floors now i
 
-  same_drawn : (now : Option ℤ) (windows : List (ℤ × ℤ)) (late : ℕ) → AreDrawn source s now windows late → AreDrawn source t now windows late
+  same_drawn : (now : Option ℤ) (windows : List (ℤ × ℤ)) (late : Option ℕ) → AreDrawn source s now windows late → AreDrawn source t now windows late
   same_drawn now windows late drawn = ⊎_elim
-      (λ (p : AreWindows (all_bounds source s ++ floors s (events_of source) now) (events_of source) windows × (late ≡ 0)).
+      (λ (p : AreWindows (all_bounds source s ++ floors s (events_of source) now) (events_of source) windows × (late ≡ None)).
       inl (subst (λ (bounds : List Difference). AreWindows bounds (events_of source) windows) (same_waiting now) p.0, p.1))
       (λ (p : (¬ HasSchedule (all_bounds source s ++ floors s (events_of source) now)) × AreWindows (all_bounds source s) (events_of source) windows × (late ≡ overdue_event s windows (events_of source) now)).
       inr (
@@ -49,7 +44,7 @@ module _ (source : PlanSource) (s t : Content) (live : live_of s ≡ live_of t) 
       ))
       drawn
 
-  same_chart : (look : Look) (names : List (List ℕ)) (windows : List (ℤ × ℤ)) (late : ℕ) → chart_of look names source s windows late ≡ chart_of look names source t windows late
+  same_chart : (look : Look) (names : List (List ℕ)) (windows : List (ℤ × ℤ)) (late : Option ℕ) → chart_of look names source s windows late ≡ chart_of look names source t windows late
   same_chart look names windows late = λ i. record {
     look = look;
     names = names;

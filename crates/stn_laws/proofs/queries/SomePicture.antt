@@ -72,7 +72,7 @@ module _ {source : PlanSource} {state : Content} (sound : IsSoundState source st
       elim (waiting_or_none look.present) [
         | inl (far, found) ↦
             let (windows, are) = some_windows found in
-            (plan_text (chart_of look names source state windows 0), inl (record { windows = windows; overdue = 0; drawn = inl (are, refl); whole = refl }))
+            (plan_text (chart_of look names source state windows None), inl (record { windows = windows; overdue = None; drawn = inl (are, refl); whole = refl }))
         | inr late ↦ elim (differences sound) [
           | inl (far, found) ↦
               let (windows, are) = some_windows found in

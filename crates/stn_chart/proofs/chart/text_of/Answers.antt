@@ -1,7 +1,7 @@
-use Rattle.std.{proofs.Common.{◌≡◌, ◌+◌, ◌++◌, ℕ, List, map, ap, ◌∙◌, arith}, specs.List.range_with_len}
+use Rattle.std.{proofs.Common.{◌≡◌, ◌+◌, ◌++◌, ℕ, List, map, ap, ◌∙◌}, specs.List.range_with_len}
 use Rattle.stn_lift.specs.PlanSource.{base_bounds, steps_of, events_of}
 use Rattle.stn_drawing.specs.Ticks.{axis_reaching}
-use Rattle.stn_chart.specs.{Chart.{Chart, seen_look, row_in, holder_in, axis_reach, chart_of}, Frame.plan_text, Places.{line_left, line_width, row_top}, Seen.overdue_of}
+use Rattle.stn_chart.specs.{Chart.{Chart, seen_look, row_in, holder_in, axis_reach, chart_of}, Frame.plan_text, Places.{line_left, line_width, row_top}}
 use Rattle.stn_chart.proofs.chart.text_of.Goals as goal
 
 pub returns : goal.returns
@@ -12,7 +12,7 @@ returns g c =
     let names : List (List ℕ) = map (λ name. name.items) c.args.names.now in
     let windows = c.args.drawn.now.windows.items in
     let present = c.args.look.now.present in
-    let overdue = overdue_of source state present c.args.drawn.now in
+    let overdue = c.args.drawn.now.overdue in
     let steps : c.steps-steps.result ≡ steps_of source = c.steps-steps.ensures.value ∙ ap steps_of c.base-base.ensures in
     let events : c.events.result ≡ events_of source = c.events.ensures.value ∙ ap events_of c.base-base.ensures in
     let base = c.bounds.ensures.value ∙ ap base_bounds c.base-base.ensures in
@@ -34,6 +34,6 @@ returns g c =
       done = done i;
       rows = rows i;
       holders = holders i;
-      overdue = c.overdue_of.ensures i;
+      overdue = overdue;
       axis = axis i;
     }))

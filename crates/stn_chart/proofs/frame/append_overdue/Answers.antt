@@ -1,10 +1,9 @@
-use Rattle.std.proofs.{Common.{◌≡◌, ◌==◌, false, arith}, lemmas.Bool.Decides.nat_tests}
+use Rattle.std.proofs.Common.{refl}
 use Rattle.stn_drawing.proofs.Grown.{then, last}
 use Rattle.stn_chart.proofs.frame.append_overdue.Goals as goal
 
-pub returns : goal.returns
-returns g c =
+pub returns-in_ok-print_event-in-Some : goal.returns-in_ok-print_event-in-Some
+returns-in_ok-print_event-in-Some g c =
     let out = c.args.out.now.items in
-    let some : (c.args.event == 0) ≡ false = grind (arith, nat_tests, c.if-event-eq0.false) in
-    let event = then out _ _ c.in_ok-extend_from_slice.ensures.items c.in_ok-print_event.ensures.printed in
-    last c.extend_from_slice-2.result out _ _ _ event c.extend_from_slice-2.ensures.items (simp some)
+    let event = then out _ _ c.in_ok-extend_from_slice-in-Some.ensures.items c.in_ok-print_event-in-Some.ensures.printed in
+    last c.extend_from_slice-in-Some.result out _ _ _ event c.extend_from_slice-in-Some.ensures.items (rw c.in-Some.is refl)
