@@ -1,5 +1,5 @@
 -- The word of a command that names no event of a plan.
-use Rattle.std.specs.{Prelude.{ℕ, ◌*◌, ◌&&◌, Bool, nat_le, not, List, Option, Some, None, if◌then◌else◌}, Borrow.Bor, Option.option_or}
+use Rattle.std.specs.{Prelude.{ℕ, ◌*◌, ◌&&◌, Bool, nat_le, List, Option, Some, None, if◌then◌else◌}, Borrow.Bor, Option.option_or}
 use Rattle.stn_line.specs.declared.words.{LogChange.TheVariants.{Add, Amend, Done}, LogQuestion.TheVariants.Why, Line.{Line, TheVariants.{Change, Ask}}}
 use Rattle.stn_command.specs.Words.{event_of}
 
@@ -19,7 +19,7 @@ abbrev pub absent_second : ℕ → Option (Bor (List ℕ)) → Option (List ℕ)
 absent_second steps None = None
 absent_second steps (Some word) = absent 0 steps word.now
 
--- the first such word; the origin takes no place, so `done` names no event by it
+-- the first such word; the origin never takes place, so `done` may not name it
 abbrev pub absent_event : ℕ → Line → Option (List ℕ)
 absent_event steps (Change log (Add from to lo hi)) = option_or (absent 0 steps from.now) (absent 0 steps to.now)
 absent_event steps (Change log (Amend id from to lo hi)) = option_or (absent 0 steps from.now) (absent 0 steps to.now)

@@ -1,6 +1,6 @@
 -- Why a command ends without an answer, as it is told after the line that says so.
 use Rattle.std.specs.{Prelude.{◌≡◌, ◌⊎◌, ℕ, ◌*◌, ◌-◌, ◌==◌, ◌&&◌, nat_le, bytes_eq, Bool, List, [], ◌∷◌, ◌++◌, codes, decimal, length, take, Option, Some, None, option_map, if◌then◌else◌, ⊤}, String.string_bytes, Option.{option_or, unwrap_or}}
-use Rattle.stn_cause.specs.{Cause.trouble_text, declared.cause.Cause.Cause}
+use Rattle.stn_cause.specs.Cause.{trouble_text}
 use Rattle.stn_cause.specs.declared.cause.Cause.TheVariants as cause
 use Rattle.stn_text.specs.Bytes.{line_feed}
 use Rattle.stn_lift.specs.PlanSource.{PlanSource, steps_of}
@@ -61,7 +61,6 @@ file_refused (Make log (Bare steps)) number = if number == number_of code.LogThe
 file_refused (Make log (Init domain plan)) number = text_refused log.name.now domain.now plan.now number
 file_refused (Make log (Loosen domain plan early late robust)) number = text_refused log.name.now domain.now plan.now number
 file_refused (Change log (Merge other)) number = if number == number_of code.OtherPlan then Some other.now else None
-file_refused (Ask log asked names) number = if refuses_plan number then option_map (λ plan. plan.now) names.plan else None
 file_refused line number = None
 
 -- ---- what is told of it
@@ -106,10 +105,15 @@ counts_told steps line = unwrap_or (option_or (option_map (λ times. times_count
 abbrev pub form_told : PlanSource → Line → List ℕ
 form_told source line = unwrap_or (option_map (λ told. told ++ line_feed ∷ []) (names_refused line source)) (counts_told (steps_of source) line)
 
--- what is said of a refusal by a log's plan
-abbrev pub plan_told : PlanSource → Line → ℕ → List ℕ
-plan_told source line number = if number == number_of code.NoEvent then absent_told (steps_of source) line
-    else (if number == number_of code.Line then form_told source line else [])
+-- what is said of a refusal of the text of a file of names
+abbrev pub names_told : Line → Refusal → List ℕ
+names_told line refusal = unwrap_or (option_map (λ name. file_text name refusal) (names_file line)) []
+
+-- what is said of a refusal by a log's plan, or of the text of a file of names: the log itself can be opened
+abbrev pub plan_told : PlanSource → Line → Refusal → List ℕ
+plan_told source line refusal = if refusal.code == number_of code.NoEvent then absent_told (steps_of source) line
+    else (if refusal.code == number_of code.Line then form_told source line
+    else (if refuses_plan refusal.code then names_told line refusal else []))
 
 -- what is said of a word that `explain` doesn't know
 abbrev pub code_told : Line → List ℕ
@@ -121,14 +125,14 @@ abbrev pub TellsPromise : Entries → Line → List ℕ → Type 0
 TellsPromise entries (Make log (Loosen domain plan early late robust)) text = SaysFragile entries domain.now plan.now (slack_read early late) text
 TellsPromise entries line text = ⊥
 
--- a refusal of a command whose words are well: a log that has a fault, what the log's plan refuses, what is not robust, or what can't be
+-- a refusal of a command whose words can all be read: a log that has a fault, what the log's plan refuses, what is not robust, or what can't be
 -- explained
 pub data TellsLog (entries : Entries) (line : Line) (refusal : Refusal) (text : List ℕ) : Type 0 where
   of_log : (log : SiteLog) → log_of line ≡ Some log → IsUnopened entries log.name.now (Refused refusal)
       → text ≡ file_text log.name.now refusal → TellsLog entries line refusal text
   of_other : (other : List ℕ) → other_of line ≡ Some other → IsUnopened entries other (Refused refusal)
       → text ≡ file_text other refusal → TellsLog entries line refusal text
-  of_plan : (source : PlanSource) → HasPlan entries line source → text ≡ plan_told source line refusal.code → TellsLog entries line refusal text
+  of_plan : (source : PlanSource) → HasPlan entries line source → text ≡ plan_told source line refusal → TellsLog entries line refusal text
   of_promise : refusal.code ≡ number_of code.NotRobust → TellsPromise entries line text → TellsLog entries line refusal text
   of_code : log_of line ≡ None → text ≡ code_told line → TellsLog entries line refusal text
 
@@ -166,15 +170,21 @@ connection_text address fault.Read = trouble_text address cause.Unread
 connection_text address fault.Bound = trouble_text address cause.TooLong
 connection_text address other = []
 
+abbrev pub output_text : Fault → List ℕ
+output_text fault.Write = trouble_text (codes "standard output") cause.Unwritten
+output_text other = []
+
 abbrev pub own_text : Fault → List ℕ
 own_text fault.Read = trouble_text (codes "standard input") cause.Unread
 own_text fault.Bound = trouble_text (codes "standard input") cause.TooLong
-own_text fault.Write = trouble_text (codes "standard output") cause.Unwritten
-own_text other = []
+own_text other = output_text other
 
+-- of a command: `send` has a connection, and only `run` and `shell` read the standard input
 abbrev pub stream_text : Line → Fault → List ℕ
 stream_text (Send log address seconds) failed = connection_text address.now failed
-stream_text line other = own_text other
+stream_text Run failed = own_text failed
+stream_text (Shell log) failed = own_text failed
+stream_text line failed = output_text failed
 
 -- what can't be used, and why, where the store knows it; else which stream the fault is of
 abbrev pub known_trouble : Option Trouble → Line → Fault → List ℕ

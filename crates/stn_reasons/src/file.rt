@@ -42,7 +42,6 @@ pub fn refused_file<'a>(line: &Line<'a>, number: u8) -> Option<&'a str>
         Line::Change(_, LogChange::Merge { other }) => {
             (number == Code::OtherPlan.number()).then_some(*other)
         }
-        Line::Ask(_, _, names) => { if is_of_plan(number) { names.plan } else { None } }
         _ => None,
     }
 }
@@ -69,8 +68,8 @@ fn is_of_domain(number: u8) -> bool
     Code::DomainTooLong.number() <= number && number <= Code::DomainVariable.number()
 }
 
-// Whether a number refuses the text of a plan.
-fn is_of_plan(number: u8) -> bool
+/// Whether a number refuses the text of a plan.
+pub fn is_of_plan(number: u8) -> bool
     ensures { result ≡ spec.refuses_plan number }
 {
     Code::PlanTooLong.number() <= number && number <= Code::PastHorizon.number()

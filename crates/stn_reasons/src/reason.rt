@@ -6,14 +6,14 @@ ghost use Rattle.stn_text.specs.Bytes.{line_feed};
 ghost use Rattle.stn_reasons.specs.Reasons as spec;
 ghost use Rattle.stn_reasons.specs.Reasons.{HasSteps, IsReason, IsReasonInLine, IsRefusalReason, TellsAbout, TellsFile, TellsLog, TellsPromise, TellsWord};
 ghost use Rattle.stn_asked.specs.Words.{word_refused};
-ghost use Rattle.stn_refusal.specs.{Codes.number_of, declared.failure.Failure.TheVariants.Refused};
+ghost use Rattle.stn_refusal.specs.declared.failure.Failure.TheVariants.{Refused};
 ghost use Rattle.stn_refusal.specs.declared.code.Code.TheVariants as code;
 ghost use Rattle.stn_lift.specs.PlanSource.{steps_of as plan_steps};
 ghost use Rattle.stn_site.specs.Held.{Held};
 ghost use Rattle.stn_store.specs.Store.{IsUnopened, Opens};
 
 use crate::absent::absent_event;
-use crate::file::{append_file, log_of, refused_file};
+use crate::file::{append_file, is_of_plan, log_of, refused_file};
 use crate::flags::{append_flag, append_names_count, names_file, refused_names, steps_flag};
 use crate::fragile::fragile_text;
 use crate::telling::{append_absent, append_counts, append_refused_word};
@@ -149,7 +149,7 @@ impl<'c, 'l, S: Store<A>, A: Allocator + Copy> RefusedCommand<'c, 'l, S, A> {
         }
     }
 
-    // The file that the refusal is about, or what else it is about where the words are well.
+    // The file that the refusal is about, or what else it is about where all words can be read.
     fn about_file(&self) -> Result<Vec<u8, A>, Memory>
         ensures { IfOk result (λ text. TellsFile (spec.file_refused self.now.line.now self.now.refusal.code) (S.entries self.now.store.now)
             self.now.line.now self.now.refusal text.items) }
@@ -263,16 +263,28 @@ impl<'c, 'l, S: Store<A>, A: Allocator + Copy> RefusedCommand<'c, 'l, S, A> {
         }
     }
 
-    // What a refusal by the plan of the log is about.
+    // What a refusal by the plan of the log is about, or one of the text of a file of names.
     fn about_plan(&self, base: &Base<A>) -> Result<Vec<u8, A>, Memory>
-        ensures { IfOk result (λ text. text.items ≡ spec.plan_told base.now self.now.line.now self.now.refusal.code) }
+        ensures { IfOk result (λ text. text.items ≡ spec.plan_told base.now self.now.line.now self.now.refusal) }
     {
         if self.refusal.code == Code::NoEvent.number() {
             self.absent_text(base.steps())
         } else if self.refusal.code == Code::Line.number() {
             self.about_form(base)
+        } else if is_of_plan(self.refusal.code) {
+            self.about_names()
         } else {
             Ok(Vec::new(self.alloc))
+        }
+    }
+
+    // The line that names the file of names, and the place in it; nothing, where there is no such file.
+    fn about_names(&self) -> Result<Vec<u8, A>, Memory>
+        ensures { IfOk result (λ text. text.items ≡ spec.names_told self.now.line.now self.now.refusal) }
+    {
+        match names_file(self.line) {
+            Some(name) => self.file_text(name),
+            None => Ok(Vec::new(self.alloc)),
         }
     }
 
@@ -409,7 +421,8 @@ fn text_of_trouble<A: Allocator>(
     Ok(text)
 }
 
-// Appends which stream a fault is of: the connection of `send`, or one of the program's own.
+// Appends which stream a fault is of: the connection of `send`, the standard input, which only `run` and `shell` read, or the
+// standard output.
 fn append_stream<A: Allocator>(
     line: &Line<'_>,
     fault: Fault,
@@ -419,7 +432,12 @@ fn append_stream<A: Allocator>(
 {
     match line {
         Line::Send { address, .. } => append_connection(*address, fault, out),
-        _ => append_own(fault, out),
+        Line::Run | Line::Shell { .. } => append_own(fault, out),
+        Line::Make(..)
+        | Line::Change(..)
+        | Line::Ask(..)
+        | Line::Explain { .. }
+        | Line::Serve { .. } => append_output(fault, out),
     }
 }
 
@@ -443,7 +461,15 @@ fn append_own<A: Allocator>(fault: Fault, out: &mut Vec<u8, A>) -> Result<(), Me
     match fault {
         Fault::Read => append_trouble("standard input", Cause::Unread, out),
         Fault::Bound => append_trouble("standard input", Cause::TooLong, out),
+        Fault::Write | Fault::Memory | Fault::File | Fault::Net => append_output(fault, out),
+    }
+}
+
+fn append_output<A: Allocator>(fault: Fault, out: &mut Vec<u8, A>) -> Result<(), Memory>
+    ensures { OnOk result (out.new.items ≡ out.old.items ++ spec.output_text fault) }
+{
+    match fault {
         Fault::Write => append_trouble("standard output", Cause::Unwritten, out),
-        Fault::Memory | Fault::File | Fault::Net => Ok(()),
+        Fault::Read | Fault::Bound | Fault::Memory | Fault::File | Fault::Net => Ok(()),
     }
 }
