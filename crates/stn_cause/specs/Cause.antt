@@ -18,7 +18,6 @@ cause_of kind.AlreadyExists = cause.There
 cause_of kind.ReadOnlyFilesystem = cause.ReadOnly
 cause_of kind.StorageFull = cause.NoRoom
 cause_of kind.QuotaExceeded = cause.NoRoom
-cause_of kind.ResourceBusy = cause.Changed
 cause_of kind.AddrInUse = cause.InUse
 cause_of kind.AddrNotAvailable = cause.Elsewhere
 cause_of kind.ConnectionRefused = cause.Nobody

@@ -71,7 +71,6 @@ impl Cause {
             ErrorKind::AlreadyExists => Cause::There,
             ErrorKind::ReadOnlyFilesystem => Cause::ReadOnly,
             ErrorKind::StorageFull | ErrorKind::QuotaExceeded => Cause::NoRoom,
-            ErrorKind::ResourceBusy => Cause::Changed,
             ErrorKind::AddrInUse => Cause::InUse,
             ErrorKind::AddrNotAvailable => Cause::Elsewhere,
             ErrorKind::ConnectionRefused => Cause::Nobody,
