@@ -75,11 +75,21 @@ pub enum Asked<'a, A: Allocator> {
     /// One without lists.
     Alone(LoneQuery),
     /// What is asked of the events of these steps, or of all, or of their starts alone, from a time on.
-    Foresee(Outlook, Ms, Option<Vec<StepRange, A>>, bool),
+    Foresee {
+        outlook: Outlook,
+        now: Ms,
+        steps: Option<Vec<StepRange, A>>,
+        starts: bool,
+    },
     /// Whether times are a schedule.
     Check(Vec<Ms, A>),
     /// The picture with this title, this present, or none, with arrows or without, and with steps of sites.
-    Draw(&'a [u8], Option<Ms>, bool, Vec<OwnedSteps, A>),
+    Draw {
+        title: &'a [u8],
+        present: Option<Ms>,
+        arrows: bool,
+        owned: Vec<OwnedSteps, A>,
+    },
 }
 
 impl<'a, A: Allocator> Asked<'a, A> {
@@ -89,11 +99,19 @@ impl<'a, A: Allocator> Asked<'a, A> {
     {
         match self {
             Asked::Alone(query) => Query::from(*query),
-            Asked::Foresee(outlook, now, steps, starts) => {
-                Query::Foresee(*outlook, *now, choice_of(steps, *starts))
-            }
+            Asked::Foresee {
+                outlook,
+                now,
+                steps,
+                starts,
+            } => Query::Foresee(*outlook, *now, choice_of(steps, *starts)),
             Asked::Check(times) => Query::Check(times),
-            Asked::Draw(title, present, arrows, owned) => Query::Draw(Look {
+            Asked::Draw {
+                title,
+                present,
+                arrows,
+                owned,
+            } => Query::Draw(Look {
                 title: *title,
                 present: *present,
                 arrows: *arrows,
@@ -155,8 +173,13 @@ fn read_foresee<'a, A: Allocator + Copy>(
         (λ refused. (refused.failure ≡ out_of_memory) ⊎ (said.among_read outlook now.entry choice.now ≡ Err refused)) }
 {
     let steps = read_chosen(alloc, choice.steps)?;
-    let time = read_time(now)?;
-    Ok(Asked::Foresee(outlook, time, steps, choice.starts))
+    let now = read_time(now)?;
+    Ok(Asked::Foresee {
+        outlook,
+        now,
+        steps,
+        starts: choice.starts,
+    })
 }
 
 // How the plan of a log is drawn, with its name as the title.
@@ -172,7 +195,12 @@ fn read_drawing<'a, A: Allocator + Copy>(
     let owned = read_all_owned(alloc, &drawing.owned)?;
     let arrows = read_arrows(drawing.arrows)?;
     let present = read_present(drawing.now)?;
-    Ok(Asked::Draw(log.name.as_bytes(), present, arrows, owned))
+    Ok(Asked::Draw {
+        title: log.name.as_bytes(),
+        present,
+        arrows,
+        owned,
+    })
 }
 
 /// The word that refuses a command, where one does: the first that says nothing, in the order in which they are read. What a log

@@ -24,7 +24,7 @@ is_of None event = true
 abbrev pub is_chosen : Choice → ℕ → Bool
 is_chosen choice event = is_of choice.steps event && not (choice.starts && is_end event)
 
--- for each event of the plan, the origin first, that it doesn't count as left: some live record says that it is done, or it is not chosen
+-- for each event of the plan, the origin first, whether it doesn't count as left: some live record says that it is done, or it is not chosen
 abbrev pub done_or_not_chosen : Choice → PlanSource → Content → List Bool
 done_or_not_chosen choice source state = map (λ event. is_done state event || not (is_chosen choice event)) (range_with_len 0 (events_of source + 1))
 

@@ -28,7 +28,7 @@ named_events state (word ∷ words) = if bytes_eq word (codes "drop")
 abbrev pub name_unless : List (List ℕ) → Bool → ℕ → List ℕ
 name_unless names is_named event = if (event == 0) || is_named then [] else codes "  " ++ slice_index_or names (step_of event - 1) []
 
--- the same, where a step is named already if an event before is of it
+-- the same, after other events: their steps are named already
 abbrev pub name_after : List (List ℕ) → List ℕ → ℕ → List ℕ
 name_after names before event = name_unless names (list_any (λ other. step_of other == step_of event) before) event
 

@@ -1,5 +1,5 @@
 -- What a site is asked about its plan and what it holds, what is said of it, and why that is refused.
-use Rattle.std.specs.{Prelude.{◌≡◌, ◌≢◌, ◌⊎◌, ℕ, ℤ, pos, Bool, true, false, List, [], ◌∷◌, length, bytes_eq, codes, if◌then◌else◌, Vec, Option, Some, None, option_map, unwrap_or, Result, Ok, Err}, List.list_all}
+use Rattle.std.specs.{Prelude.{◌≡◌, ◌≢◌, ◌⊎◌, ℕ, ℤ, pos, Bool, true, false, List, [], ◌∷◌, length, if◌then◌else◌, Vec, Option, Some, None, option_map, unwrap_or, Result, Ok, Err}, List.list_all}
 use Rattle.stn_refusal.specs.declared.code.Code.TheVariants as code
 use Rattle.stn_refusal.specs.{declared.failure.Failure.Failure, Refusals.{refused_of, out_of_memory}}
 use Rattle.stn_net.specs.{Failures.bound_failure, Schedule.times_of, declared.bound.BoundFault.TheVariants.NoEvent}
@@ -66,7 +66,7 @@ abbrev pub IsCheckRefusal : PlanSource → List ℤ → Option Failure → Type 
 IsCheckRefusal source times cause = ((length times ≢ events_of source) × (cause ≡ Some no_such_word))
     ⊎ ((length times ≡ events_of source) × (cause ≡ None))
 
--- why a rehearsal is: an event is overdue
+-- why a rehearsal is refused: an event is overdue
 abbrev pub IsRehearseRefusal : PlanSource → Content → List Bool → ℤ → Option Failure → Type 0
 IsRehearseRefusal source state done now cause = ((event : ℕ) × IsOverdueAt source state done now event × (cause ≡ Some (refused_of code.Overdue event)))
     ⊎ ((¬ IsRefusedRehearsal source state done now) × (cause ≡ None))
@@ -80,12 +80,12 @@ IsOutlookRefusal other source state done now cause = cause ≡ None
 abbrev pub has_steps : Choice → ℕ → Bool
 has_steps choice steps = list_all (λ range. is_within steps range) (unwrap_or choice.steps [])
 
--- why nothing is said of chosen events: the plan has not all their steps; or the same
+-- why nothing is said of chosen events: the plan lacks one of their steps; else, why nothing is said of the events that are left
 abbrev pub IsForesightRefusal : PlanSource → Content → Outlook → ℤ → Choice → Option Failure → Type 0
 IsForesightRefusal source state outlook now choice cause = ((has_steps choice (steps_of source) ≡ false) × (cause ≡ Some (bound_failure NoEvent)))
     ⊎ ((has_steps choice (steps_of source) ≡ true) × IsOutlookRefusal outlook source state (done_or_not_chosen choice source state) now cause)
 
--- why a picture is: the plan has not all steps that sites are said to own
+-- why a picture is refused: the plan lacks a step that a site is said to own
 abbrev pub draw_refusal : Look → PlanSource → Option Failure
 draw_refusal look source = if are_within (steps_of source) look.owned then None else Some (bound_failure NoEvent)
 
@@ -106,7 +106,7 @@ abbrev pub MayBeOverdue : Query → PlanSource → Type 0
 MayBeOverdue (foresee outlook.Rehearse now choice) source = has_steps choice (steps_of source) ≡ true
 MayBeOverdue other source = ⊥
 
--- where memory may run out
+-- memory may be lacking: no cause refuses the query, or it rehearses steps that the plan has
 abbrev pub LacksMemory : Query → Held → Type 0
 LacksMemory query held = IsQueryRefusal query held None ⊎ MayBeOverdue query held.source
 

@@ -1,5 +1,5 @@
 -- The steps that words name, and those that words give to sites.
-use Rattle.std.specs.{Prelude.{ℕ, ◌==◌, Bool, ◌&&◌, nat_le, nat_lt, if◌then◌else◌, List, [], ◌∷◌, ◌++◌, length, map, Option, Some, None, unwrap_or, Result, Ok, Err}, List.{slice_split, position_or_len, before_first, after_first, list_any}}
+use Rattle.std.specs.{Prelude.{ℕ, ◌==◌, Bool, ◌&&◌, nat_le, nat_lt, if◌then◌else◌, List, ◌++◌, length, map, Option, Some, None, unwrap_or, Result, Ok, Err}, List.{slice_split, position_or_len, before_first, after_first, list_any}}
 use Rattle.stn_text.specs.Numbers.{number_of}
 use Rattle.stn_records.specs.Id.{most_sites}
 use Rattle.stn_refusal.specs.declared.failure.Failure.{Failure}

@@ -1,7 +1,7 @@
 //! What is said of times, of what comes next, and of the rest of the plan.
 
-ghost use Rattle.std.specs.Prelude.{◌≡◌, ◌⊎◌, ◌++◌, ◌+◌, List, ℕ, length, codes, OnOk, IfErr};
-ghost use Rattle.stn_net.specs.{declared.windows.answers.RehearseFault.TheVariants.{Overdue, Memory as want_of_memory}};
+ghost use Rattle.std.specs.Prelude.{◌≡◌, ◌⊎◌, ◌++◌, ◌+◌, List, ℕ, length, OnOk, IfErr};
+ghost use Rattle.stn_net.specs.declared.windows.answers.RehearseFault.TheVariants.{Overdue, Memory as want_of_memory};
 ghost use Rattle.stn_lift.specs.PlanSource.{events_of};
 ghost use Rattle.stn_records.specs.Content.{AllProper};
 ghost use Rattle.stn_command.specs.Dispatch.{check_text, run_line, runs_text, next_text, IsNextText, IsRestText, IsOverdueAt, IsRefusedRehearsal};
@@ -62,8 +62,8 @@ fn append_answer<B: Allocator>(out: &mut Vec<u8, B>, answer: Next) -> Result<(),
 /// Appends the rest of the plan from now on, where these events count as done, or `conflict`. After an
 /// error a part of it may stand there.
 ///
-/// It is refused where every schedule has an event that is left before now (`Overdue`), or where memory
-/// runs out.
+/// Refused as `Overdue` where every schedule has an event that is left before now. `Memory` may come in
+/// place of any answer.
 pub fn append_rest<A: Allocator + Copy, B: Allocator>(
     plan: &SitePlan<A>,
     done: &[bool],

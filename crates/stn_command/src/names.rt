@@ -23,8 +23,8 @@ use stn_site::{SitePlan, are_within};
 /// this is the text: the steps by these alone, the picture by them, and any other answer with them at the end of its lines, after two
 /// spaces each.
 ///
-/// Refused as 20 to 24 where `Plan::read` refuses the text, 70 where the other plan has not as many steps, then as `say` refuses the
-/// query; or where memory runs out.
+/// Refused in this order: as `Plan::read` refuses the text (20 to 24); as 70 where the other plan has another number of steps; as
+/// `say` refuses the query. Lack of memory may come in place of any answer.
 pub fn say_named<A: Allocator + Copy>(
     plan: &SitePlan<A>,
     query: &Query<'_>,

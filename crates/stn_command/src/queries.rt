@@ -7,7 +7,7 @@ ghost use Rattle.stn_records.specs.Content.{AllProper};
 ghost use Rattle.stn_refusal.specs.Refusals.{out_of_memory};
 ghost use Rattle.stn_site.specs.Own.{done_or_others};
 ghost use Rattle.stn_chart.specs.Chart.{seen_look};
-ghost use Rattle.stn_command.specs.{Dispatch.done_or_not_chosen, Query.{report, check, ask, repairs, seen_lone, seen_query, seen_choice, IsSaid, IsQueryRefusal, LacksMemory, Says, Foresees}};
+ghost use Rattle.stn_command.specs.Query.{report, check, ask, repairs, seen_lone, seen_query, seen_choice, IsSaid, IsQueryRefusal, LacksMemory, Says, Foresees};
 ghost use Rattle.stn_command.specs.Query as asked;
 
 use crate::dispatch::{append_check, append_next, append_rest};
@@ -61,9 +61,9 @@ impl<'a> From<LoneQuery> for Query<'a> {
 
 /// Appends what is said to a query about a site's copy of the plan. After an error nothing is appended.
 ///
-/// Refused as 70 where a check has not one time for each event, 4 where a question is about an event that the plan has not,
-/// or a step is chosen or said to be owned that it has not, 5 where a question is about an event and itself, 7 where an event of a rehearsal is
-/// overdue; or where memory runs out.
+/// Refused as 70 where a check has another number of times than the plan has events, as 4 where the plan lacks the event of a
+/// question or a step that is chosen or owned, then as 5 where a question is about an event and itself, and as 7 where an event of
+/// a rehearsal is overdue. Lack of memory comes last, but may come in place of 7.
 #[tactic(auto, using(crate::proofs::Alike::memory_of))]
 pub fn append_said<A: Allocator + Copy, B: Allocator>(
     plan: &SitePlan<A>,

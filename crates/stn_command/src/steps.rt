@@ -48,8 +48,8 @@ fn read_ranges<A: Allocator>(alloc: A, words: &[&str]) -> Result<Vec<StepRange, 
 
 /// Adds the steps that a word gives to a site, as `2:4-6`. After an error nothing is added.
 ///
-/// Refused as 70 where the word is not of this form, or names a site that is not from 1 to 64, or a step that is given
-/// already. Lack of memory may come in place of any answer.
+/// Refused as 70 where the word is not of this form, or names a step 0, a range that falls, a site that is not from 1 to 64, or a
+/// step that is given already. Lack of memory may come in place of any answer.
 #[tactic(auto, unfolding(crate::specs::Steps::owned_too))]
 pub fn read_owned<A: Allocator + Copy>(
     alloc: A,

@@ -1,7 +1,7 @@
 use Rattle.std.{proofs.{lemmas.{Grind.common_steps, Int.ints, Bool.{cases_eq, cases_lt, or_left, or_right}, List.{take-take, get_or-set_same, get_or-set_other, get_or-replicate, get_or_push, length-take, length-append, length-set, length-replicate, Elements.{All-take, All-append, All-push}}}, Common.{rules, ◌≡◌, ℕ, Bool, true, false, lt-ltb, ◌+◌, ◌<◌, ◌≤◌, List, [], ◌∷◌, ◌++◌, length, set, take, replicate, ap, refl, ◌∙◌, arith}}, specs.Prelude.{ℤ, pos, ◌+ℤ◌, ◌-ℤ◌, ◌≤ℤ◌, int_lt, All}}
 use Rattle.stn_time.specs.Time.{horizon}
-use Rattle.stn_net.{specs.{Difference.{Difference, NamesEvents}, Schedule.{IsSchedule, HasSchedule, times_of}, Horizon.horizon_bounds}, proofs.Widest.horizon_times}
-use Rattle.stn_conflict.{specs.{declared.links.Link.Link, Arcs.arc_of, Relaxation.{NamesAmong, IsNetwork, AreEstimates, AreDistances, AreLimited, AreRelaxed, IsArcBetween, IsFloor, IsListed, IsRelaxed, IsRelaxedBut, IsPossibleGap, is_fresh}}, proofs.{Lowering.stale_before, Tightness.{arc_before, arc_longer, link_reaches, link_among, relaxed_schedule}, Known.known_first}}
+use Rattle.stn_net.{specs.{Difference.{Difference, NamesEvents}, Schedule.{IsSchedule, HasSchedule, times_of}, Horizon.horizon_bounds, Ranges.CanBeApart}, proofs.Widest.horizon_times}
+use Rattle.stn_conflict.{specs.{declared.links.Link.Link, Arcs.arc_of, Relaxation.{NamesAmong, IsNetwork, AreEstimates, AreDistances, AreLimited, AreRelaxed, IsArcBetween, IsFloor, IsListed, IsRelaxed, IsRelaxedBut, is_fresh}}, proofs.{Lowering.stale_before, Tightness.{arc_before, arc_longer, link_reaches, link_among, relaxed_schedule}, Known.known_first}}
 
 -- the events of the plan are so many and the origin
 pub among_events : (bounds : List Difference) {events count : ℕ} → count ≡ events + 1 → All (NamesEvents events) bounds → All (NamesAmong count) bounds
@@ -131,7 +131,7 @@ distances_relaxed {bounds} {start} {far} d = λ link there.
 
 -- and they differ as some schedule does
 pub distances_taken : {bounds : List Difference} {start : ℕ} {far : List ℤ} {from to : ℕ} → AreDistances bounds start far
-    → IsPossibleGap bounds from to (times_of far to -ℤ times_of far from)
+    → CanBeApart bounds from to (times_of far to -ℤ times_of far from)
 distances_taken {bounds} {start} {far} d = (
   λ x. times_of far x -ℤ times_of far 0,
   relaxed_schedule (times_of far) (distances_relaxed d),

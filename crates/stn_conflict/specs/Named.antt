@@ -3,7 +3,7 @@ use Rattle.stn_time.specs.Time.{IsWithinHorizon}
 use Rattle.stn_net.specs.{Difference.Difference, Matrix.Tightest.IsTightest}
 use Rattle.stn_conflict.specs.{declared.links.Link.Link, Arcs.{arc_of, rank, weight_of, IsChain}, Culprit.IsCulprit}
 
--- the link's end can be as far after `start` as the link allows when its beginning is as far as it can be
+-- the link is tight: the greatest difference from `start` to its end is that to its beginning plus the link's weight
 pub record IsTight (bounds : List Difference) (start : ℕ) (link : Link) : Type 0 where
   pub there : link.place < length bounds
   pub tight : (most : ℤ) × IsTightest bounds start (arc_of bounds link).from most
@@ -31,7 +31,7 @@ pub record IsFirstStep (bounds : List Difference) (start : ℕ) (link : Link) : 
   pub first : (other : Link) → rank other < rank link → (arc_of bounds other).to ≡ (arc_of bounds link).to
       → ¬ IsLevelStep bounds start other
 
--- the chain from `start` to x that takes, going back from x, the first step to each event that it comes to
+-- the first chain from `start` to x: going back from x, it takes the first step to each event that it comes to
 pub record IsWay (bounds : List Difference) (start x : ℕ) (links : List Link) : Type 0 where
   pub chain : IsChain bounds links start x
   pub first : AllByRecursion (IsFirstStep bounds start) links

@@ -209,10 +209,6 @@ pub record IsRow (searched : Searched) (event : ℕ) (looks : List Look) : Type 
   pub each : (look : Look) → Contains looks look → IsLook searched.bounds event look
   pub ordered : IsNonDecreasingBy (λ look. look.link.place) looks
 
--- in some schedule of the bounds the one event comes so long after the other
-abbrev pub IsPossibleGap : List Difference → ℕ → ℕ → ℤ → Type 0
-IsPossibleGap bounds from to apart = (time : ℕ → ℤ) × IsSchedule bounds time × ((time to -ℤ time from) ≡ apart)
-
 -- the search for how late each event can come has only links from events with fresh estimates left
 pub record IsPending {A : Type 0} (events : ℕ) (bounds : List Difference) (latest : Search A) : Type 0 where
   pub late : IsSearch bounds 0 (events + 1) latest

@@ -16,8 +16,8 @@ pub(crate) struct Walk<A: Allocator> {
     reached: Vec<Event, A>,
 }
 
-// Whether the link's end can be as far after `start` as the link allows when its beginning is as far
-// as it can be.
+// Whether the link is tight: the greatest difference from `start` to its end is that to its beginning
+// plus the link's weight.
 #[tactic(auto, using(crate::proofs::Tightness::link_among))]
 fn is_tight<A: Allocator>(graph: &Graph<'_, A>, far: &[Ms], start: Event, link: Link) -> bool
     requires far { AreDistances graph.now.bounds start far.now }

@@ -1,5 +1,5 @@
-//! One cycle of bounds that contradict each other, one way of bounds from event to event, and the tightest differences
-//! between one event and all others: the same wherever the bounds are the same.
+//! The named cycle of bounds that contradict each other; ways and greatest differences between events; earliest, latest and
+//! soonest times; windows and networks that take more bounds: all without a matrix.
 #![tactic(auto)]
 
 pub use links::{

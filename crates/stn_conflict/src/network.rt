@@ -1,6 +1,6 @@
 ghost use Rattle.std.specs.Prelude.{◌≡◌, ◌+◌, ◌≤◌, ◌↔◌, ◌++◌, ◌∷◌, [], false, take, All, IsTrue, IfOk, OnOk, OnErr, MatchOption};
-ghost use Rattle.stn_net.specs.{Event.most_events, Difference.NamesEvents, Schedule.HasSchedule, Horizon.horizon_bounds, Matrix.Tightest.IsTightest};
-ghost use Rattle.stn_conflict.specs.{Distances.TellsWithin, Relaxation.{AreDistances, AreFirstRows, IsNetwork, IsPending, IsSearch, IsPossibleGap}, declared.arcs.Direction.TheVariants.Forward};
+ghost use Rattle.stn_net.specs.{Event.most_events, Difference.NamesEvents, Schedule.HasSchedule, Horizon.horizon_bounds, Matrix.Tightest.IsTightest, Ranges.CanBeApart};
+ghost use Rattle.stn_conflict.specs.{Distances.TellsWithin, Relaxation.{AreDistances, AreFirstRows, IsNetwork, IsPending, IsSearch}, declared.arcs.Direction.TheVariants.Forward};
 
 use crate::arcs::Direction;
 use crate::graph::Graph;
@@ -11,7 +11,7 @@ use std::marker::Model;
 use stn_net::{Bound, Event};
 use stn_time::{Memory, Ms};
 
-/// A plan's bounds, to which more come one after the other, for questions about two events each.
+/// The bounds of a plan, to which more can be added, and questions about the difference of two events' times.
 #[derive(Drop)]
 pub struct Network<A: Allocator> {
     events: u16,
@@ -59,25 +59,25 @@ impl<A: Allocator + Copy> Network<A> {
         })
     }
 
-    /// One bound more, after the others. It fails only if memory runs out; all is as before then.
+    /// Adds a bound after the others. It fails only if memory runs out; then all is as before.
     pub fn push(&mut self, bound: Bound) -> Result<(), Memory>
         requires { NamesEvents self.old.events bound }
         ensures pushed { OnOk result (self.new ≡ record self.old { bounds = self.old.bounds ++ bound ∷ [] }) }
-        ensures err { OnErr result (self.new ≡ self.old) }
+        ensures kept { OnErr result (self.new ≡ self.old) }
     {
         self.bounds.push(bound)?;
         self.latest.freshen(&bound);
         Ok(())
     }
 
-    /// One bound more, after the others, if they have a schedule with it; whether it was taken. It fails only if memory
-    /// runs out; all is as before then.
+    /// Adds a bound after the others if they have a schedule with it, and answers whether it did. It fails only if memory
+    /// runs out; then all is as before.
     pub fn take(&mut self, bound: Bound) -> Result<bool, Memory>
         requires { NamesEvents self.old.events bound }
         ensures possible { IfOk result (λ taken. IsTrue taken ↔ HasSchedule (self.old.bounds ++ bound ∷ [])) }
         ensures taken { IfOk result (λ taken. IsTrue taken → self.new ≡ record self.old { bounds = self.old.bounds ++ bound ∷ [] }) }
         ensures refused { IfOk result (λ taken. taken ≡ false → self.new ≡ self.old) }
-        ensures err { OnErr result (self.new ≡ self.old) }
+        ensures kept { OnErr result (self.new ≡ self.old) }
     {
         let count = self.bounds.len();
         self.search.copy_from(&self.latest);
@@ -118,7 +118,7 @@ impl<A: Allocator + Copy> Network<A> {
     fn latest_apart(&mut self, from: Event, to: Event) -> Result<Option<i64>, Memory>
         requires from { from ≤ self.old.events }
         requires to { to ≤ self.old.events }
-        ensures taken { IfOk result (λ found. MatchOption found (¬ HasSchedule self.old.bounds) (IsPossibleGap self.old.bounds from to)) }
+        ensures taken { IfOk result (λ found. MatchOption found (¬ HasSchedule self.old.bounds) (CanBeApart self.old.bounds from to)) }
         ensures same { self.new ≡ self.old }
     {
         if !extend(self.events, &self.bounds, &mut self.rows, &mut self.latest)? {
@@ -160,7 +160,7 @@ fn extend<A: Allocator + Copy>(
     ensures late { IsSearch bounds.now 0 (events + 1) latest.new }
     ensures possible { IfOk result (λ fits. IsTrue fits ↔ HasSchedule bounds.now) }
     ensures distances { IfOk result (λ fits. IsTrue fits → AreDistances bounds.now 0 latest.new.far.items) }
-    ensures err { OnErr result (latest.new ≡ latest.old) }
+    ensures kept { OnErr result (latest.new ≡ latest.old) }
 {
     rows.add(bounds, &[])?;
     let graph = Graph::new(events, bounds, &[], rows);

@@ -1,4 +1,4 @@
-ghost use Rattle.std.specs.{Prelude.{◌≡◌, ◌+◌, ◌*◌, ◌^◌, ◌<◌, ◌≤◌, ◌++◌, ◌||◌, length, All, IfOk, OnOk, OnErr, List}, List.Sorted.IsNonDecreasingBy};
+ghost use Rattle.std.specs.{Prelude.{◌≡◌, ◌+◌, ◌*◌, ◌^◌, ◌<◌, ◌++◌, ◌||◌, length, All, IfOk, OnOk, OnErr, List}, List.Sorted.IsNonDecreasingBy};
 ghost use Rattle.stn_net.specs.Difference.{Difference};
 ghost use Rattle.stn_conflict.specs.{Arcs.{bound_at, rank}, Search.across, Relaxation.{AreFirstRows, AreRows, IsCutAt, NamesAmong}};
 
@@ -99,7 +99,7 @@ impl<A: Allocator + Copy> Rows<A> {
             → AreFirstRows self.old.direction self.old.whole bounds (length self.old.outgoing.items) self.new }
         ensures count { length self.new.outgoing.items ≡ length self.old.outgoing.items }
         ensures added { OnOk result (self.new.added ≡ self.old.added + 1) }
-        ensures err { OnErr result (self.new.added ≡ self.old.added) }
+        ensures kept { OnErr result (self.new.added ≡ self.old.added) }
     {
         let arc = side_of(self.direction, bound, link.side);
         let weight = arc.weight.get();

@@ -1,4 +1,4 @@
-ghost use Rattle.std.specs.Prelude.{◌≡◌, ◌+◌, ◌≤◌, ◌++◌, neg_ℤ, ℤ, List, length, map, take, All, IfOk, OnOk, MatchOption};
+ghost use Rattle.std.specs.Prelude.{◌≡◌, ◌+◌, ◌≤◌, ◌++◌, neg_ℤ, List, length, map, take, All, IfOk, OnOk, MatchOption};
 ghost use Rattle.stn_net.specs.{Difference.{Difference, NamesEvents}, Event.most_events, Horizon.horizon_bounds, Schedule.{HasSchedule, times_of}, Windows.{Dispatch.CanWaitUntil, Leading.AreFloorsBelow, Soonest.{AreEarliest, AreLatest, AreSoonest}}};
 
 use crate::arcs::Direction;
@@ -35,7 +35,8 @@ pub fn latest<A: Allocator + Copy>(
     )
 }
 
-/// The earliest and the latest times, in the same way.
+/// The earliest and the latest times of the origin and of all events; none exactly where the bounds have no schedule. The
+/// bounds are as those of `latest`. It fails only if memory runs out.
 pub fn earliest_and_latest<A: Allocator + Copy>(
     alloc: A,
     events: u16,
@@ -60,8 +61,9 @@ pub fn earliest_and_latest<A: Allocator + Copy>(
     }
 }
 
-/// The soonest times of all events from now on, where each event that is not done counts as left; none
-/// exactly where no schedule has every event that is left from now on.
+/// The times of a schedule in which each event that is left (not the origin, and not done) comes from now on, as soon as in
+/// any such schedule; none exactly where there is no such schedule. The bounds are as those of `latest`. It fails only if
+/// memory runs out.
 pub fn soonest<A: Allocator + Copy>(
     alloc: A,
     events: u16,

@@ -1,6 +1,6 @@
 ghost use Rattle.std.specs.Prelude.{◌≡◌, ◌+◌, ◌≤◌, ◌++◌, ◌∷◌, [], List, length, take, All, IfOk, IfSome, OnOk, OnErr, MatchOption};
 ghost use Rattle.stn_net.specs.{Event.most_events, Difference.{Difference, NamesEvents}, Horizon.horizon_bounds, Schedule.HasSchedule, Windows.Window.IsWindow};
-ghost use Rattle.stn_conflict.specs.{Directions.{faced, facing}, Relaxation.{IsEnds, IsNetwork, AreSingle}};
+ghost use Rattle.stn_conflict.specs.Relaxation.{IsEnds, IsNetwork, AreSingle};
 
 use crate::arcs::{Direction, side_of};
 use crate::graph::Graph;
@@ -100,13 +100,14 @@ impl<A: Allocator + Copy> Windows<A> {
         )
     }
 
-    /// One bound more, on a single event. It fails only if memory runs out; all is as before then.
+    /// Adds a bound from the origin to an event, with which there has to be a schedule. It fails only if memory runs out; then
+    /// all is as before.
     pub fn narrow(&mut self, bound: Bound) -> Result<(), Memory>
         requires single { bound.from ≡ 0 }
         requires named { NamesEvents self.old.events bound }
         requires possible { HasSchedule (self.old.bounds ++ bound ∷ []) }
         ensures narrowed { OnOk result (self.new ≡ record self.old { bounds = self.old.bounds ++ bound ∷ [] }) }
-        ensures err { OnErr result (self.new ≡ self.old) }
+        ensures kept { OnErr result (self.new ≡ self.old) }
     {
         self.bounds.push(bound)?;
         let given = &self.bounds[..self.given];

@@ -1,6 +1,6 @@
 -- Other sites that come, one after the other.
-use Rattle.std.specs.Prelude.{◌≡◌, ℕ, ◌<◌, Bool, false, List, [], ◌∷◌, ◌++◌, map, vec_len, vec_capacity, Option, None, Some, option_map, ⊤}
-use Rattle.stn_device.specs.{Partner.{PartnerState, partner_state, heard_bytes, heard_end}, declared.{callers.MemoryCallers.MemoryCallers, partner.{Ear.Ear, Partner.Partner}}}
+use Rattle.std.specs.Prelude.{◌≡◌, ℕ, ◌<◌, false, List, [], ◌∷◌, ◌++◌, map, vec_len, vec_capacity, Option, None, Some, option_map}
+use Rattle.stn_device.specs.{Partner.{PartnerState, partner_state, heard_bytes, heard_end}, declared.callers.MemoryCallers.MemoryCallers}
 
 -- those that are still to come, in their order, and those that went, in the order in which they came
 pub record CallersState : Type 0 where

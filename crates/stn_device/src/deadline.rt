@@ -5,7 +5,7 @@ ghost use Rattle.stn_device.specs.{Deadline.{deadline_start, limit_of, deadline_
 
 use crate::partner::Finish;
 use std::io::{self, Error, ErrorKind, Read, Write};
-use std::time::{Clock, Duration};
+use std::time::Duration;
 
 /// How often a call that a signal interrupts is made at most.
 const MOST_TRIES: u32 = u32::MAX;

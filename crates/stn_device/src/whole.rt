@@ -9,7 +9,7 @@ use std::io::{Read, Write};
 use stn_refusal::{Failure, Fault};
 use thiserror::Error;
 
-/// How many bytes of a script, the input of a shell, a session, a log or a stream of replies are read at most.
+/// How many bytes a script, the input of a shell, a session, a log or a stream of replies has at most.
 pub const MOST_BYTES: usize = 16_777_216;
 
 /// How many bytes one call of a reader is asked for at most.

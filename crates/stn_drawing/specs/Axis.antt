@@ -1,7 +1,8 @@
 -- The axis of time, in milliseconds.
 use Rattle.std.specs.Prelude.{ℕ, ◌+◌, ◌-◌, ◌/◌, nat_lt, nat_le, Bool, List, [], ◌∷◌, codes, if◌then◌else◌}
 
--- the gaps that two ticks may have: 1, 2, 5, 10, 15, 30 seconds, minutes, hours, and days, and more days for what a year doesn't hold
+-- the gaps that two ticks may have: 1, 2, 5, 10, 15 or 30 seconds or minutes; 1, 2, 5, 10 or 15 hours; 1, 2, 5, 10, 15, 30, 60
+-- or 150 days
 abbrev pub gaps : List ℕ
 gaps = 1000 ∷ 2000 ∷ 5000 ∷ 10000 ∷ 15000 ∷ 30000
     ∷ 60000 ∷ 120000 ∷ 300000 ∷ 600000 ∷ 900000 ∷ 1800000
@@ -11,16 +12,17 @@ gaps = 1000 ∷ 2000 ∷ 5000 ∷ 10000 ∷ 15000 ∷ 30000
 abbrev pub widest_gap : ℕ
 widest_gap = 25920000000
 
-abbrev pub most_ticks : ℕ
-most_ticks = 10
+-- an axis has at most so many gaps
+abbrev pub most_gaps : ℕ
+most_gaps = 10
 
 -- how many gaps it takes to reach so far
 abbrev pub gaps_in : ℕ → ℕ → ℕ
 gaps_in gap far = (far + (gap - 1)) / gap
 
--- an axis that reaches so far before the time 0 and so far after it has few ticks with this gap
+-- with this gap, an axis that reaches so far before the time 0 and so far after it has few enough gaps
 abbrev pub fits : ℕ → ℕ → ℕ → Bool
-fits before after gap = nat_le (gaps_in gap before + gaps_in gap after) most_ticks
+fits before after gap = nat_le (gaps_in gap before + gaps_in gap after) most_gaps
 
 -- the first of the gaps that fits; the widest, if none of them does
 abbrev pub first_gap : ℕ → ℕ → List ℕ → ℕ

@@ -14,7 +14,7 @@ escaped byte =
     else (if byte == 34 then codes "&quot;"
     else (if is_printed byte then byte ∷ [] else codes "?"))))
 
--- the text
+-- a text, byte by byte
 abbrev pub shown : List ℕ → List ℕ
 shown text = flat_map escaped text
 
@@ -22,7 +22,7 @@ shown text = flat_map escaped text
 abbrev pub cut : ℕ → List ℕ → List ℕ
 cut most text = if nat_lt most (length text) then shown (take (most - 1) text) ++ codes "&#8230;" else shown text
 
--- the byte means nothing in SVG, or begins a name
+-- a byte that ASCII prints, other than `<`, `>` and `"`
 abbrev pub is_plain : ℕ → Bool
 is_plain byte = is_printed byte && (not (byte == 60) && (not (byte == 62) && not (byte == 34)))
 

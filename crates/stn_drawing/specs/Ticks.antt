@@ -2,7 +2,7 @@
 use Rattle.std.specs.{Prelude.{ℕ, ◌+◌, ◌-◌, ◌*◌, ◌/◌, ◌==◌, nat_lt, max, List, [], ◌++◌, codes, decimal, if◌then◌else◌}, List.{flat_map, range_with_len}}
 use Rattle.stn_drawing.specs.Axis.{gap_of, gaps_in, unit_of, unit_text}
 
--- an axis as it is drawn: where it begins, and how wide it is, in pixels; how long it is, and the gap between two ticks, in milliseconds; how
+-- an axis as it is drawn: where it begins, and how wide it is, in units; how long it is, and the gap between two ticks, in milliseconds; how
 -- many ticks stand before that of the time 0, and how many there are; where their lines end
 pub record Axis : Type 0 where
   pub left : ℕ

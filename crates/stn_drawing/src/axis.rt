@@ -33,22 +33,24 @@ const GAPS: [u64; 25] = [
 
 const WIDEST_GAP: u64 = 25_920_000_000;
 
-const MOST_TICKS: u64 = 10;
+const MOST_GAPS: u64 = 10;
 
 /// An axis as it is drawn.
 #[derive(Clone, Copy)]
 pub struct Axis {
-    /// Where it begins, and how wide it is.
+    /// Where it begins, in units from the left.
     pub left: u64,
+    /// How wide it is, in units.
     pub width: u64,
     /// How long it is, in milliseconds.
     pub long: u64,
     /// The gap between two ticks, in milliseconds.
     pub gap: u64,
-    /// How many ticks stand before that of the time 0, and how many there are.
+    /// How many ticks stand before that of the time 0.
     pub before: u64,
+    /// How many ticks there are.
     pub ticks: u64,
-    /// Where the lines of the ticks end.
+    /// Where the lines of the ticks end, in units from the top.
     pub bottom: u64,
     ghost near: { left < 2 ^ 10 },
     ghost narrow: { width < 2 ^ 10 },
@@ -84,7 +86,7 @@ fn fits(before: u64, after: u64, gap: u64) -> bool
     requires small { gap < 2 ^ 36 }
     ensures { result ≡ fits before after gap }
 {
-    gaps_in(gap, before) + gaps_in(gap, after) <= MOST_TICKS
+    gaps_in(gap, before) + gaps_in(gap, after) <= MOST_GAPS
 }
 
 /// How many gaps it takes to reach so far.

@@ -5,7 +5,7 @@ ghost use Rattle.stn_drawing.specs.Escape.{escaped, is_printed, shown, cut};
 use std::alloc::Allocator;
 use stn_time::Memory;
 
-// After an error, a part of a text may stand in the output.
+// After an error, the output has no meaning.
 
 /// Appends a text as SVG shows it: `&`, `<`, `>` and `"` by their names, and `?` for each byte that ASCII doesn't print.
 pub fn append_shown<A: Allocator>(out: &mut Vec<u8, A>, text: &[u8]) -> Result<(), Memory>

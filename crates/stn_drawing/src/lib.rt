@@ -1,5 +1,5 @@
 //! What pictures as SVG are drawn with: texts that are escaped, times, an axis with its ticks, what each picture begins
-//! with. After an error of a call that appends, a part of what it appends may stand in the output.
+//! with. After an error of a call that appends, the output has no meaning: no clause says what stands in it.
 #![tactic(auto)]
 
 pub use axis::Axis;

@@ -11,7 +11,7 @@ use stn_time::Memory;
 // The title has at most so many characters.
 const MOST_TITLE: usize = 60;
 
-// After an error, a part of a text may stand in the output.
+// After an error, the output has no meaning.
 
 /// Appends the beginning of a picture of such a height, with its title.
 pub fn append_opening<A: Allocator>(

@@ -10,7 +10,8 @@ use std::io::Write;
 use stn_time::Memory;
 
 impl Axis {
-    /// The axis of such a place and width that reaches so far before the time 0 and so far after it.
+    /// The axis that begins at `left`, is `width` units wide, and reaches at least `before` milliseconds before the time 0 and
+    /// `after` after it; the lines of its ticks end at `bottom`.
     pub fn reaching(left: u64, width: u64, before: u64, after: u64, bottom: u64) -> Axis
         requires left { left < 2 ^ 10 }
         requires width { width < 2 ^ 10 }
@@ -31,7 +32,7 @@ impl Axis {
         }
     }
 
-    /// Where a time stands that is so far after the beginning.
+    /// Where a time stands that is `far` milliseconds after the beginning, in units, rounded down.
     pub fn place_of(&self, far: u64) -> u64
         requires { far < 2 ^ 53 }
         ensures value { result ≡ is.place_on (seen_axis self.now) far }

@@ -45,12 +45,12 @@ abbrev pub failing : {X Reason : Type 0} → (Reason → Failure) → Result X R
 failing why (Ok value) = Ok value
 failing why (Err reason) = Err (why reason)
 
--- an effect is had so many times
+-- an effect so many times
 abbrev pub Times : {World X : Type 0} → ℕ → Effect World X → Effect World (Unit {0})
 Times zero Does = Gives tt
 Times (suc count) Does = Then Does (λ _. Times count Does)
 
--- an effect is had again and again, until it gives `false`
+-- an effect again and again, until it gives `false`
 pub data Repeats {World : Type 0} (Does : Effect World Bool) : World → World → Result (Unit {0}) Failure → Type 0 where
   broke : (old new : World) (failure : Failure) → Does old new (Err failure) → Repeats Does old new (Err failure)
   over : (old new : World) → Does old new (Ok false) → Repeats Does old new (Ok tt)

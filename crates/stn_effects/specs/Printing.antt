@@ -29,7 +29,7 @@ IsUnprinted old new text failure =
 abbrev pub TellsText : List ℕ → Device → Device → Type 0
 TellsText text old new = Prints old new text ⊎ BreaksOff old new text
 
--- the line of a fault was
+-- the same of the line of a fault
 abbrev pub TellsFault : Fault → Device → Device → Type 0
 TellsFault fault old new = TellsText (fault_text fault) old new
 

@@ -2,7 +2,7 @@
 use Rattle.std.{proofs.{Common.{rules, ◌≡◌, ℕ, zero, suc, ◌+◌, ◌-◌, ◌<◌, List, ◌∷◌, ◌++◌, length, Option, Result, Ok, Err, refl, sym, ap, subst, inl, inr, arith, append_assoc}, KnownBytes.Appends-trans}, specs.Prelude.flat_map}
 use Rattle.stn_device.{proofs.Known.not_err, specs.{Partner.PartnerState, Callers.{CallersState, Comes, gone_too}}}
 use Rattle.stn_effects.specs.{Effects.{Effect, Times, stopped, went}, Printing.{Device, Prints}}
-use Rattle.stn_exchanges.specs.{Connections.{Meeting, meeting, session_text, ServesSite, ServesSites}, Visits.{Visit, AreVisits, ComeAndGo}}
+use Rattle.stn_exchanges.specs.{Connections.{Meeting, session_text, ServesSite, ServesSites}, Visits.{Visit, AreVisits, ComeAndGo}}
 use Rattle.stn_lift.specs.PlanSource.{PlanSource}
 use Rattle.stn_line.specs.declared.words.SiteLog.{SiteLog}
 use Rattle.stn_refusal.specs.declared.failure.{Failure.Failure, Fault.Fault}

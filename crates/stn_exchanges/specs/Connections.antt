@@ -1,5 +1,5 @@
 -- What serving other sites, and sending to one, does step by step, and what is printed of it.
-use Rattle.std.specs.Prelude.{◌≡◌, ◌⊎◌, ℕ, List, [], ◌∷◌, ◌++◌, codes, decimal, Option, None, Result, Ok, Err}
+use Rattle.std.specs.Prelude.{◌≡◌, ◌⊎◌, ℕ, List, [], ◌∷◌, ◌++◌, codes, decimal, Option, Result, Ok, Err}
 use Rattle.stn_device.specs.{Partner.{PartnerState, PartsWays}, Callers.{CallersState, Comes, gone_too}}
 use Rattle.stn_effects.specs.{Effects.{Effect, IsLack, Then, Times, failing}, Printing.{Device, Writes}}
 use Rattle.stn_lift.specs.PlanSource.{PlanSource}

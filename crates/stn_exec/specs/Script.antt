@@ -88,12 +88,13 @@ or_line number found = ok_or found (refused_at Line number)
 abbrev pub sites_of : ℕ → Result ℕ Failure
 sites_of sites = if nat_le 1 sites && nat_le sites most_sites then Ok sites else Err (refused NoSite)
 
--- where a part of a script begins: what the plan is made from, how many sites there are, the number of the first line, and the lines
+-- the first part of the heading was read: what the plan is made from, the number of the first line after it, and the lines from there
 pub record Based : Type 0 where
   pub source : PlanSource
   pub number : ℕ
   pub lines : List (List ℕ)
 
+-- all of it was read: the same, and how many sites there are
 pub record Start : Type 0 where
   pub source : PlanSource
   pub sites : ℕ

@@ -1,6 +1,6 @@
 ghost use Rattle.std.specs.{Prelude.{◌≡◌, ◌∷◌, length, IfOk}, List.{list_all, filter_map}, Option.option_map, Str.bytes_eq};
 ghost use Rattle.stn_text.specs.Lines.{words_of};
-ghost use Rattle.stn_command.specs.{Words.id_of, Query.seen_query};
+ghost use Rattle.stn_command.specs.Words.{id_of};
 ghost use Rattle.stn_exec.specs.{Command.{lone_word, lone_number, side_word, bound_asked, command_of, action_of, add_of, done_of, amend_of, withdraw_of, send_of, check_of, why_of, outlook_from, alone_of, tombstone_of, is_item}, Running.{seen_command, seen_action}};
 
 use std::alloc::Allocator;

@@ -258,8 +258,8 @@ fn number_behind(script: &[u8]) -> u32
 
 /// Reads a script to its end, then runs it, and writes what its lines print.
 ///
-/// Faults: `Read`, `Bound` and `Memory` of the read, after which no line was run; then `Write` and `Memory` at a line, up to
-/// which all lines were run and their output written.
+/// Faults: `Read`, `Bound` and `Memory` of the read, after which nothing is written; then `Write` and `Memory`, after which a
+/// front part of the output is.
 pub fn run<R: Read, W: Write, A: Allocator + Copy>(
     alloc: A,
     reader: &mut Counted<R>,

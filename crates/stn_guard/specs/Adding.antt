@@ -1,12 +1,12 @@
 -- Adding the guard of what a site holds to what it holds.
-use Rattle.std.specs.{Prelude.{◌≡◌, ℕ, zero, suc, ◌+◌, nat_lt, Bool, true, false, if◌then◌else◌, List, [], ◌∷◌, length, map, Option, Some, None}, Bool.then_some, Option.option_or}
+use Rattle.std.specs.{Prelude.{◌≡◌, ℕ, zero, suc, ◌+◌, nat_lt, true, false, if◌then◌else◌, List, [], ◌∷◌, length, map, Option, Some, None}, Bool.then_some, Option.option_or}
 use Rattle.stn_net.specs.{Difference.Difference, declared.bound.BoundFault.TheVariants.NoEvent, Schedule.HasSchedule}
 use Rattle.stn_lift.specs.PlanSource.{steps_of, events_of}
 use Rattle.stn_records.specs.{Id.{SiteCounter, most_counter}, Content.{most_known, known_count, next_counter}}
 use Rattle.stn_site.specs.{declared.{faults.ReplicaFault.{ReplicaFault, TheVariants.{Bound, CounterSpent, Full}}, own.OwnedSteps.OwnedSteps}, Bounds.all_bounds, Held.{Held, plain}, Calls.{added, AllLeave}, Own.{has, are_within}}
 use Rattle.stn_guard.specs.Making.{IsGuardOf}
 
--- the owner of an event: the site of the first of the lists that has the event's step, or else this site
+-- the owner of an event: the site of the first of these that has the event's step, or else this site
 abbrev pub owner_by : ℕ → List OwnedSteps → ℕ → ℕ
 owner_by site [] event = site
 owner_by site (owned ∷ rest) event = if has owned.steps event then owned.site else owner_by site rest event
@@ -22,7 +22,7 @@ records_refusal held (suc more) =
     option_or (then_some (nat_lt most_counter (next_counter held.state held.site + more)) CounterSpent)
     (then_some (nat_lt most_known (known_count held.state + suc more)) Full)
 
--- the first cause that refuses the guard: the plan has not all steps that are owned; the records of the guard can't be made. Nothing refuses
+-- the first cause that refuses the guard: the plan lacks a step that is owned; the records of the guard can't be made. Nothing refuses
 -- it where all bounds have no schedule
 pub data IsGuardRefusal (owned : List OwnedSteps) (held : Held) (cause : Option ReplicaFault) : Type 0 where
   no_step : are_within (steps_of held.source) owned ≡ false → cause ≡ Some (Bound NoEvent) → IsGuardRefusal owned held cause

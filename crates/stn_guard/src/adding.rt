@@ -17,7 +17,7 @@ use stn_time::Memory;
 /// guard's events. The steps that are owned belong to their sites, each to the first that names it, and all other steps to
 /// this site. None, and nothing is added, where all bounds have no schedule.
 ///
-/// Refused in this order, before anything is added: `NoEvent` of a bound, where the plan has not a step that is owned;
+/// Refused in this order, before anything is added: `NoEvent` of a bound, where the plan lacks a step that is owned;
 /// `CounterSpent` and `Full`, where the site can't make all records of the guard. Only `NoEvent` is found without memory:
 /// `Memory` may come in place of any later answer. After a fault all is as before.
 pub fn add_guard<A: Allocator + Copy>(

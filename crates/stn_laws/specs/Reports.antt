@@ -50,7 +50,7 @@ pub record QueriesSite {script : List ℕ} (at : LineOf script) (site : ℕ) (as
 abbrev pub ReportsSite : {script : List ℕ} → LineOf script → ℕ → Type 0
 ReportsSite at site = QueriesSite at site report
 
--- a site's question, which is about no event that the plan has not, nor about an event and itself
+-- a site's question, which is not about an event that the plan lacks, nor about an event and itself
 abbrev pub AsksSite : {script : List ℕ} → LineOf script → ℕ → Question → Type 0
 AsksSite at site question = QueriesSite at site (ask question) × ¬ AsksOfNoEvent at.start.source question × ¬ AsksOfSameEvent question
 

@@ -3,7 +3,7 @@ use Rattle.std.{proofs.Common.{rules, ◌≡◌, ℕ, List, Result, Ok, Err, ap,
 use Rattle.stn_text.specs.Faults.{Fails}
 use Rattle.stn_pddl.specs.{declared.fault.DomainFault.DomainFault, Schemas.ActionSchema, Domains.domain_of}
 use Rattle.stn_pddl.specs.Faults as pddl
-use Rattle.stn_lift.specs.{declared.{plan.fault.PlanFault.PlanFault, fault.{LiftFault.{LiftFault, TheVariants.Memory}, BaseFault.TheVariants.{Domain, Plan, Lift}}}, Plan.Steps.{PlannedStep, plan_of}, Faults.{of_domain, of_plan, of_lifting}, Activities.{Activity, activities}, PlanSource.{PlanSource, files, of_lift, steps_in, lifted, activities_of, source_with, source_with_lifted, base_of, is_base_memory}}
+use Rattle.stn_lift.specs.{declared.{plan.fault.PlanFault.PlanFault, fault.{LiftFault.{LiftFault, TheVariants.Memory}, BaseFault.TheVariants.{Domain, Plan, Lift}}}, Plan.Steps.{PlannedStep, plan_of}, Faults.{of_domain, of_plan, of_lifting}, Activities.{Activity, activities}, PlanSource.{PlanSource, files, of_lift, steps_in, lifted, activities_of, source_with, base_of, is_base_memory}}
 use Rattle.stn_lift.specs.declared.plan.fault.PlanFault.TheVariants as plan_fault
 use Rattle.stn_lift.specs.Plan.Steps as timed
 use Rattle.stn_lift.specs.Activities as lifting
@@ -43,15 +43,15 @@ module _ (domain plan : List ℕ) where
 
     -- a step with a fault
     pub steps_refused : {steps : List PlannedStep} (other : PlanSource) (fault : LiftFault) → plan_of plan ≡ Ok steps
-        → Fails lifting.is_lift_memory fault (source_with_lifted other (activities actions 0 steps)) → Fails is_base_memory (of_lifting fault) (base_of (files domain plan))
+        → Fails lifting.is_lift_memory fault (source_with other (activities actions 0 steps)) → Fails is_base_memory (of_lifting fault) (base_of (files domain plan))
     steps_refused {steps} other fault plan_is h = rw (lifted-Ok actions steps domain_is plan_is) (by fault (activities actions 0 steps) h)
       where
-        refused : (fault : LiftFault) (found : Result (List Activity) LiftFault) → source_with_lifted other found ≡ Err fault
+        refused : (fault : LiftFault) (found : Result (List Activity) LiftFault) → source_with other found ≡ Err fault
             → source_with (files domain plan) (of_lift found) ≡ Err (Lift fault)
         refused fault (Ok found) h = cc
         refused fault (Err given) h = cc
 
-        by : (fault : LiftFault) (found : Result (List Activity) LiftFault) → Fails lifting.is_lift_memory fault (source_with_lifted other found)
+        by : (fault : LiftFault) (found : Result (List Activity) LiftFault) → Fails lifting.is_lift_memory fault (source_with other found)
             → Fails is_base_memory (of_lifting fault) (source_with (files domain plan) (of_lift found))
         by Memory found h = tt
         by fault found h = refused _ found h

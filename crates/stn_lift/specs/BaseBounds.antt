@@ -26,7 +26,7 @@ order_bound one other Less = before one other
 order_bound one other Equal = together one other
 order_bound one other Greater = before other one
 
--- by which events interfere, and the planned time of each
+-- given which events interfere, and the planned time of each
 module _ (interferes : ℕ → ℕ → Bool) (time : ℕ → ℤ) where
   -- an event and a later number: where they are of different steps and interfere, their order
   abbrev pub pair_order : ℕ → ℕ → List Difference

@@ -48,7 +48,7 @@ is_same_atom a b = pointwise bytes_eq a b
 abbrev pub IsInBoth : {A : Type 0} → List A → List A → Type 0
 IsInBoth {A} xs ys = (x : A) × Contains xs x × Contains ys x
 
--- the test of it
+-- whether some element is in both lists, by this test of equality
 abbrev pub share : {A : Type 0} → (A → A → Bool) → List A → List A → Bool
 share same xs ys = list_any (λ x. list_any (same x) ys) xs
 
@@ -56,7 +56,7 @@ share same xs ys = list_any (λ x. list_any (same x) ys) xs
 abbrev pub touches : {A : Type 0} → (A → A → Bool) → Footprint A → Footprint A → Bool
 touches same one other = share same one.needs other.adds || (share same one.needs other.deletes || share same one.adds other.deletes)
 
--- the same in words of what is there
+-- the same as a statement
 abbrev pub DoesTouch : {A : Type 0} → Footprint A → Footprint A → Type 0
 DoesTouch one other = IsInBoth one.needs other.adds ⊎ (IsInBoth one.needs other.deletes ⊎ IsInBoth one.adds other.deletes)
 

@@ -56,14 +56,10 @@ abbrev pub interfere_in_plan : PlanSource → ℕ → ℕ → Bool
 interfere_in_plan (bare steps) one other = false
 interfere_in_plan (files domain plan) one other = events_interfere (activities_of domain plan) one other
 
-abbrev pub source_with : {X : Type 0} → PlanSource → Result X BaseFault → Result PlanSource BaseFault
+-- the source, where what is made of it has no fault
+abbrev pub source_with : {X F : Type 0} → PlanSource → Result X F → Result PlanSource F
 source_with source (Ok x) = Ok source
 source_with source (Err fault) = Err fault
-
--- the source, where the steps have no fault
-abbrev pub source_with_lifted : {X : Type 0} → PlanSource → Result X LiftFault → Result PlanSource LiftFault
-source_with_lifted source (Ok x) = Ok source
-source_with_lifted source (Err fault) = Err fault
 
 -- the source, where it has a base, or its first fault
 abbrev pub base_of : PlanSource → Result PlanSource BaseFault

@@ -1,6 +1,6 @@
 //! The numbering of ground atoms.
 
-ghost use Rattle.std.specs.{Prelude.{◌≡◌, ◌++◌, [], List, map, length, slice_get, Some, IfOk, OnOk}, List.AllByRecursion};
+ghost use Rattle.std.specs.{Prelude.{◌≡◌, ◌++◌, List, map, length, slice_get, Some, IfOk, OnOk}, List.AllByRecursion};
 ghost use Rattle.stn_pddl.specs.{Tree.Names.folded, Sound.{IsSoundTerm, IsSoundAtom}, Views.{term_schema, atom_schema, atoms_schema}};
 ghost use Rattle.stn_lift.specs.{Plan.Views.word_of, Footprints.{GroundAtom, term_name, ground}, Numbering.{KeepsNumbers, IsUnambiguous, IsNameAt, IsNumberOf, AreNumbersOf}};
 

@@ -2,7 +2,7 @@ ghost use Rattle.std.specs.Prelude.{◌≡◌, ◌*◌, ◌<◌, ◌≤◌, ◌�
 ghost use Rattle.stn_text.specs.Faults.{Returns};
 ghost use Rattle.stn_net.specs.{Event.{most_events, most_steps}, Schedule.IsSchedule};
 ghost use Rattle.stn_pddl.specs.Domains.{domain_of};
-ghost use Rattle.stn_lift.specs.{Activities.{activities, IsLiftCause}, BaseBounds.KeepsOrder, PlanSource.{bare, files, plan_source, steps_of, events_of, base_bounds, planned_of, interfere_in_plan, activities_of, base_of, source_with_lifted, is_base_memory, HasShortTexts, IsSoundSource}};
+ghost use Rattle.stn_lift.specs.{Activities.{activities, IsLiftCause}, BaseBounds.KeepsOrder, PlanSource.{bare, files, plan_source, steps_of, events_of, base_bounds, planned_of, interfere_in_plan, activities_of, base_of, source_with, is_base_memory, HasShortTexts, IsSoundSource}};
 ghost use Rattle.stn_lift.specs.Activities as lifting;
 
 use crate::bounds::horizon_bounds;
@@ -50,7 +50,7 @@ pub fn lift<'a, A: Allocator + Copy>(
 
     // The base, or the first fault of the steps.
     ensures given { Returns lifting.is_lift_memory (λ base. base) result
-        (source_with_lifted (files domain.now.text plan.now.text) (activities domain.now.actions 0 plan.now.steps)) }
+        (source_with (files domain.now.text plan.now.text) (activities domain.now.actions 0 plan.now.steps)) }
 
     // The first step that is refused has the fault, by the first cause against it.
     ensures cause { IfErr result (IsLiftCause domain.now.actions plan.now.steps) }

@@ -72,7 +72,7 @@ pub enum BaseFault {
     /// A step of the plan does not fit the domain.
     #[error("the plan does not fit the domain")]
     Lift(LiftFault),
-    /// More than 256 steps of a bare plan.
+    /// A bare plan has more than 256 steps.
     #[error("too many steps")]
     TooManySteps,
     /// Memory ran out.

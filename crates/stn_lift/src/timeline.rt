@@ -4,7 +4,7 @@ ghost use Rattle.std.specs.{Prelude.{◌≡◌, ◌+◌, ◌≤◌, ◌++◌, �
 ghost use Rattle.stn_text.specs.Faults.{Fails, Returns};
 ghost use Rattle.stn_time.specs.Time.{horizon};
 ghost use Rattle.stn_net.specs.Event.{most_steps};
-ghost use Rattle.stn_pddl.specs.{Sound.{IsSound, HasSoundAtoms, IsSoundAtom}, Views.{action_schema, atoms_schema}};
+ghost use Rattle.stn_pddl.specs.{Sound.{IsSound, IsSoundAtom}, Views.{action_schema, atoms_schema}};
 ghost use Rattle.stn_lift.specs.{Plan.{Steps.IsTimely, Views.{planned_step, word_of}}, Footprints.ground, Numbering.{KeepsNumbers, IsNumbered, IsUnambiguous}, Views.numbers_of, Activities.{Activity, is_lift_memory, differs, activity, activity_of, activities}, Timelines.{IsTimeline, IsLifted}};
 
 use crate::atoms::Atoms;

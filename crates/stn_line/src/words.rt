@@ -77,8 +77,8 @@ pub enum LogChange<'a> {
     Merge {
         other: &'a str,
     },
-    /// Adds bounds under which each site may act alone; a word `SITE:STEPS` names steps of a site, and all others are the
-    /// log's.
+    /// Adds bounds under which each site may act alone; a word `SITE:STEPS` names steps of a site, and all other steps
+    /// belong to the log's site.
     Guard {
         owned: Vec<&'a str, Global>,
     },

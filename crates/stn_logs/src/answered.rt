@@ -52,7 +52,7 @@ impl AskedBefore {
             (AskedBefore::Report, Query::Report) => true,
             (AskedBefore::Repairs, Query::Repairs) => true,
             (AskedBefore::Foresee(outlook, now, starts), Query::Foresee(other, time, choice)) => {
-                is_outlook(*outlook, *other)
+                *outlook == *other
                     && *now == *time
                     && choice.steps.is_none()
                     && choice.starts == *starts
@@ -70,17 +70,5 @@ impl<A: Allocator + Copy> Answered<A> {
         let asked = AskedBefore::of(query)?;
         let text = Vec::from_slice(alloc, text).ok()?;
         Some(Answered { asked, text })
-    }
-}
-
-// Whether two outlooks are the same.
-fn is_outlook(one: Outlook, other: Outlook) -> bool
-    ensures { result ≡ true → one ≡ other }
-{
-    match (one, other) {
-        (Outlook::Next, Outlook::Next) => true,
-        (Outlook::Ready, Outlook::Ready) => true,
-        (Outlook::Rehearse, Outlook::Rehearse) => true,
-        _ => false,
     }
 }

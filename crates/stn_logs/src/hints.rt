@@ -28,7 +28,8 @@ pub enum Hint<'a> {
     NoSchedule,
 }
 
-/// The line of the hints of a command that was done, by what its log says now; nothing, if there is none. What the log says is kept.
+/// The line of the hints of a command that was done, by what its log says now; nothing, if there is none. What the log says is kept. It
+/// fails where the log can't be opened, or for memory.
 pub fn hints_of<S: Store<A>, A: Allocator + Copy>(
     alloc: A,
     store: &S,

@@ -62,7 +62,7 @@ IsAskedRefusal true = IsRobustRefusal
 abbrev pub IsAskedFailure : Bool → PlanSource → Slack → Failure → Type 0
 IsAskedFailure robust source slack failure = (failure ≡ out_of_memory) ⊎ IsAskedRefusal robust source slack (Some failure)
 
--- a source without a base comes before
+-- first, that the source has no base
 abbrev pub WithBase : PlanSource → (Option Failure → Type 0) → Option Failure → Type 0
 WithBase source Goes cause = ((fault : BaseFault) × (base_of source ≡ Err fault) × (cause ≡ Some (base_failure fault)))
     ⊎ ((base_of source ≡ Ok source) × Goes cause)

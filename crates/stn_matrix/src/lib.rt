@@ -1,5 +1,5 @@
-//! The matrix of the tightest differences of a plan's events; and windows, what comes next and rehearsals, as it tells them, or
-//! the soonest times of all events.
+//! The matrix of the greatest differences of a plan's events, and what it tells: windows, what comes next, rehearsals. What
+//! comes next, the rest of the plan and what is overdue by soonest or latest times alone.
 #![tactic(auto)]
 
 pub use matrix::Matrix;

@@ -53,15 +53,15 @@ impl<A: Allocator> Matrix<A> {
         self.square.events()
     }
 
-    /// How often a bound was taken, here and in the matrices that were copied into this one, with
-    /// the copies; it stays at the greatest u64.
+    /// How many bounds were taken; each copy added one and the count of the matrix that was copied.
+    /// It stays at the greatest u64.
     pub fn steps(&self) -> u64
         ensures { result ≡ self.now.steps }
     {
         self.tightenings
     }
 
-    /// How much later than one event another can be.
+    /// How much later than `from` the event `to` can come at most.
     pub fn far(&self, from: Event, to: Event) -> Ms
         requires from { from ≤ self.now.events }
         requires to { to ≤ self.now.events }
@@ -95,7 +95,8 @@ impl<A: Allocator> Matrix<A> {
         true
     }
 
-    /// Takes the entries of another matrix of as many events in place of its own.
+    /// Takes the entries of another matrix of as many events in place of its own, and adds one and
+    /// the other's count to its own.
     pub fn copy_from(&mut self, other: &Matrix<A>)
         requires { self.old.events ≡ other.now.events }
         ensures exact { (bounds : List Difference) → IsExact bounds other.now → IsExact bounds self.new }

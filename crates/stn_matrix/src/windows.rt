@@ -1,7 +1,7 @@
 //! The windows of a plan's events, which event may run next, and a rehearsal of the whole rest of a
 //! plan.
 //!
-//! A list of tests says which events are done: one for each event, the origin's first. The origin's
+//! A list of flags says which events are done: one for each event, the origin's first. The origin's
 //! counts for nothing.
 
 pub use dispatch::{next, ready, ready_times};

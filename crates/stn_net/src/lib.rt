@@ -1,5 +1,5 @@
-//! Events of a plan, and bounds on the differences of their times; of the schedules that meet all bounds, the check of one; and
-//! what may be said of the events that are left.
+//! Events of a plan, and bounds on the differences of their times; the first bound that times break; what comes next, and which
+//! events are left.
 #![tactic(auto)]
 
 pub use bound::{Bound, BoundFault};

@@ -29,7 +29,7 @@ pub record IsOtherList (text : List ℕ) (line : ℕ) : Type 0 where
   pub list : IsListAt text line children
   pub other : (rest : Trees) → BeginsDomain children rest → ⊥
 
--- the first part of a row has the fault by itself, after these actions: a word is none
+-- the first part of a row has the fault by itself, after these actions; a word in its place is syntax
 abbrev pub IsRefusedPart : Trees → List ActionSchema → DomainFault → Type 0
 IsRefusedPart End before fault = ⊥
 IsRefusedPart (Word line word next) before fault = fault ≡ Syntax line

@@ -54,7 +54,7 @@ label_of side head.At word =
 label_of Condition head.Over word = if is_same_word word (codes "all") then Some OverAll else None
 label_of side other word = None
 
--- an equality around times: of another logic in effects, else without a meaning
+-- an equality where a time is due: in effects `=` is a word of another logic, in conditions it is syntax
 abbrev pub equal_at : Side → ℕ → DomainFault
 equal_at Condition line = Syntax line
 equal_at Effect line = Unsupported line

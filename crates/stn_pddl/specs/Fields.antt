@@ -1,4 +1,4 @@
--- The keys of an action and their values, and the values that are no conditions and effects.
+-- The keys of an action and their values; what `:parameters` and `:duration` say.
 use Rattle.std.specs.{Prelude.{ℕ, ◌&&◌, List, [], ◌∷◌, ◌++◌, Option, Some, None, is_some, Result, Ok, Err, ℤ, pos, int_lt, if◌then◌else◌, codes}, List.list_any}
 use Rattle.stn_time.specs.{declared.reading.TimeFault.TimeFault, TimeOf.time_of}
 use Rattle.stn_pddl.specs.{Tree.{Names.is_same_word, Trees.{Trees, End, Word, Group}}, declared.{fault.DomainFault.{DomainFault, TheVariants.{Syntax, Unsupported, Number, Twice}}, word.Field.Field}, Words.{item_of, key_of}}

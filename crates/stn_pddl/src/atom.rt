@@ -1,6 +1,6 @@
 //! Terms, atoms and equalities.
 
-ghost use Rattle.std.specs.Prelude.{◌≡◌, [], IfOk};
+ghost use Rattle.std.specs.Prelude.{[], IfOk};
 ghost use Rattle.stn_text.specs.Faults.{Returns};
 ghost use Rattle.stn_pddl.specs.{Tree.Cursors.{row_at, IsPast}, Faults.is_memory, Views.{term_schema, terms_schema, words_of, action_schema}};
 ghost use Rattle.stn_pddl.specs.Atoms as spec;

@@ -29,7 +29,7 @@ pub enum DomainFault {
     /// A name of an action, a key or a parameter stands a second time on this line.
     #[error("said twice on line {0}")]
     Twice(u32),
-    /// A term on this line is no parameter of its action.
+    /// A term on this line begins with `?`, and is no parameter of its action.
     #[error("not a parameter on line {0}")]
     Variable(u32),
     /// Memory ran out.

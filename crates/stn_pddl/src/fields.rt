@@ -1,6 +1,6 @@
 //! The keys of an action with their values, its parameters and its duration.
 
-ghost use Rattle.std.specs.Prelude.{◌≡◌, []};
+ghost use Rattle.std.specs.Prelude.{◌≡◌};
 ghost use Rattle.stn_text.specs.Faults.{Returns};
 ghost use Rattle.stn_pddl.specs.{Tree.Cursors.row_at, Faults.is_memory, Views.words_of};
 ghost use Rattle.stn_pddl.specs.Fields as spec;

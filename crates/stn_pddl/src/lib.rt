@@ -1,4 +1,5 @@
-//! Domains of PDDL 2.1 with fixed durations and propositional conditions and effects, read from bytes that nobody has looked at.
+//! Domains of PDDL 2.1, read from any bytes: durative actions with constant durations, whose conditions and effects are
+//! conjunctions of literals.
 #![tactic(auto)]
 
 mod action;

@@ -14,7 +14,7 @@ IsAnswer source state Bounds text = text ≡ bounds_text source state
 IsAnswer source state (Why event) text = IsWhyText source state event text
 IsAnswer source state (WhyApart from to) text = IsApartText source state from to text
 
--- the question is about an event that the plan has not
+-- the question is about an event that the plan lacks
 abbrev pub AsksOfNoEvent : PlanSource → Question → Type 0
 AsksOfNoEvent source (Why event) = events_of source < event
 AsksOfNoEvent source (WhyApart from to) = NamesNoEvent source from to
@@ -25,7 +25,7 @@ abbrev pub AsksOfSameEvent : Question → Type 0
 AsksOfSameEvent (WhyApart from to) = from ≡ to
 AsksOfSameEvent other = ⊥
 
--- why a question is refused, or that it is not: it is about an event that the plan has not, or about an event and itself
+-- why a question is refused, or that it is not: it is about an event that the plan lacks, or about an event and itself
 abbrev pub IsQuestionRefusal : PlanSource → Question → Option Failure → Type 0
 IsQuestionRefusal source question cause = (AsksOfNoEvent source question × (cause ≡ Some (bound_failure NoEvent)))
     ⊎ ((¬ AsksOfNoEvent source question) × AsksOfSameEvent question × (cause ≡ Some (bound_failure SameEvent)))

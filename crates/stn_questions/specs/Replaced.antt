@@ -1,4 +1,5 @@
 -- For proofs alone: no public clause cites these words.
+-- The ids that records replace.
 use Rattle.std.specs.{Prelude.{◌≡◌, List}, List.Sorted.IsSorted, Set.is_member}
 use Rattle.stn_records.specs.{Id.{SiteCounter, id_cmp, same_ids}, Content.Content}
 use Rattle.stn_questions.specs.Records.{is_amended}

@@ -29,7 +29,7 @@ planned_steps plan = result_unwrap_or (plan_of plan) []
 abbrev pub step_name : PlannedStep → List ℕ
 step_name step = action_text step.action step.args
 
--- the names of the steps of a plan text, and those of the steps of a plan, which a bare plan has not
+-- the names of the steps of a plan text, and those of the steps of a plan, which a bare plan lacks
 abbrev pub plan_names : List ℕ → List (List ℕ)
 plan_names plan = map step_name (planned_steps plan)
 
@@ -42,7 +42,7 @@ abbrev pub name_lines : ℕ → List PlannedStep → List ℕ
 name_lines before [] = []
 name_lines before (step ∷ steps) = line (step_name_text (before + 1) step) ++ name_lines (before + 1) steps
 
--- a line for each step from 1 on: its number; in a domain also its action, its planned start and the duration in the domain
+-- a line for each step from 1 on: its number; of a plan of files also its action, its planned start and the duration in the domain
 abbrev pub steps_text : PlanSource → List ℕ
 steps_text (bare steps) = flat_map (λ number. line (decimal number)) (range_with_len 1 steps)
 steps_text (files domain plan) = step_lines (duration_of (activities_of domain plan)) 0 (planned_steps plan)

@@ -23,7 +23,7 @@ ends_text source state low high ends =
     end_text source state low (neg_ℤ ends.onward.sum) ends.onward.links.items ++ end_text source state high ends.back.sum ends.back.links.items
 
 -- the text is a line of the least and the greatest time from one event to another, as `AreEnds` defines them by all bounds, and then for
--- each of both, after a word, the way of bounds that holds it: the negated sum of the way from `to` to `from` is the least time, and the
+-- each of the two, after a word, the way of bounds that holds it: the negated sum of the way from `to` to `from` is the least time, and the
 -- sum of the way from `from` to `to` the greatest
 pub record IsReasonPart (source : PlanSource) (state : Content) (from to : ℕ) (AreEnds : List Difference → ℤ → ℤ → Type 0)
     (heading : ℤ → ℤ → List ℕ) (least_word greatest_word text : List ℕ) : Type 0 where
@@ -59,6 +59,6 @@ IsApartPart source state from to =
 abbrev pub IsApartText : PlanSource → Content → ℕ → ℕ → List ℕ → Type 0
 IsApartText source state from to text = IsApartPart source state from to text ⊎ IsConflictPart source state text
 
--- one of both events is not one of the plan
+-- one of the two events is not one of the plan's
 abbrev pub NamesNoEvent : PlanSource → ℕ → ℕ → Type 0
 NamesNoEvent source from to = (events_of source < from) ⊎ (events_of source < to)

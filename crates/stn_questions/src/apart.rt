@@ -1,6 +1,5 @@
 ghost use Rattle.std.specs.Prelude.{◌≡◌, ◌≤◌, ◌++◌, ℕ, List, None, IfOk, IfErr, OnOk, OnErr};
 ghost use Rattle.stn_lift.specs.PlanSource.{events_of};
-ghost use Rattle.stn_site.specs.Lines.{range_line};
 ghost use Rattle.stn_questions.specs.{Answer.{IsQuestionRefusal, IsQuestionFailure}, Why.{HoldEnds, IsApartPart, IsApartText}, declared.asked.Question.TheVariants.WhyApart};
 
 use crate::ends::{append_ends, ends_of, times_of};
@@ -12,10 +11,10 @@ use stn_site::{SitePlan, append_range_line};
 use stn_time::Memory;
 
 /// Appends why one event comes no sooner and no later after another: the least and the greatest time from
-/// `from` to `to` over all schedules, and for each of both the way of bounds that holds it. Where all
+/// `from` to `to` over all schedules, and for each of the two the way of bounds that holds it. Where all
 /// bounds have no schedule, it appends the conflict of the report.
 ///
-/// Refused in this order: `NoEvent`, where one of them is not an event of the plan nor the origin;
+/// Refused in this order: `NoEvent`, where one of them is neither an event of the plan nor the origin;
 /// `SameEvent`, where both are the same; `Memory`. After a fault nothing is appended.
 pub fn print_apart<A: Allocator + Copy, B: Allocator>(
     plan: &SitePlan<A>,

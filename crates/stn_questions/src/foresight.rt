@@ -48,8 +48,8 @@ pub fn next_with<A: Allocator + Copy>(
 /// The rest of the plan from now on, by all bounds, where these events count as done: each other event
 /// and the time at which it runs. None where all bounds have no schedule.
 ///
-/// It is refused where every schedule has an event that is left before now (`Overdue`), or where memory
-/// runs out.
+/// Refused as `Overdue` where every schedule has an event that is left before now. `Memory` may come in
+/// place of any answer.
 pub fn rehearse_with<A: Allocator + Copy>(
     plan: &SitePlan<A>,
     done: &[bool],

@@ -34,7 +34,7 @@ fn names_among<'a, A: Allocator + Copy>(
     Ok(names)
 }
 
-/// The names of the steps of a site's plan; those of a plan without a domain have none.
+/// The names of the steps of a site's plan; those of a bare plan have none.
 pub fn source_names<A: Allocator + Copy>(plan: &SitePlan<A>) -> Result<Vec<Vec<u8, A>, A>, Memory>
     ensures { IfOk result (λ names. map (λ name. name.items) names.items ≡ source_names plan.now.source) }
 {

@@ -41,7 +41,7 @@ pub fn print_ready_with<A: Allocator + Copy, B: Allocator>(
     out.extend_from_slice(&text)
 }
 
-/// Appends a line of these words and an event.
+/// Appends a line of these words and an event. If memory runs out, a part of it may stand there.
 pub fn append_event_line<B: Allocator>(
     out: &mut Vec<u8, B>,
     words: &[u8],
@@ -54,8 +54,8 @@ pub fn append_event_line<B: Allocator>(
     out.extend_from_slice(b"\n")
 }
 
-// The events that are ready from now on, in the order in which they are printed: none after the least of
-// all latest times, by which each other event that is left has to wait for it.
+// The events that are ready from now on, in the order in which they are printed. None is ready after the
+// least of the latest times of the events that are left: the event of that time would then be too late.
 fn ready_events<A: Allocator + Copy>(
     plan: &SitePlan<A>,
     done: &[bool],

@@ -11,7 +11,7 @@ use stn_site::SitePlan;
 use stn_text::append_decimal;
 use stn_time::{Memory, Ms};
 
-/// Appends a line for each step, from 1 on: its number; of a plan in a domain also its action and the
+/// Appends a line for each step, from 1 on: its number; of a plan of files also its action and the
 /// arguments as the plan's text spells them, its planned start and its duration in the domain. If memory
 /// runs out, it appends nothing.
 pub fn print_steps<A: Allocator + Copy, B: Allocator>(
@@ -40,7 +40,7 @@ fn append_steps<A: Allocator + Copy>(
     }
 }
 
-// The bounds that say how long each step of a plan in a domain lasts.
+// The bounds that say how long each step of a plan of files lasts.
 fn durations_of<A: Allocator>(base: &Base<A>) -> &[Bound]
     ensures { (domain plan : List ℕ) → base.now ≡ files domain plan → AreDurations domain plan result.now }
 {

@@ -14,7 +14,7 @@ use stn_time::Memory;
 /// end's time and the way of bounds that holds it. Where all bounds have no schedule, it appends the
 /// conflict of the report.
 ///
-/// Refused in this order: `NoEvent`, where the event is not one of the plan nor the origin; `Memory`.
+/// Refused in this order: `NoEvent`, where the event is neither one of the plan nor the origin; `Memory`.
 /// After a fault nothing is appended.
 pub fn print_why<A: Allocator + Copy, B: Allocator>(
     plan: &SitePlan<A>,

@@ -6,7 +6,7 @@ ghost use Rattle.stn_questions.specs.Words as asked;
 use crate::asked::Question;
 
 /// What is asked of the events that are left.
-#[derive(Clone, Copy)]
+#[derive(Clone, Copy, PartialEq, Eq)]
 pub enum Outlook {
     /// What comes next.
     Next,

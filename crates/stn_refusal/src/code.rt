@@ -62,7 +62,7 @@ pub enum Code {
     CounterSpent,
     /// A record would replace itself.
     SelfReplace,
-    /// No times of a plan's starts hold however long its steps take.
+    /// A loosened plan has no promise: no times of its starts hold for all durations within their bounds.
     NotRobust,
     /// The body of a frame has a wrong length.
     FrameLength,
@@ -70,7 +70,7 @@ pub enum Code {
     FrameKind,
     /// The body of a frame breaks a rule of its kind.
     FrameBody,
-    /// A frame of the first version is not spelled any more.
+    /// A frame of the old version can't be written.
     OldFrame,
     /// Two sites or two logs have different plans.
     OtherPlan,
@@ -78,15 +78,15 @@ pub enum Code {
     Unexpected,
     /// Bytes have not the form of a log.
     LogForm,
-    /// Another frame stands where a reply is wanted.
+    /// Another frame came in place of a reply, or none.
     Reply,
     /// A log is there already.
     LogThere,
-    /// A frame of the first version came in a session.
+    /// A frame of the old version came in a session.
     OldVersion,
     /// A line or a word has the wrong form.
     Line,
-    /// There is no such site.
+    /// There is no such site, or a script has none or more than 64.
     NoSite,
     /// There is no such packet.
     NoPacket,

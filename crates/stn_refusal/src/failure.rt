@@ -17,7 +17,7 @@ pub enum Fault {
     Bound,
     /// Memory ran out.
     Memory,
-    /// A file can't be opened, made, locked, linked or renamed.
+    /// A file or a folder can't be opened, made, locked, linked, renamed or forced to the disk.
     File,
     /// An address can't be bound or reached in time, a connection can't be accepted, or the clock can't be read.
     Net,

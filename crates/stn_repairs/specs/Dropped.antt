@@ -20,7 +20,7 @@ AreRefused kept (entry ∷ rest) refused =
     ⊎ (¬ HasSchedule (kept ++ entry.1.bound ∷ []) × (later : List SiteCounter) × AreRefused kept rest later × (refused ≡ entry.0 ∷ later))
 
 -- the ids of the live records that are not kept, in order of id. The plan's bounds, which have a schedule, are all kept; then the
--- records that say when an event was executed have their turn, and then the others
+-- records that say when an event took place have their turn, and then the others
 pub record AreDropped (base : List Difference) (live : List (SiteCounter × Record)) (ids : List SiteCounter) : Type 0 where
   pub refused : List SiteCounter
   pub in_turn : AreRefused base (facts_first live) refused

@@ -1,4 +1,4 @@
-ghost use Rattle.std.specs.{Prelude.{◌≡◌, ◌<◌, ◌+◌, ◌++◌, ◌↔◌, length, All, IsTrue, IfOk, MatchOption}, List.Any};
+ghost use Rattle.std.specs.{Prelude.{◌<◌, ◌+◌, ◌++◌, ◌↔◌, length, All, IsTrue, IfOk, MatchOption}, List.Any};
 ghost use Rattle.stn_net.specs.{Difference.NamesEvents, Schedule.HasSchedule};
 ghost use Rattle.stn_lift.specs.PlanSource.{base_bounds, events_of};
 ghost use Rattle.stn_conflict.specs.Arcs.{IsNegativeCycle};

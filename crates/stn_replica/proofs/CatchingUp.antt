@@ -1,9 +1,9 @@
 -- What a change of a site's plan makes of its live records, and a matrix that has caught up with it.
-use Rattle.std.{proofs.{Common.{rules, ◌≡◌, ◌≤◌, Bool, true, false, not, List, [], ◌∷◌, ◌++◌, Some, None, inl, sym, ap, subst, ◌∙◌}, lemmas.{Option.same_Some, Bool.false≢true}}, specs.FinMap.get}
+use Rattle.std.{proofs.{Common.{rules, ◌≡◌, ◌≤◌, Bool, true, false, List, [], ◌∷◌, ◌++◌, Some, None, inl, sym, ap, subst, ◌∙◌}, lemmas.{Option.same_Some, Bool.false≢true}}, specs.FinMap.get}
 use Rattle.stn_net.specs.{Difference.Difference, Matrix.{Table.Table, Tightest.IsExact}}
 use Rattle.stn_lift.specs.PlanSource.{PlanSource, events_of}
 use Rattle.stn_records.{specs.{Id.SiteCounter, declared.record.Record.Record, ContentLaws.contents_join, Content.{Content, is_known, is_live, replacement, plain, one_amendment}}, proofs.{Counters.next_is_new, OneItem.inserted_here}}
-use Rattle.stn_site.{specs.{Bounds.{live_bounds, RecordsName}, Held.{Held, next_id, executed}, Calls.{added, amended, Leaves}, Change.{change_call, change_id, change_refusal, IsAgain}, declared.change.Change.{Change, TheVariants.{Add, Amend, Withdraw, Done}}, Growth.KeepsLive}, proofs.{Refused.amended_known, Changes.{IsGrown, grown_with_record, grown_with_amendment, falls_with_amendment, withdrawn_replaced, withdrawn_dead}}}
+use Rattle.stn_site.{specs.{Bounds.{live_bounds, RecordsName}, Held.{Held, next_id}, Calls.{added, amended, Leaves}, Change.{change_call, change_id, change_refusal, IsAgain}, declared.change.Change.{Change, TheVariants.{Add, Amend, Withdraw, Done}}, Growth.KeepsLive}, proofs.{Refused.amended_known, Changes.{IsGrown, grown_with_record, grown_with_amendment, falls_with_amendment, withdrawn_replaced, withdrawn_dead}}}
 use Rattle.stn_replica.{specs.Invariant.{IsSettled, IsSoundReplica, stops_live}, proofs.Sound.{sound_added, sound_dead}}
 
 -- the site's next id is not known

@@ -187,8 +187,8 @@ impl<A: Allocator + Copy> Replica<A> {
     /// Takes in all that another site holds. If all of it is held already, that changes nothing and asks
     /// for no memory.
     ///
-    /// Refused in this order: `NoEvent` of a bound, where a record names an event that the plan has
-    /// not; `Clash`, with the least id that has two different records or replaces two different ids;
+    /// Refused in this order: `NoEvent` of a bound, where a record names an event that the plan
+    /// lacks; `Clash`, with the least id that has two different records or replaces two different ids;
     /// `Full`, where both know more than 4,096 ids together; `Memory`. After a fault all is as before.
     pub fn take(&mut self, other: &Records<A>) -> Result<(), ReplicaFault>
         ensures leaves { OnOk result (Leaves self.old (took other.now) self.new) }

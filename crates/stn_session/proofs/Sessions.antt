@@ -3,11 +3,11 @@ use Rattle.std.{proofs.{Common.{◌≡◌, ◌≢◌, ℕ, ◌+◌, ◌<◌, ◌
 use Rattle.stn_device.{specs.{Bytes.AppendsPart, declared.whole.ReadFault.ReadFault}, proofs.Known.fails_more}
 use Rattle.stn_time.proofs.Each.{each_pushed}
 use Rattle.stn_wire.{proofs.Streams.cut_more, specs.{Frame.{FrameContent, spelling, refused, IsFrame}, Front.{IsFront, faulty, unfinished}, Stream.{wire_fault, frame_code, IsNextFrame, IsCounted, Held.Stream}, declared.stream.fault.FrameFault.FrameFault}}
-use Rattle.stn_effects.specs.{Effects.{Effect, Gives}, Printing.Device}
+use Rattle.stn_effects.specs.{Effects.Effect, Printing.Device}
 use Rattle.stn_lift.specs.PlanSource.{PlanSource}
 use Rattle.stn_records.specs.Content.{Content}
 use Rattle.stn_refusal.specs.declared.failure.Failure.{Failure}
-use Rattle.stn_session.specs.{Session.{Reply, said, Session, answer, opening, followed, advanced, talked, broken_off}, Serving.{IsReplyBytes, AreReplies, WritesReplies, Reaches, EndsSession, GoesOn, WritesPart, Talk, talk, KeepsChange, KeepsEach, KeepsNothing, Point, HasReplied, HearsWell, BreaksOffSession, EndsAt, Serves, session_answer, serve_fault}, declared.{session.{End.{End, TheVariants.{Closed, Cut, Refused}}, Served.Served, KeepingFault.KeepingFault, ServeFault.{ServeFault, TheVariants.{Read, Write, Bound, Memory}}}, replies.Turn.Turn}, Turns.{IsChange, KeepsTurn, AnswersFrame, TellsRefused}}
+use Rattle.stn_session.specs.{Session.{Reply, said, Session, answer, opening, followed, advanced, talked, broken_off}, Serving.{IsReplyBytes, AreReplies, WritesReplies, Reaches, GoesOn, WritesPart, Talk, talk, KeepsChange, KeepsEach, Point, HasReplied, HearsWell, BreaksOffSession, EndsAt, Serves, session_answer, serve_fault}, declared.{session.{End.TheVariants.{Closed, Cut, Refused}, Served.Served, KeepingFault.KeepingFault, ServeFault.{ServeFault, TheVariants.{Read, Write, Bound, Memory}}}, replies.Turn.Turn}, Turns.{IsChange, KeepsTurn, AnswersFrame, TellsRefused}}
 use Rattle.stn_session.specs.declared.session.KeepingFault.TheVariants as keeping
 use Rattle.stn_device.specs.declared.whole.ReadFault.TheVariants as stream
 

@@ -92,7 +92,8 @@ impl From<ReplyFault> for Failure {
 }
 
 /// Reads the replies to what `send_requests` wrote, SAME, RECORDS and TEXT, takes in the records, and
-/// gives the text. What stands after the text is not judged. At most `MOST_BYTES` bytes are read.
+/// gives the text. What stands after the text is not judged. At most `MOST_BYTES` bytes are read, and one
+/// more to see whether there is more.
 ///
 /// Refused in the order of the frames: `Refused`, where the other site refused; `Frame`; `Reply`; `Replica`, where
 /// the records are refused; and `Read`, `Bound`, `Memory`. Records that were taken before a refusal stay taken.

@@ -1,4 +1,4 @@
-ghost use Rattle.std.specs.Prelude.{◌≡◌, ◌-◌, ◌^◌, ◌<◌, true, IfOk, IfErr, OnOk};
+ghost use Rattle.std.specs.Prelude.{◌≡◌, ◌-◌, ◌^◌, ◌<◌};
 ghost use Rattle.stn_device.specs.Counted.{failure_count};
 ghost use Rattle.stn_wire.specs.Frame.{content};
 ghost use Rattle.stn_effects.specs.Printing.{Device, device_of};
@@ -158,7 +158,8 @@ fn ended_after(frames: u32, end: End) -> Served
 }
 
 /// Serves one session: reads frames to the end, answers each before it asks for more, and takes in
-/// what the other site holds. At most `MOST_BYTES` bytes are read.
+/// what the other site holds. At most `MOST_BYTES` bytes are read, and one more to
+/// see whether there is more.
 ///
 /// A fault leaves what the frames that were answered left; after `Memory` and `Write` one frame more may
 /// be taken, whose reply is not written, or not all of it.
@@ -186,7 +187,7 @@ pub fn serve<R: Read, W: Write, A: Allocator + Copy, C: SiteCopy<A>>(
 }
 
 /// Serves one session as `serve` does, and keeps each state that the other site's records made another one, before it is told of
-/// it. Where a state can't be kept, the session ends before that reply.
+/// it. Where a state can't be kept, the session ends before that reply, as `Keep`: the copy then holds the state that was not kept.
 pub fn serve_keeping<P, K: Keeper<P, A>, R: Read, W: Write, A: Allocator + Copy, C: SiteCopy<A>>(
     alloc: A,
     keeper: &K,

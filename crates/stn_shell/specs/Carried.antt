@@ -45,7 +45,7 @@ Listens =
     Then Connects (λ _.
     OnStandardOutput (Writes (codes "listening" ++ 10 ∷ [])))
 
--- what a log says is served. Before that a store may find that it can't save the log; that it finds none promises nothing
+-- what a log says is served. Before that a store may find that it can't save the log; if it finds no such fault, a save may still fail
 abbrev pub ServesLog : (Fault → Type 0) → SiteLog → ℕ → Effect Outside (Unit {0})
 ServesLog Fails log count =
     Then (InStore (LoadsLog Fails log.name.now log.site)) (λ found.
@@ -61,7 +61,8 @@ SendsLog Fails log =
     SendsHeld Fails log found))
 
 -- ---- a command line
--- a command on a log is done, and its answer printed. Before that is told what it waits for, and then what people may not expect
+-- a command on a log is done, and its answer printed. Before it is done, what it waits for is told; after its answer, what people may
+-- not expect
 abbrev pub Answers : (Fault → Type 0) → Line → Effect Outside (Unit {0})
 Answers Fails line =
     Then (Mentions (λ _. TellsWaiting line)) (λ _.

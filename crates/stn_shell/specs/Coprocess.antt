@@ -15,8 +15,8 @@ use Rattle.stn_refusal.specs.{Printed.refusal_text, Refusals.{refused_at, out_of
 use Rattle.stn_refusal.specs.declared.code.Code.TheVariants as code
 
 -- ---- the command that a line asks for
--- the words of a command line, by those of a line of the shell: after the command, but for the one of no log, stand words in place of
--- LOG and SITE
+-- the words of a command line, by those of a line of the shell: after the command, but for `explain`, stand words in place of LOG and
+-- SITE
 abbrev pub line_words : List Text → List Text
 line_words [] = codes "stn" ∷ []
 line_words (command ∷ words) =

@@ -128,8 +128,8 @@ fn reply<S: Store<Global>, E: Write>(
     }
 }
 
-// The words of the command line that a line asks for; none where one is no text. After the command, but for the one of no log,
-// stand words in place of LOG and SITE.
+// The words of the command line that a line asks for; none where one is no text. After the command, but for `explain`, stand words
+// in place of LOG and SITE.
 fn read_words<'a>(alloc: Global, text: &'a [u8]) -> Result<Option<Vec<&'a str>>, Memory>
     ensures words { IfOk result (λ read. IfSome read (λ words. map (λ word. word.now) words.items ≡ line_words (words_of text.entry.now))) }
     ensures texts { IfOk result (λ read. IfSome read (λ _. AllByRecursion IsUtf8 (words_of text.entry.now))) }
@@ -204,7 +204,7 @@ fn reply_to<S: Store<Global>, E: Write>(
     }
 }
 
-// Does a command of a shell. Before that is told what it waits for, and then its hints, or why it is refused.
+// Does a command of a shell. Tells before it what it waits for, and after it its hints, or why it is refused.
 fn answer_line<S: Store<Global>, E: Write>(
     alloc: Global,
     store: &mut S,

@@ -47,7 +47,7 @@ pub fn execute<
 }
 
 /// Does the command of the words over a store, and says its status. The first word is the program's name. The status is 0 where nothing
-/// was refused and no device failed, 1 where something was, 2 where the words are no command's. An answer or a refusal is printed to
+/// was refused and nothing failed, 1 where something was refused or failed, or memory ran out, 2 where the words are no command's. An answer or a refusal is printed to
 /// `out`, a device's fault, the reason of a refusal or a fault, hints, and a mistake in the words to `err`.
 pub fn execute_over<
     S: Store<Global>,
@@ -231,7 +231,7 @@ fn run_input<R: Read, W: Write>(
     Ok(if ran.refused == 0 { 0 } else { 1 })
 }
 
-// Does a command on a log, and prints its answer. Before that is told what it waits for, and then its hints.
+// Does a command on a log, and prints its answer. Tells before it what it waits for, and after the answer its hints.
 fn tell_answer<S: Store<Global>, W: Write, E: Write>(
     alloc: Global,
     store: &mut S,

@@ -1,3 +1,4 @@
+-- For proofs alone: no public clause cites these words.
 -- What the bytes of a reader are, as a log and as a text; of bytes that are not known this says that there are some.
 use Rattle.std.specs.Prelude.{◌≡◌, ◌↔◌, ℕ, ◌+◌, Bool, true, List, take, Option, Some, None, Result, ⊤}
 use Rattle.stn_text.specs.Bytes.{most_text}

@@ -44,12 +44,12 @@ pub trait Store<A: Allocator + Copy> {
         ensures found { IfOk result (λ there. IsThere (entries self.now) name.now there) }
         ensures failed { IfErr result (IsLack fails) };
 
-    /// Whether the bytes under a name are these. Once they differ, no more is read.
+    /// Whether the bytes under a name are these. Once they differ, no more is read. Fault: `File`, where nothing of the name is there.
     fn has(&self, name: &str, bytes: &[u8]) -> Result<bool, Failure>
         ensures told { IfOk result (λ has. Has (entries self.now) name.now bytes.now has) }
         ensures failed { IfErr result (λ failure. IsMissing (entries self.now) name.now failure ⊎ IsLack fails failure) };
 
-    /// Whether the bytes of the log that is held are these.
+    /// Whether the bytes of the log that is held are these. Fault: `File`, where nothing of the name is there.
     fn has_held(&self, held: &Self::Held, bytes: &[u8]) -> Result<bool, Failure>
         ensures told { IfOk result (λ has. Has (entries self.now) (held_name held.now) bytes.now has) }
         ensures failed { IfErr result (λ failure. IsMissing (entries self.now) (held_name held.now) failure ⊎ IsLack fails failure) };
@@ -66,23 +66,23 @@ pub trait Store<A: Allocator + Copy> {
     fn is_seen_held(&self, held: &Self::Held, look: &Look<A>) -> bool
         ensures { (bytes : List ℕ) → result ≡ true → Saw look.now bytes → Holds (entries self.now) (held_name held.now) (Some bytes) };
 
-    /// A site's copy of a plan by its log.
+    /// A site's copy of a plan by its log. Faults: `File`, where nothing of the name is there; then those of `load_plan`.
     fn load(&self, name: &str, site: Site) -> Result<SitePlan<A>, Failure>
         ensures opened { IfOk result (λ plan. Opens (entries self.now) name.now site plan) }
         ensures failed { IfErr result (λ failure. IsUnopened (entries self.now) name.now failure ⊎ IsLack fails failure) };
 
-    /// A site's copy of a plan by the log that is held.
+    /// A site's copy of a plan by the log that is held. Faults: `File`, where nothing of the name is there; then those of `load_plan`.
     fn load_held(&self, held: &Self::Held, site: Site) -> Result<SitePlan<A>, Failure>
         ensures opened { IfOk result (λ plan. Opens (entries self.now) (held_name held.now) site plan) }
         ensures failed { IfErr result (λ failure. IsUnopened (entries self.now) (held_name held.now) failure ⊎ IsLack fails failure) };
 
-    /// The text of a domain or a plan; of a longer one so much that it shows.
+    /// The text of a domain or a plan; of a longer one so much that it shows. Fault: `File`, where nothing of the name is there.
     fn text(&self, name: &str) -> Result<Vec<u8, A>, Failure>
         ensures spelled { IfOk result (λ text. Spells (entries self.now) name.now text.items) }
         ensures failed { IfErr result (λ failure. IsMissing (entries self.now) name.now failure ⊎ IsLack fails failure) };
 
-    /// Saves a site's copy of a plan as the log that is held, under a name that is free at that moment. What stands there
-    /// stays. Of files, the log may stand there after a fault, if only the last force of its folder failed.
+    /// Saves a site's copy of a plan as the log that is held, under a name that is free at that moment. Refused as 64 where
+    /// something stands there, which stays. Of files, the log may stand there after a fault, if only the last force of its folder failed.
     fn save_new(&mut self, held: &Self::Held, plan: &SitePlan<A>) -> Result<(), Failure>
         ensures free { OnOk result (IsThere (entries self.old) (held_name held.now) false) }
         ensures saved { OnOk result (entries self.new ≡ saved_too (entries self.old) (held_name held.now) (log_held plan.now)) }

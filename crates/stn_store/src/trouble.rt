@@ -1,6 +1,6 @@
 //! Why a call on files is not done.
 
-ghost use Rattle.std.specs.{Prelude.{◌≡◌, Ok, Err, IfSome, IfErr, IfOk, MatchResult}, IoError.error_kind, String.string_bytes};
+ghost use Rattle.std.specs.{Prelude.{◌≡◌, Ok, Err, IfErr, IfOk, MatchResult}, IoError.error_kind, String.string_bytes};
 ghost use Rattle.stn_cause.specs.Cause.{cause_of};
 ghost use Rattle.stn_refusal.specs.{Refusals.out_of_memory, declared.failure.{Failure.TheVariants.Failed, Fault.TheVariants.File}};
 ghost use Rattle.stn_store.specs.Files.{Blames};

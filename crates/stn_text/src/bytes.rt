@@ -1,4 +1,4 @@
-//! Bytes that more than one kind of text knows.
+//! Bytes that mean something in more than one kind of text.
 
 ghost use Rattle.std.specs.Prelude.{◌≡◌, ◌==◌, nat_lt, length};
 ghost use Rattle.stn_text.specs.Bytes as spec;

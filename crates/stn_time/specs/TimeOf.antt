@@ -1,5 +1,5 @@
 -- The time of a text as a function, for definitions that compute with it. What each of its answers means is said by
--- `Spells` and its kin, in the contract of `Ms::read`.
+-- `SpellsTime`, `IsTimeForm`, `IsTooFine` and `IsOutOfRange`, in the contract of `Ms::read`.
 use Rattle.std.specs.{Prelude.{ℕ, Bool, false, ◌&&◌, ◌==◌, if◌then◌else◌, List, [], ◌∷◌, take, drop, ℤ, neg_ℤ, int_le, Option, Some, None, Result, Ok, Err}, Char.is_ascii_digit, List.prefix_len, Option.option_map, Str.{all_ascii_digits, Parse.starts_with_minus}}
 use Rattle.stn_time.specs.{Text.{Parts, these_parts, is_fine, millis_of}, Time.horizon, declared.reading.TimeFault.{TimeFault, TheVariants.{Malformed, TooFine, OutOfRange}}}
 

@@ -24,7 +24,7 @@ impl Model for Ms {
 }
 
 impl Ms {
-    /// The number of milliseconds, where it lies from `-HORIZON` to `HORIZON`.
+    /// The time of so many milliseconds; none unless they lie from `-HORIZON` to `HORIZON`.
     pub fn new(millis: i64) -> Option<Ms>
         ensures within { IsSome result ↔ IsWithinHorizon millis }
         ensures value { IfSome result (λ time. time ≡ millis) }

@@ -1,3 +1,4 @@
+-- For proofs alone: no public clause cites these words.
 -- The walk that the code has.
 use Rattle.std.specs.Prelude.{map}
 use Rattle.stn_drawing.specs.Seen.{seen_axis}

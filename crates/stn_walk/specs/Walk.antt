@@ -1,5 +1,5 @@
 -- The picture of a conflict: a walk along its links. The first event stands at 0, and each link moves on by what it allows, so that each
--- row ends at the latest time that the rows above leave its event.
+-- row begins at the latest time that the rows above leave its event.
 use Rattle.std.specs.{Prelude.{ℕ, ℤ, pos, neg_ℤ, ◌+◌, ◌-◌, ◌*◌, ◌%◌, ◌+ℤ◌, ◌==◌, ◌&&◌, nat_lt, Bool, max, List, [], ◌∷◌, ◌++◌, length, take, map, slice_index_or, unsigned_abs, if◌then◌else◌, codes, decimal}, List.{flat_map, range_with_len}, Int.{is_negative, abs_diff}}
 use Rattle.stn_time.specs.Text.{printed}
 use Rattle.stn_net.specs.{Difference.Difference, Event.event_text}
@@ -35,7 +35,7 @@ sum_of bounds links count = weight_of bounds (take count links)
 abbrev pub sums_of : List Difference → List Link → List ℤ
 sums_of bounds links = map (sum_of bounds links) (range_with_len 0 (length links + 1))
 
--- where a row begins
+-- the sum of the links above a row, in milliseconds
 abbrev pub sum_at : Walk → ℕ → ℤ
 sum_at walk row = slice_index_or walk.sums row (pos 0)
 
@@ -58,7 +58,7 @@ axis_left = 500
 abbrev pub axis_width : ℕ
 axis_width = 440
 
--- where a row begins; rows are counted from 0
+-- the top of a row; rows are counted from 0
 abbrev pub walk_top : ℕ → ℕ
 walk_top row = 54 + 34 * row
 
@@ -168,7 +168,7 @@ walk_arrow left right middle =
     if nat_lt (abs_diff left right) 9 then codes "<circle class='x' cx='" ++ decimal left ++ codes "' cy='" ++ decimal middle ++ codes "' r='3'/>"
     else codes "<path d='M" ++ decimal left ++ codes " " ++ decimal middle ++ codes "H" ++ decimal right ++ codes "'/>"
 
--- where a row begins: at the sum of the links above
+-- the place of the sum of the links above a row
 abbrev pub left_of : Walk → ℕ → ℕ
 left_of walk row = walk_place walk (sum_at walk row)
 

@@ -1,7 +1,6 @@
 //! What is drawn of a plan that has no schedule.
 ghost use Rattle.std.specs.Prelude.{◌≡◌, ◌+◌, ◌++◌, ◌<◌, ◌≤◌, ◌^◌, length, map, max, ◌+ℤ◌, unsigned_abs, All, IfOk};
 ghost use Rattle.stn_net.specs.{Schedule.HasSchedule, Event.most_events};
-ghost use Rattle.stn_lift.specs.PlanSource.{base_bounds};
 ghost use Rattle.stn_conflict.specs.{Arcs.{arc_of, IsNegativeCycle}, Named.IsNamedCycle};
 ghost use Rattle.stn_site.specs.Bounds.{all_bounds, live_bounds};
 ghost use Rattle.stn_walk.specs.{Conflict.IsWalkPicture, Walk.{early, late, greatest, sums_of}};

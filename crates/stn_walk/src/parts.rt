@@ -91,7 +91,7 @@ pub fn sum_in(sums: &[i64], place: usize) -> i64
     sums.get(place).copied().unwrap_or(0)
 }
 
-/// Where a row begins, in pixels from the top.
+/// The top of a row, in units.
 pub fn top_of(row: usize) -> u64
     requires { row < 2 ^ 40 }
     ensures value { result ≡ is.walk_top row }

@@ -21,10 +21,10 @@ use stn_time::Memory;
 // In the title of a row, a name has at most so many characters.
 const MOST_WHOLE: usize = 200;
 
-// Beside an arrow, a name has at most so many.
+// In the words of a row, a name has at most so many.
 const MOST_SHORT: usize = 24;
 
-// From so many pixels on, an arrow is longer than its tip.
+// From so many units on, an arrow is longer than its tip.
 const TIP: u64 = 9;
 
 // After an error, a part of a text may stand in the output.
@@ -44,7 +44,7 @@ impl<'a, 'b, A: Allocator> Walk<'a, 'b, A> {
         out.extend_from_slice(b"</g>\n")
     }
 
-    /// Where a row begins.
+    /// The place, from the left, at which the arrow of a row begins.
     pub fn left_of(&self, row: usize) -> u64
         ensures value { result ≡ is.left_of (seen_walk self.now) row }
         ensures small { result < 2 ^ 63 + 2 ^ 10 }

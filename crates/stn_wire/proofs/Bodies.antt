@@ -2,7 +2,7 @@
 use Rattle.std.{proofs.Common.{rules, ◌≡◌, List, [], ◌∷◌, ◌++◌, drop, refl, sym, ap, ◌∙◌, append-nil}, specs.FinMap.{entries, same_entries_map}}
 use Rattle.stn_lift.specs.PlanSource.{PlanSource}
 use Rattle.stn_records.specs.{Id.SiteCounter, Content.Content}
-use Rattle.stn_wire.{specs.{Spelling.{entry_bytes, IsEntry, entry_width, tomb_bytes, IsTomb, amendment_bytes, amendments_bytes, AreIds, counted, AreCounted}, Apart.{entry_apart, entry_sized, tomb_apart, amendment_apart}, declared.layout.Layout.Layout, Frame.{FrameContent, old_hello, old_records, hello, records, same, source_bytes, IsSaidSource, state_bytes, IsState, HasSpelling, body_of}}, proofs.Chunks.{counted_cut, measured_cut}}
+use Rattle.stn_wire.{specs.{Spelling.{entry_bytes, IsEntry, entry_width, tomb_bytes, IsTomb, amendment_bytes, amendments_bytes, AreIds, counted, AreCounted}, Apart.{entry_apart, entry_sized, tomb_apart, amendment_apart}, declared.layout.Layout.Layout, Frame.{FrameContent, old_hello, old_records, hello, records, source_bytes, IsSaidSource, state_bytes, IsState, HasSpelling, body_of}}, proofs.Chunks.{counted_cut, measured_cut}}
 
 pub source_apart : (a b : PlanSource) → IsSaidSource a → IsSaidSource b → source_bytes a ≡ source_bytes b → a ≡ b
 source_apart a b p q e = search (rules, measured_cut)

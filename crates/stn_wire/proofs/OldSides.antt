@@ -1,6 +1,5 @@
 -- The records of old frames, as they are written and as they are read.
 use Rattle.std.{proofs.Common.{rules, ◌≡◌, ◌⊎◌, ℤ, ◌≤ℤ◌, arith}, specs.Prelude.neg_ℤ}
-use Rattle.stn_time.specs.Time.{horizon}
 use Rattle.stn_records.specs.declared.record.{Mark.Mark, Record.Record}
 use Rattle.stn_wire.specs.{declared.layout.Layout.TheVariants.Old, Apart.gap_within, Spelling.{old_horizon, side_bytes, IsLow, IsHigh, IsRecord, record_bytes}, OldSides.{IsWritten, written_side, written_bytes, low_read, high_read, as_read}}
 

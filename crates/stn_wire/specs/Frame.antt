@@ -9,7 +9,7 @@ use Rattle.stn_wire.specs.declared.frame.Said.TheVariants as said
 abbrev pub most_body : ℕ
 most_body = 262144
 
--- what a frame says; the first two kinds are those of the first version
+-- what a frame says; the first two kinds are those of the old version
 pub data FrameContent : Type 0 where
   old_hello : PlanSource → FrameContent
   old_records : Content → FrameContent
@@ -59,7 +59,7 @@ pub record IsState (layout : Layout) (state : Content) : Type 0 where
   pub tombstones : AreCounted IsTomb (entries state.tombstones)
   pub replacements : AreCounted AreIds (entries state.replacements)
 
--- a state of the first version, which knows no amendments
+-- a state of the old version, which knows no amendments
 pub record IsOldState (state : Content) : Type 0 where
   pub said : IsState Old state
   pub plain : entries state.replacements ≡ []
@@ -109,7 +109,7 @@ body_of frame = kind_of frame ∷ rest_of frame
 abbrev pub spelling : FrameContent → List ℕ
 spelling frame = measured (body_of frame)
 
--- a frame of the first version, which no site sends any more
+-- a frame of the old version, which no site sends any more
 abbrev pub IsOld : FrameContent → Type 0
 IsOld (old_hello source) = ⊤
 IsOld (old_records state) = ⊤

@@ -21,7 +21,7 @@ pub data Front : Type 0 where
 
 -- A whole frame stands in front where its spelling does. Length is the fault where four bytes give no length of a body;
 -- Kind where the fifth is no kind; Body where a whole body is that of no frame. The bytes are unfinished where they are
--- fewer than a length, a kind and a body of this length want, and show no fault.
+-- fewer than a length, a kind and a body of this length need, and show no fault.
 abbrev pub IsFront : List ℕ → Front → Type 0
 IsFront bytes (whole frame n) = IsFrame frame × (n ≤ length bytes) × (take n bytes ≡ spelling frame)
 IsFront bytes (faulty Length) = (4 ≤ length bytes) × ¬ IsLength (announced bytes)

@@ -29,7 +29,7 @@ pub record AreCounted {X : Type 0} (Valid : X → Type 0) (values : List X) : Ty
 abbrev pub id_bytes : SiteCounter → List ℕ
 id_bytes id = two id.site ++ two id.counter
 
--- the greatest time of the first version's frames
+-- the greatest time of the old version's frames
 abbrev pub old_horizon : ℤ
 old_horizon = pos 1000000000
 

@@ -12,7 +12,7 @@ use stn_time::Memory;
 
 /// Appends the spelling of a frame.
 ///
-/// Faults: `OldFrame`, where it is a frame of the first version; `Length`, where the body would pass
+/// Faults: `OldFrame`, where it is a frame of the old version; `Length`, where the body would pass
 /// 262,144 bytes; `Memory`. After a fault nothing is appended.
 pub fn encode<A: Allocator + Copy, B: Allocator + Copy>(
     frame: &Frame<A>,

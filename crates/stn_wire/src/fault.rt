@@ -17,7 +17,7 @@ pub enum WireFault {
     /// The body breaks a rule of its kind.
     #[error("a frame whose body breaks a rule")]
     Body,
-    /// A frame of the first version is not spelled any more.
+    /// A frame of the old version can't be written.
     #[error("a frame of an old version")]
     OldFrame,
     /// Memory ran out.

@@ -8,9 +8,9 @@ use stn_records::Records;
 /// What one site says to another.
 #[derive(Drop)]
 pub enum Frame<A: Allocator> {
-    /// The plan of the site, as the first version said it.
+    /// The plan of the site, as the old version said it.
     OldHello(Source<A>),
-    /// Records and withdrawn ids, as the first version said them: a side that was open then is open now.
+    /// Records and withdrawn ids, as the old version said them: a side that was open then is open now.
     OldRecords(Records<A>),
     /// The plan of the site, by what its base is made from.
     Hello(Source<A>),
@@ -18,7 +18,7 @@ pub enum Frame<A: Allocator> {
     Records(Records<A>),
     /// A report is wanted.
     Ask,
-    /// A text, a report for one.
+    /// A text, as a report.
     Text(Vec<u8, A>),
     /// What was said is refused, with a code.
     Refused(u8),
@@ -27,7 +27,7 @@ pub enum Frame<A: Allocator> {
 }
 
 impl<A: Allocator> Frame<A> {
-    /// The frame, by what it is about; none where it is one of the first version.
+    /// The frame, by what it is about; none where it is one of the old version.
     pub fn said(&self) -> Option<Said<'_, A>>
         ensures { MatchOption result (IsOld (content self.now))
             (λ said. (said_content said ≡ content self.now) × ¬ IsOld (content self.now)) }

@@ -5,13 +5,13 @@ ghost use Rattle.stn_wire.specs.{Spelling.{layout_horizon, width_of, side_width,
 use crate::fields::{eight_of, four_of};
 use stn_time::HORIZON;
 
-// The horizon of the first version.
+// The horizon of the old version.
 const OLD_HORIZON: i64 = 1_000_000_000;
 
 /// How the sides of records are spelled: in how many bytes, and within which horizon.
 #[derive(Clone, Copy)]
 pub(crate) enum Layout {
-    /// That of the first version.
+    /// That of the old version.
     Old,
     /// That of today.
     New,

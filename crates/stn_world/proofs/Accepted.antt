@@ -1,5 +1,5 @@
 -- What refuses a step, and what an accepted step tells.
-use Rattle.std.{proofs.Common.{rules, ◌≡◌, ◌≢◌, ℕ, ◌≤◌, true, not, ◌&&◌, leb, Option, Some, None, arith}, specs.{Prelude.{unwrap_or, option_map}, Bool.Decides, Option.option_or}}
+use Rattle.std.{proofs.Common.{rules, ◌≡◌, ◌≢◌, ℕ, ◌≤◌, true, ◌&&◌, leb, Option, Some, None, arith}, specs.{Prelude.{unwrap_or, option_map}, Bool.Decides, Option.option_or}}
 use Rattle.stn_refusal.specs.{declared.{code.Code.TheVariants.NoSite, failure.Failure.Failure}, Refusals.{refused, out_of_memory}}
 use Rattle.stn_records.specs.Content.{Content}
 use Rattle.stn_site.specs.{declared.{faults.ReplicaFault.ReplicaFault, change.Change.Change}, Change.change_refusal, Failures.replica_failure, Refusals.take_refusal}

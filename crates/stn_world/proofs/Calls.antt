@@ -5,7 +5,7 @@ use Rattle.stn_lift.specs.PlanSource.{PlanSource}
 use Rattle.stn_records.specs.{Id.SiteCounter, Content.Content}
 use Rattle.stn_site.specs.{Held.Held, declared.{faults.ReplicaFault.ReplicaFault, change.Change.Change}, Change.{change_call, change_id, change_refusal}, Failures.replica_failure, Refusals.take_refusal, Calls.{Accepted, took, Leaves, LeavesState}}
 use Rattle.stn_site.specs.declared.faults.ReplicaFault.TheVariants as replica_fault
-use Rattle.stn_world.{specs.{Sites.world_of, Whole.{IsCoherent, IsSoundWorld}, World.{World, most_packets, HasSite, content_at, held_at, next_id_at, content_after, with_call, send}, Steps.{Step, changed, sent, missing, step_refusal, IsAccepted, after, IsStep, send_refusal, IsSending}}, proofs.{Accepted.refused_by, Sendings.send_free, Whole.coherent_after, Sites.{IsHeldAt, held_is, held_there, take_refusal_at, world_set, sites_set}}}
+use Rattle.stn_world.{specs.{Sites.world_of, Whole.{IsCoherent, IsSoundWorld}, World.{World, most_packets, HasSite, held_at, next_id_at, content_after, with_call, send}, Steps.{Step, changed, sent, missing, step_refusal, IsAccepted, after, IsStep, send_refusal, IsSending}}, proofs.{Accepted.refused_by, Sendings.send_free, Whole.coherent_after, Sites.{IsHeldAt, held_is, held_there, take_refusal_at, world_set, sites_set}}}
 
 -- what a replica answers to a call that one thing refuses, what it becomes, and the same as the world's answer
 pub record IsAnswer {T : Type 0} (one : Held) (refusal : Option ReplicaFault) (accepted : T → Accepted) (Given : T → Type 0) (answer : Result T ReplicaFault) (new : Held) (result : Result T Failure) : Type 0 where

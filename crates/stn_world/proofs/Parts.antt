@@ -1,7 +1,7 @@
 -- Whether a state is part of another, and the parts that are sent.
 use Rattle.std.{proofs.{Common.{rules, ◌≡◌, Bool, true, false, cond, List, Option, Some, None, is_some, sym, refl, ap, ◌∙◌, All}, lemmas.Bool.{false≢true, Decides.{Decides-by_and, Decides-and, Decides-like}}}, specs.{Prelude.IsTrue, Bool.Decides, List.list_all, Option.option_eq, Set.is_member, FinMap.get-retain_keys}}
 use Rattle.std.specs.FinMap as fin
-use Rattle.stn_records.{specs.{Id.{SiteCounter, id_cmp, same_ids}, declared.record.Record.Record, Record.same_records, Content.{Content, addition, withdrawal, replacement, HasItem, AllHeld, AllAmend, part_of, plain, IsPart}, ContentLaws.{ids_total, ids_exact, ids_decide, records_decide}}, proofs.{Proper.retained_value, Gets.{entries_from_get, get_from_entries}}}
+use Rattle.stn_records.{specs.{Id.{SiteCounter, id_cmp, same_ids}, declared.record.Record.Record, Content.{Content, addition, withdrawal, replacement, HasItem, AllHeld, AllAmend, part_of, plain, IsPart}, ContentLaws.{ids_total, ids_exact, ids_decide, records_decide}}, proofs.{Proper.retained_value, Gets.{entries_from_get, get_from_entries}}}
 use Rattle.stn_world.specs.Parts.{has_whole_record, is_part, holds_all}
 
 -- a test of values decides whether options are the same

@@ -1,5 +1,5 @@
 -- What refuses a call that sends, and what it leaves.
-use Rattle.std.{proofs.{Common.{rules, ◌≡◌, ◌≢◌, ◌↔◌, ℕ, ◌<◌, Bool, true, false, not, List, None, Result, Ok, Err, length}, lemmas.{Bool.false≢true, Result.err_from_is_err_and}}, specs.{Prelude.{unwrap_or, MatchResult}, Result.IsErrAnd}}
+use Rattle.std.{proofs.{Common.{rules, ◌≡◌, ◌≢◌, ◌↔◌, ℕ, ◌<◌, Bool, true, false, List, None, Result, Ok, Err, length}, lemmas.{Bool.false≢true, Result.err_from_is_err_and}}, specs.{Prelude.{unwrap_or, MatchResult}, Result.IsErrAnd}}
 use Rattle.stn_refusal.specs.{declared.{code.Code.TheVariants.Unknown, failure.Failure.Failure}, Refusals.{refused, out_of_memory}}
 use Rattle.stn_records.specs.{Id.SiteCounter, Content.{Content, AllHeld, part_of}, declared.faults.PartFault.PartFault}
 use Rattle.stn_records.specs.declared.faults.PartFault.TheVariants as part_fault

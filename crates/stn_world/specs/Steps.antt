@@ -13,7 +13,7 @@ pub data Step : Type 0 where
   sent : ℕ → Content → Step
   delivered : ℕ → ℕ → Step
 
--- the world has not the site
+-- the world lacks the site
 abbrev pub missing : World → ℕ → Option Failure
 missing world site = then_some (not (has_site world site)) (refused code.NoSite)
 

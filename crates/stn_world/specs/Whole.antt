@@ -1,8 +1,8 @@
 -- For proofs alone: no public clause cites these words.
 -- The replicas of a world, and what all its sites and packets hold together.
-use Rattle.std.specs.{Prelude.{◌≡◌, ℕ, ◌≤◌, List, length, map, replicate, slice_index_or}, List.range_with_len}
-use Rattle.stn_lift.specs.PlanSource.{PlanSource, bare, events_of}
-use Rattle.stn_records.specs.{declared.record.Record.Record, Id.{most_sites, SiteCounter}, Content.{Content, no_content, addition, withdrawal, replacement, HasItem, IsPart, AllAmend}}
+use Rattle.std.specs.{Prelude.{◌≡◌, ℕ, ◌≤◌, List, length, map, replicate}, List.range_with_len}
+use Rattle.stn_lift.specs.PlanSource.{PlanSource, events_of}
+use Rattle.stn_records.specs.{declared.record.Record.Record, Id.{most_sites, SiteCounter}, Content.{Content, addition, withdrawal, replacement, HasItem, IsPart, AllAmend}}
 use Rattle.stn_site.specs.Held.{Held}
 use Rattle.stn_world.specs.{World.{World, IsRecordOf, most_packets, content_at, packet_at}, Sites.world_of}
 
@@ -12,10 +12,6 @@ pub record IsSites (source : PlanSource) (replicas : List Held) : Type 0 where
   pub most : length replicas ≤ most_sites
   pub numbers : map (λ replica. replica.site) replicas ≡ range_with_len 1 (length replicas)
   pub sources : map (λ replica. replica.source) replicas ≡ replicate (length replicas) source
-
--- the replica at a place
-abbrev pub held_in : List Held → ℕ → Held
-held_in replicas place = slice_index_or replicas place (record { site = 0; source = bare 0; state = no_content; steps = 0 })
 
 -- what each site and each packet holds is part of a whole, of which each record is held by the site that made it, each id that is withdrawn
 -- or replaced has a record, and each record is of a bound of the plan. So any two of them agree on every id. Each entry belongs to a Plain

@@ -131,7 +131,7 @@ impl<A: Allocator + Copy, C: SiteCopy<A>> World<A, C> {
 
     /// Makes a change at a site, and returns the id of the record that it adds, or the id that it withdraws.
     ///
-    /// Refused in this order: `NoSite`; the faults of `Replica::change`. After a fault all is as before.
+    /// Refused in this order: `NoSite`; the faults of `SitePlan::change`. After a fault all is as before.
     pub fn change(&mut self, site: u32, asked: &Change) -> Result<Id, Failure>
         ensures id { IfOk result (λ id. id ≡ change_id asked.now (next_id_at self.old site)) }
         ensures step { IsStep self.old (changed site asked.now) result self.new }
@@ -144,7 +144,7 @@ impl<A: Allocator + Copy, C: SiteCopy<A>> World<A, C> {
 
     /// Adds a bound at a site, under that site's next id, which is returned.
     ///
-    /// Refused in this order: `NoSite`; the faults of `Replica::add`. After a fault all is as before.
+    /// Refused in this order: `NoSite`; the faults of `SitePlan::add`. After a fault all is as before.
     pub fn add(&mut self, site: u32, from: Event, to: Event, lo: Ms, hi: Ms) -> Result<Id, Failure>
         ensures id { IfOk result (λ id. id ≡ next_id_at self.old site) }
         ensures step { IsStep self.old (changed site (Add (difference from to lo hi))) result self.new }
@@ -155,7 +155,7 @@ impl<A: Allocator + Copy, C: SiteCopy<A>> World<A, C> {
     /// Records at a site at which time it executed an event, under that site's next id, which is
     /// returned.
     ///
-    /// Refused in this order: `NoSite`; the faults of `Replica::done`. After a fault all is as before.
+    /// Refused in this order: `NoSite`; the faults of `SitePlan::done`. After a fault all is as before.
     pub fn done(&mut self, site: u32, event: Event, time: Ms) -> Result<Id, Failure>
         ensures id { IfOk result (λ id. id ≡ next_id_at self.old site) }
         ensures step { IsStep self.old (changed site (Done event time)) result self.new }
@@ -167,7 +167,7 @@ impl<A: Allocator + Copy, C: SiteCopy<A>> World<A, C> {
     /// and replaces the record by it, for good. Wherever the new record comes, the replaced one is not
     /// live.
     ///
-    /// Refused in this order: `NoSite`; the faults of `Replica::amend`. After a fault all is as before.
+    /// Refused in this order: `NoSite`; the faults of `SitePlan::amend`. After a fault all is as before.
     pub fn amend(
         &mut self,
         site: u32,
@@ -186,7 +186,7 @@ impl<A: Allocator + Copy, C: SiteCopy<A>> World<A, C> {
     /// Withdraws at a site a record that it knows, for good; one that is withdrawn there already changes
     /// nothing.
     ///
-    /// Refused in this order: `NoSite`; the faults of `Replica::withdraw`. After a fault all is as
+    /// Refused in this order: `NoSite`; the faults of `SitePlan::withdraw`. After a fault all is as
     /// before.
     pub fn withdraw(&mut self, site: u32, id: Id) -> Result<(), Failure>
         ensures step { IsStep self.old (changed site (Withdraw id)) result self.new }
@@ -200,7 +200,7 @@ impl<A: Allocator + Copy, C: SiteCopy<A>> World<A, C> {
     /// itself, that changes nothing and asks for no memory. Any two sites agree on every id, so no merge
     /// is refused for an id or an event.
     ///
-    /// Refused in this order: `NoSite`, for either site; `Full` and `Memory` of `Replica::take`. After
+    /// Refused in this order: `NoSite`, for either site; `Full` and `Memory` of `SitePlan::take`. After
     /// a fault all is as before.
     pub fn merge(&mut self, site: u32, other: u32) -> Result<(), Failure>
         ensures step { IsStep self.old (merged site other) result self.new }
@@ -241,8 +241,8 @@ impl<A: Allocator + Copy, C: SiteCopy<A>> World<A, C> {
     /// whose number is returned: 1 for the first. A record that replaces another is sent with its entry.
     /// An id may stand in a list twice.
     ///
-    /// Refused in this order: `NoSite`; `TooManyPackets`, where there are 256; `Unknown` of a replica,
-    /// where the site has not a record or a withdrawn id of the lists; `Memory`. After a fault all is
+    /// Refused in this order: `NoSite`; `TooManyPackets`, where there are 256; `Unknown`,
+    /// where the site lacks a record or a withdrawn id of the lists; `Memory`. After a fault all is
     /// as before.
     pub fn send(&mut self, site: u32, records: &[Id], tombstones: &[Id]) -> Result<u16, Failure>
         ensures step { IsSending self.old (sent site (part_of (content_at self.old site) records.now tombstones.now))
@@ -264,7 +264,7 @@ impl<A: Allocator + Copy, C: SiteCopy<A>> World<A, C> {
     /// refused for an id or an event.
     ///
     /// Refused in this order: `NoSite`; `NoPacket`, where no packet has the number; `Full` and `Memory`
-    /// of `Replica::take`. After a fault all is as before.
+    /// of `SitePlan::take`. After a fault all is as before.
     pub fn deliver(&mut self, site: u32, packet: u32) -> Result<(), Failure>
         ensures step { IsStep self.old (delivered site packet) result self.new }
         ensures again { HasSite self.old site → HasPacket self.old packet → IsPart (packet_at self.old packet) (content_at self.old site)
@@ -323,7 +323,7 @@ impl<A: Allocator + Copy, C: SiteCopy<A>> World<A, C> {
     }
 }
 
-// The first of so many sites; none where a world has not so many.
+// The first of so many sites; none where a world may not have so many.
 fn first_of(sites: u8) -> Result<Site, Failure>
     ensures first { IfOk result (λ site. site ≡ 1) }
     ensures accepted { OnOk result (IsSite sites) }

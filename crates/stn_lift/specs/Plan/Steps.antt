@@ -6,7 +6,8 @@ use Rattle.stn_text.specs.Faults.{◌>>=◌}
 pub use Rattle.stn_net.specs.Event.{most_steps}
 use Rattle.stn_lift.specs.{declared.plan.{bytes.Mark.TheVariants.{Colon, Open, Close, OpenSquare, CloseSquare}, fault.PlanFault.{PlanFault, TheVariants.{TooLong, Syntax, Number, Negative, TooManySteps, Memory}}}, Plan.{Tokens.{Lexeme, Word, Sign, tokens_of}, Lines.lines_of}}
 
--- a step without where it lies in memory
+-- a step of a plan text: its line, its start in milliseconds, its action and arguments, and its duration in milliseconds, if
+-- the line says one
 pub record PlannedStep : Type 0 where
   pub line : ℕ
   pub time : ℤ

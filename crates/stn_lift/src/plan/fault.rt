@@ -25,7 +25,7 @@ pub enum PlanFault {
     /// No line has a fault, and there are more than 256 steps.
     #[error("the plan has too many steps")]
     TooManySteps,
-    /// Out of memory.
+    /// Memory ran out.
     #[error("out of memory")]
     Memory,
 }

@@ -20,7 +20,7 @@ pub struct Step<'a, A: Allocator> {
     pub time: Ms,
     /// The action's name.
     pub action: &'a [u8],
-    /// The names that the action is about, in order.
+    /// The arguments of the action, in order.
     pub args: Vec<&'a [u8], A>,
     /// How long it lasts, where the line says so; in a plan never below 0.
     pub duration: Option<Ms>,

@@ -296,7 +296,7 @@ What to do: use a copy of the log, or take the site's records from the sites tha
         subject: Subject::Refusal(Code::OldFrame),
         meaning: "a frame of the old version can't be written",
         more: "\
-Frames of the first version are read and never written.\n\
+Frames of the old version are read and never written.\n\
 Usual cause: a program that uses the library of frames handed it one.\n\
 What to do: load the log, and save it: it is written in the new version.\n",
     },
@@ -345,7 +345,7 @@ What to do: use it, or give another name.\n",
         subject: Subject::Refusal(Code::OldVersion),
         meaning: "a site of an old version",
         more: "\
-The other site speaks the first version, which this one reads in files only.\n\
+The other site speaks the old version, which this one reads in files only.\n\
 What to do: use the same version of the program at both sites.\n",
     },
     Entry {
@@ -400,7 +400,7 @@ What to do: look whether `serve` runs there and has printed `listening`.\n",
         meaning: "a device failed while it was read",
         more: "\
 Usual causes: LOG is a folder, a disk has an error, or in an exchange the other site left or the time was over.\n\
-What to do: try again; for an exchange allow more time with --seconds. Nothing was changed here.\n",
+What to do: try again; for an exchange allow more time with --seconds.\n",
     },
     Entry {
         subject: Subject::Fault(Fault::Write),
@@ -422,7 +422,7 @@ What to do: give the right file; after a shell, begin another one.\n",
         subject: Subject::Fault(Fault::Memory),
         meaning: "memory ran out",
         more: "\
-A request for memory was refused, and all is as it was before.\n\
+A request for memory was refused; what failed changed nothing.\n\
 Usual cause: a limit that was set for the process.\n\
 What to do: raise the limit, and try again.\n",
     },

@@ -1,4 +1,4 @@
-ghost use Rattle.std.specs.{Prelude.{◌≡◌, ◌≢◌, ◌⊎◌, ℕ, ◌+◌, ◌*◌, ◌<◌, ◌≤◌, ◌↔◌, pos, neg_ℤ, ◌+ℤ◌, ◌≤ℤ◌, IsTrue, IfOk, length, take, All, Contains}, Int.int_min};
+ghost use Rattle.std.specs.Prelude.{◌≡◌, ◌≢◌, ◌⊎◌, ℕ, ◌+◌, ◌*◌, ◌<◌, ◌≤◌, ◌↔◌, pos, ◌+ℤ◌, ◌≤ℤ◌, IsTrue, IfOk, length, take, Contains};
 ghost use Rattle.stn_net.specs.{Difference.NamesEvents, Event.most_events, Matrix.{Closed.{IsClosed, IsWidest}, Table.{entry, entry_in}, Way.{shorter, narrower, IsImplied, HasRoom, IsWithinTwoHorizons, AreNearer, AreRunsOf, IsRowShortened, IsWrittenEntry}}};
 ghost use Rattle.stn_time.specs.Time.{horizon};
 

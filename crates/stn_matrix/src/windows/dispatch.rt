@@ -6,8 +6,8 @@ use std::alloc::Allocator;
 use stn_net::{Event, Next, is_left};
 use stn_time::Ms;
 
-/// Whether an event that is not done may run at a time: in some schedule of the bounds that the
-/// matrix took, it takes that time, and no other event that is not done comes before it.
+/// Whether an event is left and may run at a time: in some schedule of the bounds that the matrix
+/// took, it takes that time, and no other event that is left comes before it.
 pub fn ready<A: Allocator>(matrix: &Matrix<A>, done: &[bool], event: Event, time: Ms) -> bool
     requires one_each { length done.now ≡ matrix.now.events + 1 }
     requires within { event ≤ matrix.now.events }

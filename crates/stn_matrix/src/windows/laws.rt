@@ -17,7 +17,7 @@ pub fn rehearsal_unique()
     next_unique();
 }
 
-/// The law that something comes next from any time on, where the differences of the bounds are known and there is a test
+/// The law that something comes next from any time on, where the differences of the bounds are known and there is a flag
 /// for each event.
 pub fn something_comes_next()
     ensures { (bounds : List Difference) → (table : Table) → IsExact bounds table → (done : List Bool) → length done ≡ table.events + 1 → (now : ℤ)

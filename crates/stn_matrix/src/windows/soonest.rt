@@ -38,7 +38,7 @@ fn first_left(times: &[Ms], done: &[bool]) -> Option<(Ms, Event)>
 }
 
 /// The whole rest of the plan, by the soonest times of all events from some time on: each event that is
-/// left, at its time, by time and then by number.
+/// left, at its time, by time and then by number. It fails only if memory runs out.
 pub fn soonest_runs<A: Allocator>(
     alloc: A,
     times: &[Ms],

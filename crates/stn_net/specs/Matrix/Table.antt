@@ -13,7 +13,7 @@ entry_in entries place = slice_index_or entries place (pos 0)
 abbrev pub entry : Square → ℕ → ℕ → ℤ
 entry square x y = entry_in square.entries (x * (square.events + 1) + y)
 
--- such a square, and how often it was tightened by a bound, where a copy counts as one and as all that were copied
+-- such a square, and how many bounds it took; a copy adds one and the count of what was copied
 pub record Table : Type 0 where
   pub events : ℕ
   pub entries : List ℤ

@@ -1,4 +1,4 @@
--- Which event of a plan may run next, and when. A list of tests says which events are done, the origin's first.
+-- Which event of a plan may run next, and when. A list of flags says which events are done, the origin's first.
 use Rattle.std.specs.Prelude.{◌≡◌, ℕ, ℤ, ◌<◌, ◌≤◌, ◌≤ℤ◌, ◌↔◌, Bool, true, false, List, Option, Some, None, slice_index_or}
 use Rattle.stn_net.specs.{Difference.Difference, Schedule.IsSchedule, Windows.Window.IsInWindow, declared.windows.answers.Next.{Next, TheVariants.{Run, AllDone, Overdue}}}
 

@@ -12,17 +12,17 @@ use thiserror::Error;
 pub enum Next {
     /// The event runs at the time.
     Run(Ms, Event),
-    /// Every event is done.
+    /// No event is left.
     AllDone,
-    /// No event can run any more without another that comes too late: this is the least of those
-    /// whose windows have passed.
+    /// In every schedule some event that is left comes before now. This is the first, by number, that
+    /// is left and whose window has no time from now on.
     Overdue(Event),
 }
 
 /// Why a plan can't be rehearsed.
 #[derive(Clone, Copy, Debug, PartialEq, Eq, Error)]
 pub enum RehearseFault {
-    /// The window of this event has passed; the least such event.
+    /// The event of `Next::Overdue`.
     #[error("an event is overdue")]
     Overdue(Event),
     /// Memory ran out.

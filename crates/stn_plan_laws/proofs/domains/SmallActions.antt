@@ -1,8 +1,7 @@
 -- Conditions and effects in small letters.
-use Rattle.std.proofs.{Common.{rules, arith, ◌≡◌, ℕ, Bool, true, false, cond, List, [], ◌∷◌, ◌++◌, map, Option, Some, None, Result, Ok, Err, refl, sym, ap, ◌∙◌, position, codes}, lemmas.List.map-append}
+use Rattle.std.proofs.{Common.{rules, arith, ◌≡◌, ℕ, Bool, cond, List, map, Option, Result, refl}, lemmas.List.map-append}
 use Rattle.stn_text.specs.Faults.{◌>>=◌}
-use Rattle.stn_pddl.specs.{Tree.{Names.{folded, is_same_word}, Trees.{Trees, End, Word, Group, how_many}}, declared.{fault.DomainFault.{DomainFault, TheVariants.Syntax}, action.{Label.{Label, TheVariants.{StartCondition, OverAll, EndCondition, StartEffect, EndEffect}}, Side.{Side, TheVariants.Condition}, Form.{Form, TheVariants.{Plain, Timed}}}, word.Head.Head}, Words.{is_variable, is_key, head_of}, Atoms.{parameter_at, term, terms, atom, equality}, Schemas.{TermSchema, AtomSchema, ActionSchema, Constant, with_literal}, Conditions.{row, tree, equal_tree, literal, negated_tree, negated_first, negation, label_of, labelled}}
-use Rattle.stn_pddl.specs.declared.word.Head.TheVariants as head
+use Rattle.stn_pddl.specs.{Tree.{Names.folded, Trees.{Trees, End, Word, Group, how_many}}, declared.{fault.DomainFault.DomainFault, action.{Label.Label, Side.Side, Form.{Form, TheVariants.{Plain, Timed}}}, word.Head.Head}, Words.head_of, Atoms.{term, terms, atom, equality}, Schemas.{TermSchema, AtomSchema, ActionSchema, with_literal}, Conditions.{row, tree, equal_tree, literal, negated_tree, negated_first, negation, label_of, labelled}}
 use Rattle.stn_plan_laws.{specs.{Tree.Case.{in_small, mapped}, Case.{term_in_small, atom_in_small, action_in_small}}, proofs.domains.SmallWords.{same_first, same_variable, same_key, same_position, same_head}}
 
 -- one meaning after another, and a choice of two

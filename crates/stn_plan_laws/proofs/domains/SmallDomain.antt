@@ -1,12 +1,8 @@
 -- A domain in small letters has the actions of the domain in small letters.
-use Rattle.std.{proofs.{lemmas.{Grind.common_steps, List.map-append}, Common.{arith, rules, ◌≡◌, ℕ, ◌&&◌, List, [], ◌∷◌, ◌++◌, map, is_some, Option, Some, None, Result, Ok, Err, ℤ, refl, sym, ap, ◌∙◌, codes}}, specs.Option.option_map}
+use Rattle.std.{proofs.{lemmas.List.map-append, Common.{arith, rules, ◌≡◌, ℕ, List, [], ◌∷◌, map, is_some, Option, Result, ℤ, refl, ap, ◌∙◌}}, specs.Option.option_map}
 use Rattle.stn_text.specs.Faults.{◌>>=◌}
-use Rattle.stn_pddl.specs.{declared.{tree.scan.TreeFault.TreeFault, fault.DomainFault.{DomainFault, TheVariants.Syntax}, action.{Side.{Side, TheVariants.{Condition, Effect}}, Form.TheVariants.Timed}, word.{Item.Item, Field.Field, Key.Key, Section.Section}}, Tree.{Names.{folded, is_same_word}, Trees.{Trees, End, Word, Group}, Scan.tree_of}, Words.{item_of, key_of, section_of}, Schemas.{ActionSchema, bare_action}, Fields.{Listing, Values, no_values, parameters, parameters_behind_type, constant, duration, value_of, with_value, fields, field_value}, Actions.{timed_value, action_of_lists, action_of_values, named_action, is_taken, action}, Domains.{part, parts, is_title, root, domain_of_tree, domain_of_bytes, domain_of}}
-use Rattle.stn_pddl.specs.declared.word.Item.TheVariants as item
-use Rattle.stn_pddl.specs.declared.word.Field.TheVariants as field
-use Rattle.stn_pddl.specs.declared.word.Key.TheVariants as key
-use Rattle.stn_pddl.specs.declared.word.Section.TheVariants as section
-use Rattle.stn_plan_laws.{specs.{Tree.Case.{in_small, mapped, tree_in_small}, Case.{action_in_small, domain_in_small}}, proofs.{trees.Case.small_tree as small_row_of, domains.{SmallWords.{same_first, same_both, same_listed, same_name, same_item, same_key_of, same_section, same_time}, SmallActions.{mapped-then, mapped-either, small_list}}}}
+use Rattle.stn_pddl.specs.{declared.{tree.scan.TreeFault.TreeFault, fault.DomainFault.DomainFault, action.Side.{Side, TheVariants.{Condition, Effect}}, word.{Item.Item, Field.Field, Key.Key}}, Tree.{Names.folded, Trees.{Trees, End, Word, Group}, Scan.tree_of}, Words.{item_of, key_of}, Schemas.{ActionSchema, bare_action}, Fields.{Listing, Values, no_values, parameters, parameters_behind_type, constant, duration, value_of, with_value, fields, field_value}, Actions.{timed_value, action_of_lists, action_of_values, named_action, is_taken, action}, Domains.{part, parts, is_title, root, domain_of_tree, domain_of_bytes, domain_of}}
+use Rattle.stn_plan_laws.{specs.{Tree.Case.{in_small, mapped, tree_in_small}, Case.{action_in_small, domain_in_small}}, proofs.{trees.Case.small_tree as small_row_of, domains.{SmallWords.{same_first, same_both, same_listed, same_name, same_item, same_key_of, same_section, same_time}, SmallActions.{mapped-then, small_list}}}}
 
 -- parameters
 small_parameter : (line : ℕ) (word : List ℕ) (next : Trees) (before : List (List ℕ))

@@ -1,7 +1,7 @@
 -- Words in small letters stand for what the words stand for.
-use Rattle.std.{proofs.{lemmas.{List.length-map, Str.Ascii.lowercase-lowercase}, Common.{rules, ◌≡◌, ℕ, zero, suc, ◌+◌, ◌<◌, Bool, true, false, cond, ◌&&◌, eqb, List, [], ◌∷◌, map, take, drop, Some, None, refl, ap, ◌∙◌, arith, position, codes}}, specs.{Char.{to_ascii_lowercase, is_ascii_digit}, List.{list_any, prefix_len, position_or_len}, Str.{bytes_eq, all_ascii_digits}}}
+use Rattle.std.{proofs.{lemmas.{List.length-map, Str.Ascii.lowercase-lowercase}, Common.{rules, ◌≡◌, ℕ, zero, suc, ◌+◌, ◌<◌, Bool, true, false, cond, List, [], ◌∷◌, map, take, drop, refl, ap, ◌∙◌, arith, position}}, specs.{Char.{to_ascii_lowercase, is_ascii_digit}, List.{list_any, prefix_len, position_or_len}, Str.all_ascii_digits}}
 use Rattle.stn_time.specs.TimeOf.{is_numeral, fraction_of, parts_with, time_of}
-use Rattle.stn_pddl.specs.{Tree.Names.{folded, is_same_word}, Words.{begins_with_byte, is_variable, is_key, is_name, connectives, comparisons, assignments, is_other_logic, head_of, item_of, key_of, skipped, section_of}}
+use Rattle.stn_pddl.specs.{Tree.Names.{folded, is_same_word}, Words.{begins_with_byte, is_variable, is_key, is_name, is_other_logic, head_of, item_of, key_of, section_of}}
 use Rattle.stn_plan_laws.proofs.trees.Case.{same_test}
 
 folded-folded : (word : List ℕ) → folded (folded word) ≡ folded word

@@ -1,10 +1,8 @@
 -- The cause of a fault gives the fault: of the text of a plan, and of the steps of a plan in a domain.
-use Rattle.std.{proofs.{Common.{rules, ◌≡◌, ◌<◌, ◌≤◌, ◌+◌, ℕ, true, false, nat_lt, List, [], ◌∷◌, ◌++◌, length, Option, Result, Ok, Err, IsOk, refl, sym, ap, subst, ◌∙◌, arith, All}, lemmas.{Bool.{lt-ltb, le-ltb}, List.Elements.{All-head, All-tail}}}, specs.Option.option_to_list}
-use Rattle.stn_text.specs.Faults.{◌>>=◌, Unless}
+use Rattle.std.proofs.{Common.{rules, ◌≡◌, ◌<◌, ◌≤◌, ◌+◌, ℕ, false, List, [], ◌∷◌, ◌++◌, length, Err, IsOk, ap, subst, ◌∙◌, arith, All}, lemmas.List.Elements.{All-head, All-tail}}
 use Rattle.stn_pddl.specs.Schemas.{ActionSchema}
-use Rattle.stn_lift.{specs.{declared.{plan.fault.PlanFault.PlanFault, fault.LiftFault.LiftFault}, Plan.{Lines.lines_of, Steps.{PlannedStep, most_text, line_step, steps_of, plan_of}, Faults.{IsFirstLineFault, IsPlanCause as IsPlanCause}}, Activities.{Activity, activity_of, activities, IsFirstRefusedStep, IsLiftCause as IsLiftCause}}, proofs.{Steps.cause_of, PlanFacts.plan_of-many}}
+use Rattle.stn_lift.{specs.{declared.{plan.fault.PlanFault.PlanFault, fault.LiftFault.LiftFault}, Plan.{Lines.lines_of, Steps.{PlannedStep, most_text, line_step, steps_of, plan_of}, Faults.{IsFirstLineFault, IsPlanCause as IsPlanCause}}, Activities.{activity_of, activities, IsFirstRefusedStep, IsLiftCause as IsLiftCause}}, proofs.{Steps.cause_of, PlanFacts.plan_of-many}}
 use Rattle.stn_lift.specs.declared.plan.fault.PlanFault.TheVariants as plan
-use Rattle.stn_lift.specs.declared.fault.LiftFault.TheVariants as lifting
 use Rattle.stn_lift.specs.Plan.Steps as read
 use Rattle.stn_lift.specs.Activities as lifted
 

@@ -1,6 +1,6 @@
 -- When a plan made from texts has its steps.
-use Rattle.std.{specs.Prelude.slice_index_or, proofs.Common.{rules, ◌≡◌, ℕ, ◌+◌, ◌-◌, ◌*◌, pos, ◌+ℤ◌, suc, Bool, true, false, cond, List, [], ◌∷◌, ◌++◌, length, Some, Result, Ok, Err, refl, sym, ap, ◌∙◌, arith}}
-use Rattle.stn_text.{specs.Faults.{◌>>=◌}, proofs.Readings.bind_ok}
+use Rattle.std.{specs.Prelude.slice_index_or, proofs.Common.{rules, ◌≡◌, ℕ, ◌+◌, ◌-◌, ◌*◌, pos, ◌+ℤ◌, suc, Bool, cond, List, [], ◌∷◌, ◌++◌, length, Some, Result, Ok, Err, refl, sym, ap, ◌∙◌, arith}}
+use Rattle.stn_text.{specs.Faults.◌>>=◌, proofs.Readings.bind_ok}
 use Rattle.stn_pddl.specs.{Schemas.ActionSchema, Domains.action_named}
 use Rattle.stn_lift.{specs.{Plan.Steps.PlannedStep, declared.fault.LiftFault.{LiftFault, TheVariants.{Arity, DurationDiffers, PastHorizon}}, BaseBounds.times_behind, Activities.{Activity, activity, with_action, activity_of, activities}, PlanSource.{files, of_lift, source_with, base_of, planned_of}}, proofs.Texts.{lifted-Ok, texts_lifted}}
 use Rattle.stn_plan_laws.specs.PlannedTimes.{IsStepOf, IsPlannedAt}

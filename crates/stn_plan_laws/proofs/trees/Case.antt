@@ -1,7 +1,7 @@
 -- A text in small letters has the tree of the text, with its words in small letters.
-use Rattle.std.{proofs.{Common.{rules, ◌≡◌, ℕ, ◌+◌, ◌<◌, ◌≤◌, Bool, true, false, cond, eqb, nat_lt, List, [], ◌∷◌, length, map, Result, Ok, Err, refl, sym, ap, ◌∙◌, arith}, lemmas.List.length-map}, specs.Char.to_ascii_lowercase}
+use Rattle.std.{proofs.{Common.{rules, ◌≡◌, ℕ, ◌+◌, ◌<◌, ◌≤◌, Bool, eqb, List, [], ◌∷◌, map, Result, refl, arith}, lemmas.List.length-map}, specs.Char.to_ascii_lowercase}
 use Rattle.stn_text.specs.Faults.{◌>>=◌}
-use Rattle.stn_pddl.specs.{declared.tree.{bytes.Kind.{Kind, TheVariants.{Blank, Open, Close, Letter, Stray}}, scan.{TreeFault.{TreeFault, TheVariants.TooLong}, Place.{Place, TheVariants.Before}}}, Tree.{Bytes.{kind_of, kind_in, comment_after, line_after}, Names.folded, Scan.{most_text, place_after, scanned, tree_of}, Trees.{Trees, End, Word, Group, Rows, before_byte, is_letter, begins_word, rows_from}}}
+use Rattle.stn_pddl.specs.{declared.tree.{bytes.Kind.{Kind, TheVariants.Letter}, scan.{TreeFault.TreeFault, Place.Place}}, Tree.{Bytes.{kind_of, kind_in, comment_after, line_after}, Names.folded, Scan.{scanned, tree_of}, Trees.{Trees, Rows, before_byte, begins_word, rows_from}}}
 use Rattle.stn_plan_laws.specs.Tree.Case.{in_small, tree_in_small}
 
 -- the small letter for a byte, and what a byte is: no capital letter, or one

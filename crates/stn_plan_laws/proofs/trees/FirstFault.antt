@@ -1,5 +1,5 @@
 -- The first fault of a text lies at the first byte after which no text can go on, or at its end.
-use Rattle.std.proofs.{Common.{rules, ◌≡◌, ℕ, zero, suc, ◌+◌, ◌-◌, ◌≤◌, Bool, true, false, cond, nat_lt, List, [], ◌∷◌, ◌++◌, length, fold, Result, Ok, Err, IsOk, refl, sym, ap, ◌∙◌, arith}, lemmas.Bool.Decides.nat_tests}
+use Rattle.std.proofs.{Common.{rules, ◌≡◌, ℕ, zero, suc, ◌+◌, ◌-◌, ◌≤◌, Bool, true, false, List, [], ◌∷◌, ◌++◌, length, fold, Result, Ok, Err, IsOk, refl, ap, ◌∙◌}, lemmas.Bool.Decides.nat_tests}
 use Rattle.stn_pddl.{specs.{declared.tree.scan.{TreeFault.{TreeFault, TheVariants.Syntax}, Place.{Place, TheVariants.{Before, Inside, After}}}, Tree.{Bytes.{kind_of, kind_in, comment_after, line_after}, Scan.{most_text, place_after, ends_at, scanned, tree_of}, FirstFault.{IsOnLine, IsFirstFault, at_byte, at_end}}}, proofs.tree.{Scanned.{scanned-next, scanned-fault}, Faults.{place_after-line, tree_of-refused, tree_of-scanned}}}
 use Rattle.stn_text.specs.Faults.{◌>>=◌}
 

@@ -1,7 +1,7 @@
 -- Each tree of a text can be written.
-use Rattle.std.proofs.{Common.{rules, ◌≡◌, ℕ, suc, ◌+◌, ◌-◌, ◌<◌, ◌≤◌, Bool, true, false, cond, ◌==◌, nat_lt, List, [], ◌∷◌, Result, Ok, Err, refl, ap, subst, ◌∙◌, arith}, lemmas.Bool.{ltb-true, ltb-false}}
+use Rattle.std.proofs.{Common.{rules, ◌≡◌, ℕ, ◌+◌, ◌-◌, ◌<◌, ◌≤◌, Bool, true, false, cond, nat_lt, List, [], ◌∷◌, Result, Ok, Err, refl, arith}, lemmas.Bool.ltb-true}
 use Rattle.stn_text.specs.Faults.{◌>>=◌}
-use Rattle.stn_pddl.{specs.{declared.tree.{bytes.Kind.{Kind, TheVariants.{Blank, Open, Close, Letter, Stray}}, scan.{TreeFault.{TreeFault, TheVariants.{Syntax, TooDeep}}, Place.{Place, TheVariants.{Before, Inside, After}}}}, Tree.{Bytes.{kind_of, kind_in, comment_after, line_after}, Scan.{place_after, scanned, tree_of}, Trees.{Trees, End, Word, Group, Rows, before_byte, begins_word, word_len, rows_from}}}, proofs.tree.{Rows.{letter-outside, letter-begins, word_len-letter}, Faults.tree_of-rows}}
+use Rattle.stn_pddl.{specs.{declared.tree.{bytes.Kind.{Kind, TheVariants.{Blank, Open, Close, Letter, Stray}}, scan.{TreeFault.{TreeFault, TheVariants.TooDeep}, Place.{Place, TheVariants.{Before, Inside, After}}}}, Tree.{Bytes.{kind_of, kind_in, comment_after, line_after}, Scan.{place_after, scanned, tree_of}, Trees.{Trees, End, Word, Group, Rows, before_byte, begins_word, word_len, rows_from}}}, proofs.tree.{Rows.{letter-outside, word_len-letter}, Faults.tree_of-rows}}
 use Rattle.stn_plan_laws.specs.Tree.Written.{end_line, IsWord, IsWritable}
 
 -- rows that lie in one another can be written, the innermost from a line on and each other one from where that ends

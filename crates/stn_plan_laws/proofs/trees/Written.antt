@@ -1,7 +1,7 @@
 -- A row of trees that is written reads as that row.
 use Rattle.std.proofs.{lemmas.{Grind.common_steps, Bool.Decides.nat_tests}, Common.{rules, ◌≡◌, ◌≢◌, ℕ, zero, suc, ◌+◌, ◌-◌, ◌<◌, ◌≤◌, Bool, true, false, cond, nat_lt, List, [], ◌∷◌, ◌++◌, length, replicate, Result, Ok, Err, refl, ap, ◌∙◌, append_assoc, arith}}
 use Rattle.stn_text.specs.Bytes.{line_feed}
-use Rattle.stn_pddl.{specs.{declared.tree.{bytes.Kind.{Kind, TheVariants.{Blank, Letter}}, scan.{TreeFault.{TreeFault, TheVariants.TooDeep}, Place.{Place, TheVariants.{Before, Inside, After}}}}, Tree.{Bytes.{kind_of, comment_after, line_after}, Scan.{most_text, place_after, scanned, tree_of}, Trees.{Trees, End, Word, Group, Rows, before_open, is_letter, begins_word, word_len, rows_from}}}, proofs.tree.{Rows.{comment_after-token, line_after-token, rows-open, rows-close, rows-blank, rows-word}, Scanned.scanned-next, Faults.tree_of-Ok}}
+use Rattle.stn_pddl.{specs.{declared.tree.{bytes.Kind.TheVariants.{Blank, Letter}, scan.{TreeFault.{TreeFault, TheVariants.TooDeep}, Place.{Place, TheVariants.{Before, Inside, After}}}}, Tree.{Bytes.{kind_of, comment_after, line_after}, Scan.{most_text, place_after, scanned, tree_of}, Trees.{Trees, End, Word, Group, Rows, before_open, begins_word, word_len, rows_from}}}, proofs.tree.{Rows.{comment_after-token, line_after-token, rows-open, rows-close, rows-blank, rows-word}, Scanned.scanned-next, Faults.tree_of-Ok}}
 use Rattle.stn_plan_laws.specs.Tree.Written.{end_line, written, IsWritable}
 
 -- a row, and one around

@@ -16,7 +16,7 @@ written at (Word line word next) = replicate (line - at) line_feed ++ (word ++ 3
 written at (Group line children next) =
     replicate (line - at) line_feed ++ (40 ∷ (written line children ++ (41 ∷ written (end_line line children) next)))
 
--- one letter or more, and nothing else
+-- one byte of a word or more, and nothing else
 abbrev pub IsWord : List ℕ → Type 0
 IsWord word = (begins_word word ≡ true) × (word_len word ≡ length word)
 

@@ -2,8 +2,8 @@
 use Rattle.std.{proofs.{Common.{rules, ◌≡◌, ℕ, Bool, true, not, List, [], ◌∷◌, Option, Some, None, IfSome, Result, Ok, Err, refl, subst}, lemmas.Option.same_Some}, specs.{Prelude.option_map, Bool.then_some, Option.option_or, List.AllByRecursion}}
 use Rattle.stn_net.specs.Difference.{IsBoundWithin}
 use Rattle.stn_lift.{specs.{PlanSource.{PlanSource, events_of, IsSoundSource}, declared.fault.BaseFault.BaseFault}, proofs.SoundSource.base_sound}
-use Rattle.stn_records.{specs.{Record.IsProperRecord, declared.record.Record.Record, Maps.{AllFit}, Content.{Content, AllProper, no_content, joined_contents}}, proofs.{Proper.{empty_fits, union_fits}}}
-use Rattle.stn_site.{specs.{declared.faults.ReplicaFault.ReplicaFault, Bounds.RecordsName, Held.holding_state, SoundSite.IsSoundSite, Refusals.{records_name, take_refusal}}, proofs.{Refused.records_name-decides, Live.bounds_from_live}}
+use Rattle.stn_records.{specs.{Record.IsProperRecord, declared.record.Record.Record, Maps.AllFit, Content.{Content, AllProper, no_content, joined_contents}}, proofs.Proper.{empty_fits, union_fits}}
+use Rattle.stn_site.{specs.{declared.faults.ReplicaFault.ReplicaFault, Bounds.RecordsName, Held.holding_state, SoundSite.IsSoundSite, Refusals.take_refusal}, proofs.{Refused.records_name-decides, Live.bounds_from_live}}
 use Rattle.stn_wire.{specs.Frame.{FrameContent, old_hello, old_records, hello, records, IsFrame}, proofs.SaidBounds.said_bounds}
 use Rattle.stn_store.specs.{declared.log.{version.Version.{Version, TheVariants.{Old, New}}, fault.LoadFault.LoadFault}, Log.{Log, LogSoFar, so_far, opened, joined, taken_later, taken, all_taken, all_taken_by, IsLogAnswer, IsRest}}
 

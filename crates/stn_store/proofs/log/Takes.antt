@@ -1,6 +1,5 @@
 -- What a log makes of a frame, from what a base and a replica answer.
 use Rattle.std.{proofs.Common.{rules, ◌≡◌, true, not, Option, Some, None, Ok}, specs.Prelude.{unwrap_or, is_some}}
-use Rattle.stn_lift.specs.declared.fault.BaseFault.TheVariants as base
 use Rattle.stn_records.specs.Content.{Content}
 use Rattle.stn_site.specs.{Calls.{Leaves, took}, Held.Held, Refusals.take_refusal, declared.faults.ReplicaFault.ReplicaFault}
 use Rattle.stn_site.specs.declared.faults.ReplicaFault.TheVariants as replica

@@ -16,7 +16,7 @@ use stn_replica::Replica;
 use stn_site::SitePlan;
 use stn_wire::{Frame, FrameReader, Next};
 
-/// A site's copy of a plan by its log, of which at most 16,777,216 bytes are read. Each frame is taken before more is asked for.
+/// A site's copy of a plan by its log, of which at most 16,777,216 bytes are read, and one more. Each frame is taken before more is asked for.
 ///
 /// Faults: `Read`, `Memory`; else those of the frames in their order, and of one frame `Frame`, `LogForm`, `Base`, `Take`; where
 /// all whole frames were taken, `Bound` where the log goes on after what is read, else `LogForm` where it ends before the first

@@ -62,7 +62,8 @@ impl<A: Allocator + Copy> FrameReader<A> {
         }
     }
 
-    /// What comes next. It asks the reader for more only where no whole frame is left of what was read.
+    /// What comes next. It asks the reader for more only where no whole frame is left of what was read. Faults: `Read`; `Bound`,
+    /// where more than `MOST_BYTES` bytes come; `Memory`. It can be asked again only after a frame.
     pub fn next<R: Read>(&mut self, reader: &mut Counted<R>) -> Result<Next<A>, ReadFault>
         requires { IsReading self.old }
         ensures gives { GivesNext self.old self.new (R.remaining (counted_device reader.old)) (R.remaining (counted_device reader.new)) result }

@@ -1,4 +1,4 @@
-use Rattle.std.proofs.Common.{◌≡◌, ◌∙◌, length, refl, rules, arith}
+use Rattle.std.proofs.Common.{◌≡◌, ◌∙◌, refl, rules, arith}
 use Rattle.stn_conflict.proofs.Walks.{walk_of_start, levels_of_walk}
 use Rattle.stn_conflict.proofs.levels.levels_from.Goals as goal
 

@@ -1,4 +1,3 @@
-use Rattle.std.proofs.Common.{◌++◌}
 use Rattle.stn_conflict.proofs.Turned.{distances_of_turned}
 use Rattle.stn_conflict.proofs.reach.distances.Goals as goal
 

@@ -1,5 +1,5 @@
 use Rattle.std.proofs.Common.{◌++◌}
-use Rattle.stn_conflict.{specs.{Directions.facing, Relaxation.HasFound}, proofs.SoonestTimes.distances_of}
+use Rattle.stn_conflict.{specs.Relaxation.HasFound, proofs.SoonestTimes.distances_of}
 use Rattle.stn_conflict.proofs.reach.distances_from.Goals as goal
 
 pub returns-in-Some : goal.returns-in-Some

@@ -1,4 +1,3 @@
-use Rattle.std.proofs.Common.{◌++◌}
 use Rattle.stn_conflict.proofs.{Relaxing.network_of, Turned.{has_facing, network_facing}}
 use Rattle.stn_conflict.proofs.reach.search_from.Goals as goal
 

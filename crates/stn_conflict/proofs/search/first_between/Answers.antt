@@ -1,4 +1,4 @@
-use Rattle.std.proofs.{Common.{rules, ◌≡◌, ◌+◌, ◌-◌, ◌/◌, ◌∙◌, length, take, ap, refl, sym, arith}, lemmas.{Bool.false≢true, List.Elements.All-take}}
+use Rattle.std.proofs.{Common.{rules, ◌≡◌, ◌+◌, ◌-◌, ◌/◌, ◌∙◌, length, ap, refl, sym, arith}, lemmas.{Bool.false≢true, List.Elements.All-take}}
 use Rattle.stn_conflict.{specs.Relaxation.NamesAmong, proofs.{Relaxing.{among_events, estimates_more, network_before}, Tightness.schedule_earlier}}
 use Rattle.stn_conflict.proofs.search.first_between.Goals as goal
 

@@ -1,7 +1,7 @@
 use Rattle.std.{proofs.{Common.{◌≡◌, ℕ, ◌+◌, List, ◌++◌, length, sym, ◌∙◌, rules}, lemmas.{Bool.false≢true, List.{with_items_is, Elements.All-append}}}, specs.{Prelude.All, Vec.with_items}}
 use Rattle.stn_net.{proofs.Horizons.known_first, specs.{Difference.{Difference, NamesEvents}, Schedule.HasSchedule}}
 use Rattle.stn_conflict.specs.Listing.{ListedBounds}
-use Rattle.stn_guard.{specs.{Owners.owner_of, Making.IsGuardOf, Making.shared_arcs}, proofs.{Made.{made_guard, made_windows}, Whole.{can_first, can_second, AreNamed, noted, still_possible, whole_guard}, guarding.guard.{Given.Over, Goals.In-Some}}}
+use Rattle.stn_guard.{specs.{Owners.owner_of, Making.IsGuardOf}, proofs.{Made.{made_guard, made_windows}, Whole.{can_first, can_second, AreNamed, noted, still_possible, whole_guard}, guarding.guard.{Given.Over, Goals.In-Some}}}
 use Rattle.stn_guard.proofs.guarding.guard.Goals as goal
 
 -- the windows that were found are those of the bounds, which have a schedule

@@ -1,5 +1,4 @@
 use Rattle.std.{proofs.{Common.{rules, sym, subst, ◌∙◌, arith}, lemmas.List.{take_all, Sorted.IsPermutation-trans}}, specs.List.Sorted.IsPermutation}
-use Rattle.stn_lift.specs.PlanSource.{events_of}
 use Rattle.stn_replica.{specs.Rows.in_turn, proofs.Rows.{in_rows_next, named_of}}
 use Rattle.stn_replica.proofs.closest.closest_first.Goals as goal
 

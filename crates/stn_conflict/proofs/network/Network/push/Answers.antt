@@ -1,6 +1,6 @@
-use Rattle.std.proofs.Common.{◌+◌, [], ◌∷◌, ap, sym, subst, arith}
+use Rattle.std.proofs.Common.{[], ◌∷◌, ap, sym, subst, arith}
 use Rattle.stn_net.specs.Difference.{NamesEvents}
-use Rattle.stn_conflict.{specs.{declared.arcs.Direction.TheVariants.Forward, Listing.ListedBounds}, proofs.{Relaxing.network_more, Rows.rows_longer, Searches.tables_of}}
+use Rattle.stn_conflict.{specs.Listing.ListedBounds, proofs.{Relaxing.network_more, Rows.rows_longer, Searches.tables_of}}
 use Rattle.stn_conflict.proofs.network.Network.push.Goals as goal
 
 pub freshen-requires : goal.freshen-requires

@@ -1,4 +1,4 @@
-use Rattle.std.proofs.{Common.{rules, ◌≡◌, inl, inr, ◌*◌, ◌<◌, length, set, take, sym, ap, ◌∙◌, arith}, lemmas.{Bool.cases_eq, List.length-set}}
+use Rattle.std.proofs.{Common.{rules, ◌≡◌, inl, inr, ◌<◌, length, set, take, sym, ap, ◌∙◌, arith}, lemmas.{Bool.cases_eq, List.length-set}}
 use Rattle.stn_conflict.{specs.Relaxation.{row_of, IsCutAt}, proofs.Rows.{replaced_here, replaced_other, row_is, rows_cut}}
 use Rattle.stn_conflict.proofs.outgoing.Rows.cut.Goals as goal
 

@@ -1,4 +1,4 @@
-use Rattle.std.proofs.{Common.{◌≡◌, true, [], ◌∷◌, ◌++◌, length, set, ◌∙◌, arith}, lemmas.List.{length-set, Elements.All-push}}
+use Rattle.std.proofs.{Common.{◌≡◌, true, [], ◌∷◌, length, set, ◌∙◌, arith}, lemmas.List.{length-set, Elements.All-push}}
 use Rattle.stn_net.proofs.Closure.{schedule_before}
 use Rattle.stn_conflict.{specs.Relaxation.NamesAmong, proofs.Relaxing.{estimates_more, relaxed_push}}
 use Rattle.stn_conflict.proofs.relaxation.Search.freshen.Goals as goal

@@ -1,4 +1,4 @@
-use Rattle.std.proofs.Common.{◌+◌, append-nil, refl, sym, ap, ◌∙◌, arith}
+use Rattle.std.proofs.Common.{append-nil, refl, sym, ap, ◌∙◌, arith}
 use Rattle.stn_net.specs.Schedule.{times_of}
 use Rattle.stn_conflict.proofs.{Narrowing.{can_take, ends_narrowed, given_relaxed, old_own, some_floor}, Relaxing.among_events, Turned.{faced_ends, named_facing}}
 use Rattle.stn_conflict.proofs.windows.Ends.narrow.Goals as goal

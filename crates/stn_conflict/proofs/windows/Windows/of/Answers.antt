@@ -1,6 +1,6 @@
 use Rattle.std.proofs.{Common.{◌≡◌, ◌++◌, ℕ, List, length, ap, ◌∙◌, arith}, lemmas.List.take_all}
 use Rattle.stn_net.specs.Difference.{Difference}
-use Rattle.stn_conflict.{specs.{declared.{arcs.Direction.{Direction, TheVariants.{Forward, Backward}}, windows.Ends.Ends}, Relaxation.{HasFound, IsEnds}}, proofs.Relaxing.network_of}
+use Rattle.stn_conflict.{specs.{declared.{arcs.Direction.Direction, windows.Ends.Ends}, Relaxation.{HasFound, IsEnds}}, proofs.Relaxing.network_of}
 use Rattle.stn_conflict.proofs.windows.Windows.of.Goals as goal
 
 -- the ends by all bounds

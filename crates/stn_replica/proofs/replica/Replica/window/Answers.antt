@@ -1,4 +1,3 @@
-use Rattle.stn_site.specs.Bounds.{all_bounds}
 use Rattle.stn_replica.proofs.Sound.{settled_exact}
 use Rattle.stn_replica.proofs.replica.Replica.window.Goals as goal
 

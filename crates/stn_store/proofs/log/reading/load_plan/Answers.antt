@@ -1,5 +1,5 @@
 use Rattle.std.proofs.Common.{refl, ap, Ok, Err, option_map, ◌∙◌}
-use Rattle.stn_wire.{specs.{Frame.content, Stream.{pending, wire_fault, Held.Stream}}, proofs.Streams.measure_falls}
+use Rattle.stn_wire.{specs.{Frame.content, Stream.{pending, Held.Stream}}, proofs.Streams.measure_falls}
 use Rattle.stn_device.{specs.declared.whole.ReadFault.ReadFault, proofs.Known.{fails_more, fault_or, not_err}}
 use Rattle.stn_device.specs.declared.whole.ReadFault.TheVariants as stream
 use Rattle.stn_store.{specs.{Log.{Faults.of_stream, Opening.opened_so_far}, declared.log.fault.LoadFault.TheVariants.Read}, proofs.log.{Answered.{uncut, loaded}, Progress.{begun, read_on, used_within, next_held, refuses, shows_fault, closes, closes_empty, cuts, stream_fails, stream_open, stream_used, stream_bound, stream_read}}, proofs.Lacks.passed_on}

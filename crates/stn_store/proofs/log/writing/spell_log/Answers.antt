@@ -2,7 +2,7 @@ use Rattle.std.proofs.Common.{subst, ◌∙◌}
 use Rattle.stn_lift.specs.PlanSource.{PlanSource}
 use Rattle.stn_records.specs.Content.{Content, IsSound}
 use Rattle.stn_wire.{specs.Frame.{hello, records, IsFrame}, proofs.States.state_fits}
-use Rattle.stn_store.{specs.Log.log_held, proofs.log.Saved.{HasBase, saved_log}}
+use Rattle.stn_store.proofs.log.Saved.{HasBase, saved_log}
 use Rattle.stn_store.proofs.log.writing.spell_log.Goals as goal
 
 pub say-requires-2 : goal.say-requires-2

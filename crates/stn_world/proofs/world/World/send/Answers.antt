@@ -1,7 +1,7 @@
 use Rattle.std.{proofs.{Common.{◌≡◌, List, Ok, refl, sym, subst, ap, ◌∙◌, map}, lemmas.Result.err_from_is_err_and}, specs.{Prelude.IfOk, Rc.rc_value}}
 use Rattle.stn_records.specs.Content.{Content, part_of}
 use Rattle.stn_site.proofs.Values.{ok_not_err}
-use Rattle.stn_world.{specs.{Parts.holds_all, Sites.world_of, World.content_at}, proofs.{Sites.held_there, Calls.{held, sent_sound, sent_taken}, Sendings.{send_memory, part_made, part_refused, holds_there, part_free}, world.World.send.{Given.Over, Goals.In_ok-part}}}
+use Rattle.stn_world.{specs.{Sites.world_of, World.content_at}, proofs.{Sites.held_there, Calls.{held, sent_sound, sent_taken}, Sendings.{send_memory, part_made, part_refused, holds_there, part_free}, world.World.send.{Given.Over, Goals.In_ok-part}}}
 use Rattle.stn_world.proofs.Copies as copy
 use Rattle.stn_world.proofs.world.World.send.Goals as goal
 

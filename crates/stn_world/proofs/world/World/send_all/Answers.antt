@@ -1,4 +1,4 @@
-use Rattle.std.{proofs.{Common.{rules, true, List, refl, ap, ◌∙◌, map}, lemmas.Result.err_from_is_err_and}, specs.Rc.rc_value}
+use Rattle.std.{proofs.{Common.{rules, List, refl, ap, ◌∙◌, map}, lemmas.Result.err_from_is_err_and}, specs.Rc.rc_value}
 use Rattle.stn_records.specs.Content.{Content}
 use Rattle.stn_world.{specs.Sites.world_of, proofs.{Calls.{held, sent_sound, sent_taken}, Sendings.{send_memory, all_free}}}
 use Rattle.stn_world.proofs.Copies as copy
