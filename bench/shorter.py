@@ -258,7 +258,7 @@ def pruned(text):
 
 def with_imports(text, body):
     """Returns a file that imports the sets of lemmas that a body names."""
-    for name, path in (("rules", "Common"), ("arith", "Common"), ("common_steps", "lemmas.Grind")):
+    for name, path in (("rules", "Common"), ("arith", "Common"), ("common_steps", "lemmas.Grind"), ("elements", "lemmas.Grind")):
         if re.search(rf"\b{name}\b", body) and name not in imports(text):
             group = re.search(r"(?m)^use Rattle\.std\.[^\n]*?Common\.\{", text) if path == "Common" else None
             if group:

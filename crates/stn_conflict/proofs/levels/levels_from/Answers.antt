@@ -1,4 +1,4 @@
-use Rattle.std.proofs.Common.{◌≡◌, ◌∙◌, refl, rules, arith}
+use Rattle.std.proofs.{Common.{◌≡◌, ◌∙◌, refl, rules, arith}, lemmas.Grind.common_steps}
 use Rattle.stn_conflict.proofs.Walks.{walk_of_start, levels_of_walk}
 use Rattle.stn_conflict.proofs.levels.levels_from.Goals as goal
 
@@ -12,3 +12,6 @@ pub returns : goal.returns
 returns g c =
     let h = c.loop-place.invariant in
     levels_of_walk c.requires.far h.whole h.counted h.steps (omega (arith, c.loop-place-test.false, c.len.ensures))
+
+pub loop-place-smaller : goal.loop-place-smaller
+loop-place-smaller g c = grind (arith, common_steps)

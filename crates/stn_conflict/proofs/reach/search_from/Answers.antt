@@ -1,3 +1,4 @@
+use Rattle.std.proofs.{Common.arith, lemmas.Grind.common_steps}
 use Rattle.stn_conflict.proofs.{Relaxing.network_of, Turned.{has_facing, network_facing}}
 use Rattle.stn_conflict.proofs.reach.search_from.Goals as goal
 
@@ -14,3 +15,9 @@ returns-in-Some g c =
 pub returns-in-None : goal.returns-in-None
 returns-in-None g c = λ has.
     (rw (c.in-None.is, c.new-graph.ensures, c.in_ok-rows.ensures.first.faced) at c.in_ok-search.ensures) (has_facing c.args.direction has)
+
+pub new-graph-requires-clause-named : goal.new-graph-requires-clause-named
+new-graph-requires-clause-named g c = grind (arith, common_steps)
+
+pub of-requires : goal.of-requires
+of-requires g c = grind (arith, common_steps)

@@ -1,4 +1,4 @@
-use Rattle.std.proofs.Common.{◌++◌, arith}
+use Rattle.std.proofs.{Common.{◌++◌, arith}, lemmas.Grind.common_steps}
 use Rattle.stn_conflict.proofs.{CycleSums.negative_no_schedule, Found.{found_none, told_of_cycle}, Known.{known_first, known_within}, Relaxing.network_of}
 use Rattle.stn_conflict.proofs.search.cycle.Goals as goal
 
@@ -26,3 +26,12 @@ returns g c =
       places = told _ (λ cycle is. is.places);
       short = told _ (λ cycle is. is.short);
     }
+
+pub cycle_of-requires-clause-whole : goal.cycle_of-requires-clause-whole
+cycle_of-requires-clause-whole g c = grind (arith, common_steps)
+
+pub new-graph-requires-clause-named : goal.new-graph-requires-clause-named
+new-graph-requires-clause-named g c = grind (arith, common_steps)
+
+pub of-requires : goal.of-requires
+of-requires g c = grind (arith, common_steps)

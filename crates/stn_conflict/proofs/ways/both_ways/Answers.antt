@@ -1,4 +1,4 @@
-use Rattle.std.proofs.Common.{rules}
+use Rattle.std.proofs.{Common.{rules, arith}, lemmas.Grind.common_steps}
 use Rattle.stn_conflict.proofs.{Known.known_within, Relaxing.{network_of}}
 use Rattle.stn_conflict.proofs.ways.both_ways.Goals as goal
 
@@ -15,3 +15,15 @@ way-requires-clause-kept g c = search (rules, known_within)
 
 pub way-requires-2-clause-kept : goal.way-requires-2-clause-kept
 way-requires-2-clause-kept g c = search (rules, known_within)
+
+pub new-graph-requires-clause-named : goal.new-graph-requires-clause-named
+new-graph-requires-clause-named g c = grind (arith, common_steps)
+
+pub of-requires : goal.of-requires
+of-requires g c = grind (arith, common_steps)
+
+pub way-requires-2-clause-whole : goal.way-requires-2-clause-whole
+way-requires-2-clause-whole g c = grind (arith, common_steps)
+
+pub way-requires-clause-whole : goal.way-requires-clause-whole
+way-requires-clause-whole g c = grind (arith, common_steps)

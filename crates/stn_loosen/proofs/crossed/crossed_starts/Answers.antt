@@ -1,4 +1,4 @@
-use Rattle.std.proofs.{lemmas.{List.{get_or-take, length-map, nil_from_length}, Bool.false≢true}, Common.{rules, ◌≡◌, ◌≢◌, ◌<◌, [], ◌∷◌, ◌++◌, map, length, refl, sym, ap, subst, ◌∙◌, arith, eqb-true}}
+use Rattle.std.proofs.{lemmas.{List.{get_or-take, length-map, nil_from_length}, Bool.false≢true, Grind.common_steps}, Common.{rules, ◌≡◌, ◌≢◌, ◌<◌, [], ◌∷◌, ◌++◌, map, length, refl, sym, ap, subst, ◌∙◌, arith, eqb-true}}
 use Rattle.stn_net.{proofs.Horizons.known_within, specs.{Difference.{Difference, NamesEvents}, Horizon.horizon_bounds, Schedule.{Meets, HasSchedule}}}
 use Rattle.stn_conflict.specs.Arcs.{bound_at, IsNegativeCycle}
 use Rattle.stn_loosen.{specs.{Starting.{IsStart, AreCrossed}, Stepped.as_bound}, proofs.{StartBounds.span_at, StartCycles.{placed_cycle, crossed_cycle, left_out_met, chosen_left_out, chosen_more, all_met}, crossed.crossed_starts.{Given.Over, Goals.{After-index-starts-place, in-Some+in_ok-push+in_ok-push-2, in_default}}}}
@@ -77,3 +77,9 @@ returns g c =
     let possible = (rw c.in-None.is at c.in_ok-found.ensures.none).0 refl in
     all_met events all c.loop-place.chosen.items c.loop-place.places.items c.loop-place.place (omega (arith, length-map c.args.starts.now as_bound, c.loop-place-test.false)) c.loop-place.invariant
     (subst HasSchedule whole possible)
+
+pub cycle-requires-clause-base_named : goal.cycle-requires-clause-base_named
+cycle-requires-clause-base_named g c = grind (arith, common_steps)
+
+pub cycle-requires-clause-begins : goal.cycle-requires-clause-begins
+cycle-requires-clause-begins g c = grind (arith, common_steps)

@@ -45,3 +45,6 @@ returns g c =
     let at = (goal.at.returns g c).After-deref-4 in
     let possible = subst HasSchedule (all_are g at) (rw c.in-None.is at c.in_ok-links.ensures) in
     inr (starts_promise c.args.base.now c.loose_durations.ensures.sound c.args.tolerance slack possible, c.new.ensures.items)
+
+pub lines_of-requires-clause-few : goal.lines_of-requires-clause-few
+lines_of-requires-clause-few g c = grind (arith, common_steps)

@@ -1,6 +1,12 @@
-use Rattle.std.proofs.{Common.{Some, inl, inr, ◌++◌, length, drop, take, ap, ◌∙◌, rules, arith}, lemmas.{List.take_rest, Result.err_from_is_err_and}}
+use Rattle.std.proofs.{Common.{Some, inl, inr, ◌++◌, length, drop, take, ap, ◌∙◌, rules, arith}, lemmas.{List.take_rest, Result.err_from_is_err_and, Grind.common_steps}}
 use Rattle.stn_loosen.{specs.{Slack.IsSlack, Robust.HasPromise, Making.Loosening}, proofs.{Robustness.keeps_promise, MadeRobust.{AreParted, IsMadeRobust, are_steps, bounds_named, made_robust, made_promise, cause_after, records_named}, promise.make_robust.{Given.Over, Goals.{After-deref-2, In_ok-records}}}}
 use Rattle.stn_loosen.proofs.promise.make_robust.Goals as goal
+
+pub slice_bounds-from_slice-end : goal.slice_bounds-from_slice-end
+slice_bounds-from_slice-end g c = grind (arith, common_steps)
+
+pub slice_bounds-from_slice-count : goal.slice_bounds-from_slice-count
+slice_bounds-from_slice-count g c = grind (arith, common_steps)
 
 -- the copies are the parts of the loosened plan
 parted : (g : Over) (c : After-deref-2 g) → AreParted c.args.base.now c.args.tolerance c.in_ok-moving.moving c.deref.result.now c.deref-2.result.now
@@ -19,6 +25,9 @@ parted g c =
           ∙ ap (λ l. l ++ c.horizon_of.result.now) (c.in_ok-bounds.ensures.items ∙ take_rest c.records-loosened.result.now steps ∙ ap (drop steps) c.records-loosened.ensures.value)
           ∙ ap (λ l. drop steps records ++ l) c.horizon_of.ensures;
     })
+
+pub slice_bounds-from_slice-start : goal.slice_bounds-from_slice-start
+slice_bounds-from_slice-start g c = grind (arith, common_steps)
 
 pub after-requires : goal.after-requires
 after-requires g c = cc

@@ -1,4 +1,4 @@
-use Rattle.std.proofs.Common.{rules, ◌∷◌, ◌++◌, [], ap, ◌∙◌}
+use Rattle.std.proofs.{Common.{rules, ◌∷◌, ◌++◌, [], ap, ◌∙◌, arith}, lemmas.Grind.common_steps}
 use Rattle.stn_loosen.{proofs.StartBounds.{starts_more, starts_reach}}
 use Rattle.stn_loosen.proofs.starts.starts_of.Goals as goal
 
@@ -11,3 +11,6 @@ loop-bound-preserved g c =
     let is = c.in_ok-push-2.ensures.items ∙ ap (λ l. l ++ lower ∷ []) c.in_ok-push.ensures.items in
     let sides = c.moved_sides-upper.ensures in
     search (rules, starts_more, starts_reach)
+
+pub returns-clause-value : goal.returns-clause-value
+returns-clause-value g c = grind (arith, common_steps)

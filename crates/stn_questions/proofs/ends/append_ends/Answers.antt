@@ -1,7 +1,13 @@
-use Rattle.std.proofs.{Common.{◌≡◌, ◌++◌, neg_ℤ, ap, append_assoc, ◌∙◌}, lemmas.Result.on_ok_weaker}
+use Rattle.std.proofs.{Common.{◌≡◌, ◌++◌, neg_ℤ, ap, append_assoc, ◌∙◌, arith}, lemmas.{Result.on_ok_weaker, Grind.common_steps}}
 use Rattle.stn_lift.specs.PlanSource.{base_bounds}
 use Rattle.stn_questions.{specs.Why.end_text, proofs.Reasons.end_in_lines}
 use Rattle.stn_questions.proofs.ends.append_ends.Goals as goal
+
+pub append_link_lines-requires-clause-there : goal.append_link_lines-requires-clause-there
+append_link_lines-requires-clause-there g c = grind (arith, common_steps)
+
+pub append_link_lines-requires-2-clause-there : goal.append_link_lines-requires-2-clause-there
+append_link_lines-requires-2-clause-there g c = grind (arith, common_steps)
 
 pub returns : goal.returns
 returns g c =
@@ -21,3 +27,9 @@ returns g c =
     c.times_of-least.ensures.1 c.deref-6.ensures.value c.in_ok-append_time-2.ensures last
     ∙ (λ i. first i ++ end_text source state c.args.greatest_word.now ends.back.sum ends.back.links.items)
     ∙ append_assoc old _ _) c.append_link_lines-2.ensures.text
+
+pub append_link_lines-requires-2-clause-one_each : goal.append_link_lines-requires-2-clause-one_each
+append_link_lines-requires-2-clause-one_each g c = grind (arith, common_steps)
+
+pub append_link_lines-requires-clause-one_each : goal.append_link_lines-requires-clause-one_each
+append_link_lines-requires-clause-one_each g c = grind (arith, common_steps)

@@ -1,4 +1,4 @@
-use Rattle.std.proofs.{Common.{rules, ◌≡◌, ◌+◌, ◌++◌, length, ap, ◌∙◌, arith}}
+use Rattle.std.proofs.{Common.{rules, ◌≡◌, ◌+◌, ◌++◌, length, ap, ◌∙◌, arith}, lemmas.Grind.elements}
 use Rattle.stn_net.specs.{Schedule.times_of, Windows.{Soonest.AreLatest}}
 use Rattle.stn_lift.specs.PlanSource.{events_of, IsSoundSource}
 use Rattle.stn_site.specs.Bounds.{all_bounds}
@@ -20,3 +20,6 @@ returns-in-Some g c =
     let told = c.overdue.ensures all (events_of source) long (all_named source state sound c.in_ok-live.ensures.named) latest in
     let (times, schedule, at) = latest.taken 0 (omega arith) in
     search rules
+
+pub unwrap-event-requires : goal.unwrap-event-requires
+unwrap-event-requires g c = grind (arith, elements)

@@ -1,4 +1,4 @@
-use Rattle.std.proofs.Common.{[], ◌∷◌, ◌+◌, ◌++◌, ◌∙◌, ap, append_assoc, arith}
+use Rattle.std.proofs.{Common.{[], ◌∷◌, ◌+◌, ◌++◌, ◌∙◌, ap, append_assoc, arith}, lemmas.Grind.common_steps}
 use Rattle.stn_lift.specs.Plan.Views.{planned_step}
 use Rattle.stn_questions.{specs.Steps.step_name_text, proofs.Listing.names_grown}
 use Rattle.stn_questions.proofs.steps.append_name_lines.Goals as goal
@@ -11,3 +11,9 @@ loop-before-preserved g c =
     (omega arith) c.index-steps-before.is c.loop-before.invariant
     (c.in_ok-extend_from_slice.ensures.items ∙ ap (λ text. text ++ 10 ∷ []) c.in_ok-append_name.ensures
     ∙ append_assoc c.loop-before.out.items (step_name_text (place + 1) (planned_step step)) (10 ∷ []))
+
+pub returns-in_err-append_name : goal.returns-in_err-append_name
+returns-in_err-append_name g c = grind (arith, common_steps)
+
+pub returns-in_err-extend_from_slice : goal.returns-in_err-extend_from_slice
+returns-in_err-extend_from_slice g c = grind (arith, common_steps)

@@ -1,4 +1,4 @@
-use Rattle.std.proofs.Common.{◌<◌, length, arith}
+use Rattle.std.proofs.{Common.{◌<◌, length, arith}, lemmas.Grind.elements}
 use Rattle.stn_lift.specs.Plan.Views.{planned_step}
 use Rattle.stn_questions.proofs.Listing.{steps_grown}
 use Rattle.stn_questions.proofs.steps.append_step_lines.Goals as goal
@@ -10,3 +10,6 @@ loop-before-preserved g c =
     steps_grown planned_step c.args.steps.now c.args.durations.now place c.index-steps-before.result c.index-durations-before.result c.lo-duration.result
     c.args.out.now.items c.loop-before.out.items c.append_step_line.new.out.items
     there c.index-steps-before.is (omega arith) c.index-durations-before.is c.lo-duration.ensures.value c.loop-before.invariant c.in_ok-append_step_line.ensures
+
+pub returns-in_err-append_step_line : goal.returns-in_err-append_step_line
+returns-in_err-append_step_line g c = grind (arith, elements)

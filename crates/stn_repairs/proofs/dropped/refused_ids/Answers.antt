@@ -1,4 +1,4 @@
-use Rattle.std.proofs.{Common.{rules, ◌≡◌, ◌+◌, [], ◌∷◌, ◌++◌, ap, sym, subst, ◌∙◌}, lemmas.Bool.iff_false}
+use Rattle.std.proofs.{Common.{rules, ◌≡◌, ◌+◌, [], ◌∷◌, ◌++◌, ap, sym, subst, ◌∙◌, arith}, lemmas.{Bool.iff_false, Grind.common_steps}}
 use Rattle.stn_conflict.specs.Listing.{ListedBounds}
 use Rattle.stn_lift.specs.PlanSource.{base_bounds, events_of}
 use Rattle.stn_repairs.proofs.{Listing.named_at, Refusing.{IsRefusedSoFar, keeps_one, refuses_one, all_refused}, dropped.refused_ids.Goals.{then-not-branch+in_ok-push, else-not-branch}}
@@ -39,3 +39,6 @@ loop-id-preserved g c =
 
 pub returns : goal.returns
 returns g c = all_refused (base_bounds c.args.plan.now.source) c.args.order.now c.loop-id.id-index c.loop-id.refused.items c.loop-id.kept.bounds c.loop-id-test.false c.loop-id.invariant.so_far
+
+pub returns-in_err-push : goal.returns-in_err-push
+returns-in_err-push g c = grind (arith, common_steps)

@@ -14,3 +14,6 @@ pub returns-in-None-clause-same : goal.returns-in-None-clause-same
 returns-in-None-clause-same g c =
     let done = c.pieces.invariant.done in
     others_there _ _ _ done.0 _ done.1 (strip_prefix_is Decides-eqb c.pieces.left.now (take c.in-Ok.count c.read.new.buf) None c.in-None.ensures.cases) done.2 c.in-Ok.ensures.bytes.0
+
+pub returns-in-Ok-eq0-clause-same : goal.returns-in-Ok-eq0-clause-same
+returns-in-Ok-eq0-clause-same g c = grind (arith, common_steps)

@@ -24,3 +24,9 @@ returns-in-None g c =
     let found = subst (λ l. IsFront l unfinished) c.deref-2.ensures.value read in
     filled_none c.args.held.now.items c.args.piece.now c.requires c.in_ok-opening.opening c.in_ok-opening.ensures.taken c.fill.new.held.items c.in_ok-opening.ensures.filled
     c.in_ok-length.length wants c.in_ok-used.field-0 c.in_ok-used.ensures.taken c.fill-2.new.held.items c.in_ok-used.ensures.filled g.row.A.Denot found
+
+pub returns-in_err-opening : goal.returns-in_err-opening
+returns-in_err-opening g c = grind (arith, common_steps)
+
+pub returns-in_err-used : goal.returns-in_err-used
+returns-in_err-used g c = grind (arith, common_steps)

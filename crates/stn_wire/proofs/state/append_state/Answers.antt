@@ -1,4 +1,4 @@
-use Rattle.std.{proofs.Common.{length, ap, ◌∙◌, arith}, specs.FinMap.entries}
+use Rattle.std.{proofs.{Common.{length, ap, ◌∙◌, arith}, lemmas.Grind.common_steps}, specs.FinMap.entries}
 use Rattle.stn_records.specs.Content.{Content}
 use Rattle.stn_wire.proofs.States.{few_entries}
 use Rattle.stn_wire.proofs.state.append_state.Goals as goal
@@ -17,3 +17,6 @@ pub append_entries-requires : goal.append_entries-requires
 append_entries-requires g c =
     let read = c.entries-3.ensures.value ∙ ap entries (c.replacements.ensures ∙ ap (λ (s : Content). s.replacements) c.state-state.ensures.value) in
     omega (arith, ap length read, few_entries c.args.state.now c.state-state.ensures.sound)
+
+pub returns-clause-appended : goal.returns-clause-appended
+returns-clause-appended g c = grind (arith, common_steps)

@@ -1,4 +1,4 @@
-use Rattle.std.proofs.{Common.{◌≡◌, ◌<◌, [], ◌++◌, pos, get_or, length, append-nil, sym, ap, subst, ◌∙◌, arith}, lemmas.List.get_or_default}
+use Rattle.std.proofs.{Common.{◌≡◌, ◌<◌, [], ◌++◌, pos, get_or, length, append-nil, sym, ap, subst, ◌∙◌, arith}, lemmas.{List.get_or_default, Grind.common_steps}}
 use Rattle.stn_net.specs.{Schedule.times_of, Matrix.Tightest.IsTightest}
 use Rattle.stn_conflict.specs.{Directions.facing, Listing.ListedBounds, Relaxation.{AreDistances, Searched}}
 use Rattle.stn_conflict.proofs.network.Network.distance.Goals as goal
@@ -17,3 +17,6 @@ returns-clause-found g c =
     let is : c.index.result.now ≡ times_of c.find.new.self.far.items c.args.to =
     c.index.ensures ∙ ap (λ k. get_or c.find.new.self.far.items k c.index.result.now) at ∙ get_or_default c.find.new.self.far.items c.args.to c.index.result.now (pos 0) there in
     rw whole at (subst (λ m. IsTightest c.new-graph.result.bounds c.args.from c.args.to m) (sym is) (exact.tightest c.args.to there))
+
+pub new-graph-requires-clause-named : goal.new-graph-requires-clause-named
+new-graph-requires-clause-named g c = grind (arith, common_steps)

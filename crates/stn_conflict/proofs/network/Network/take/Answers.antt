@@ -1,4 +1,4 @@
-use Rattle.std.proofs.{Common.{◌≡◌, ◌+◌, [], ◌∷◌, ◌++◌, refl, sym, subst, ap, length, take, ◌∙◌, arith}, Math.Seq.take-append_seam, lemmas.Bool.true≢false}
+use Rattle.std.proofs.{Common.{◌≡◌, ◌+◌, [], ◌∷◌, ◌++◌, refl, sym, subst, ap, length, take, ◌∙◌, arith}, Math.Seq.take-append_seam, lemmas.{Bool.true≢false, Grind.common_steps}}
 use Rattle.stn_net.specs.{Difference.NamesEvents, Schedule.HasSchedule}
 use Rattle.stn_conflict.{specs.{declared.arcs.Direction.TheVariants.Forward, Listing.ListedBounds, Relaxation.{AreFirstRows, HasTables}}, proofs.{Relaxing.network_more, Rows.{first_own, rows_longer}, Searches.{pending_none, tables_of}, network.Network.take.{Given.Over, Goals.After-deref}}}
 use Rattle.stn_conflict.proofs.network.Network.take.Goals as goal
@@ -85,3 +85,9 @@ returns-in-Ok-true-clause-possible g c =
 
 pub returns-in-Ok-true-clause-refused : goal.returns-in-Ok-true-clause-refused
 returns-in-Ok-true-clause-refused g c = λ refused. absurd (true≢false refused)
+
+pub returns-clause-kept : goal.returns-clause-kept
+returns-clause-kept g c = grind (arith, common_steps)
+
+pub returns-clause-refused : goal.returns-clause-refused
+returns-clause-refused g c = grind (arith, common_steps)

@@ -1,4 +1,4 @@
-use Rattle.std.{proofs.{Common.{rules, ◌≡◌, inl, inr, ℕ, List, Bool, ◌+◌, ◌<◌, length, sym, ap, ◌∙◌, arith}, lemmas.{Int.ints, Bool.cases_eq, List.{get_or_read, length-set, Elements.All-set}}}, specs.Prelude.{ℤ, ◌<ℤ◌}}
+use Rattle.std.{proofs.{Common.{rules, ◌≡◌, inl, inr, ℕ, List, Bool, ◌+◌, ◌<◌, length, sym, ap, ◌∙◌, arith}, lemmas.{Int.ints, Bool.cases_eq, List.{get_or_read, length-set, Elements.All-set}, Grind.common_steps}}, specs.Prelude.{ℤ, ◌<ℤ◌}}
 use Rattle.stn_net.specs.Schedule.{times_of}
 use Rattle.stn_conflict.{specs.Relaxation.{AreRelaxed}, proofs.{Trying.begun_on, Lowering.{fallen_other, falls, floor_kept, relaxed_elsewhere}, Searches.unrefused, relaxation.Search.lower.{Given.Over, Goals.After-index_mut}}}
 use Rattle.stn_conflict.proofs.relaxation.Search.lower.Goals as goal
@@ -63,3 +63,6 @@ returns-clause-met g c =
     unrefused c.relax_until_met.result (AreRelaxed c.args.graph.now.bounds (times_of c.relax_until_met.new.self.far.items)) (λ e. c.relax_until_met.ensures.refused e low
     (floor_kept c.args.self.now.far.items c.from-place.result c.args.most l.there l.less floor (rw l.at under)))
     c.relax_until_met.ensures.met
+
+pub returns-then-get-clause-here : goal.returns-then-get-clause-here
+returns-then-get-clause-here g c = grind (arith, common_steps)

@@ -1,4 +1,4 @@
-use Rattle.std.proofs.{Common.{◌≡◌, [], ◌∷◌, ◌++◌, length, take, refl, ap, sym, subst, ◌∙◌, arith}, lemmas.List.{length-append, length-take, take-append-le, Elements.All-push}}
+use Rattle.std.proofs.{Common.{◌≡◌, [], ◌∷◌, ◌++◌, length, take, refl, ap, sym, subst, ◌∙◌, arith}, lemmas.{List.{length-append, length-take, take-append-le, Elements.All-push}, Grind.common_steps}}
 use Rattle.stn_net.specs.{Difference.NamesEvents, Schedule.HasSchedule}
 use Rattle.stn_conflict.{specs.{Listing.ListedBounds, Relaxation.IsEnds}, proofs.Narrowing.single_push}
 use Rattle.stn_conflict.proofs.windows.Windows.narrow.Goals as goal
@@ -29,3 +29,15 @@ invariant_of-self-2 g c =
       latest_are = rw onward at (latest bounds refl old.single (subst (λ d. IsEnds d is.events is.given is.bounds.items is.latest) (sym onward) old.latest_are) possible);
       earliest_are = rw back at (earliest bounds refl old.single (subst (λ d. IsEnds d is.events is.given is.bounds.items is.earliest) (sym back) old.earliest_are) possible);
     })
+
+pub narrow-requires-2-clause-ends : goal.narrow-requires-2-clause-ends
+narrow-requires-2-clause-ends g c = grind (arith, common_steps)
+
+pub narrow-requires-2-clause-network : goal.narrow-requires-2-clause-network
+narrow-requires-2-clause-network g c = grind (arith, common_steps)
+
+pub narrow-requires-clause-ends : goal.narrow-requires-clause-ends
+narrow-requires-clause-ends g c = grind (arith, common_steps)
+
+pub narrow-requires-clause-network : goal.narrow-requires-clause-network
+narrow-requires-clause-network g c = grind (arith, common_steps)

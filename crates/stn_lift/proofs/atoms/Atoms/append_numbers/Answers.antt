@@ -1,4 +1,4 @@
-use Rattle.std.proofs.{Common.{append_assoc, rules, ◌≡◌, ◌<◌, ◌++◌, ◌∷◌, map, length, get_or, sym, subst, []}, lemmas.{List.{map-append, take_more, get_or-map, length-map}, Grind.common_steps}}
+use Rattle.std.proofs.{Common.{append_assoc, rules, ◌≡◌, ◌<◌, ◌++◌, ◌∷◌, map, length, get_or, sym, subst, [], arith}, lemmas.{List.{map-append, take_more, get_or-map, length-map}, Grind.common_steps}}
 use Rattle.stn_pddl.specs.{Sound.IsSoundAtom, Views.{atom_schema, atoms_schema}}
 use Rattle.stn_lift.{specs.{Plan.Views.word_of, Numbering.AreNumbersOf}, proofs.NumberLists.{kept_along, numbers_kept, numbers_push, all_said}}
 use Rattle.stn_lift.proofs.atoms.Atoms.append_numbers.Goals as goal
@@ -26,3 +26,18 @@ loop-atom-preserved g c =
           (numbers_push new
           (numbers_kept old new c.in_ok-number.ensures.kept (c.loop-atom.invariant.numbers before are)) c.in_ok-number.ensures.number));
     }
+
+pub returns-clause-numbers : goal.returns-clause-numbers
+returns-clause-numbers g c = grind (arith, common_steps)
+
+pub returns-in_err-number-clause-kept : goal.returns-in_err-number-clause-kept
+returns-in_err-number-clause-kept g c = grind (arith, common_steps)
+
+pub returns-in_err-number-clause-numbers : goal.returns-in_err-number-clause-numbers
+returns-in_err-number-clause-numbers g c = grind (arith, common_steps)
+
+pub returns-in_err-push-clause-kept : goal.returns-in_err-push-clause-kept
+returns-in_err-push-clause-kept g c = grind (arith, common_steps)
+
+pub returns-in_err-push-clause-numbers : goal.returns-in_err-push-clause-numbers
+returns-in_err-push-clause-numbers g c = grind (arith, common_steps)

@@ -1,4 +1,4 @@
-use Rattle.std.proofs.{Common.{rules, ◌≡◌, ◌+◌, ◌<◌, ◌≤◌, ◌++◌, ◌∷◌, ◌∙◌, map, length, get_or, drop, ap, []}, lemmas.{List.{get_or-map, length-map, drop_all}, Result.err_from_is_err_and}}
+use Rattle.std.proofs.{Common.{rules, ◌≡◌, ◌+◌, ◌<◌, ◌≤◌, ◌++◌, ◌∷◌, ◌∙◌, map, length, get_or, drop, ap, [], arith}, lemmas.{List.{get_or-map, length-map, drop_all}, Result.err_from_is_err_and, Grind.elements}}
 use Rattle.stn_pddl.specs.Views.{action_schema}
 use Rattle.stn_lift.{specs.{Plan.Views.planned_step, Activities.{activity, activities}}, proofs.TimelineFacts.{behind, behind_all, fails_at, found_at, all_lifted}}
 use Rattle.stn_lift.proofs.timeline.Timeline.append_steps.Goals as goal
@@ -43,3 +43,6 @@ returns g c =
       );
       fault = tt;
     }
+
+pub push-requires-clause-timely : goal.push-requires-clause-timely
+push-requires-clause-timely g c = grind (arith, elements)

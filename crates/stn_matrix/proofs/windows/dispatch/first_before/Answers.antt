@@ -1,4 +1,4 @@
-use Rattle.std.proofs.{Common.{◌≡◌, ◌∙◌, arith, inl, inr, sym}, lemmas.{Bool.{false≢true, cases_eq, cases_lt}, Int.ints}}
+use Rattle.std.proofs.{Common.{◌≡◌, ◌∙◌, arith, inl, inr, sym}, lemmas.{Bool.{false≢true, cases_eq, cases_lt}, Int.ints, Grind.common_steps}}
 use Rattle.stn_matrix.proofs.windows.dispatch.first_before.Goals.{else-is_left-via-then-is_left+else-lt, else-is_left-via-else-is_left}
 use Rattle.stn_matrix.proofs.windows.dispatch.first_before.Goals as goal
 
@@ -23,3 +23,6 @@ returns-then-lt-clause-past g c =
         | inr after ↦ rw is after
       ];
     }
+
+pub returns-clause-none : goal.returns-clause-none
+returns-clause-none g c = grind (arith, common_steps)

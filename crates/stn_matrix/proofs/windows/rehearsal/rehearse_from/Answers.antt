@@ -1,4 +1,4 @@
-use Rattle.std.{proofs.{Common.{◌≡◌, true, [], ◌∷◌, ◌++◌, drop, length, ◌∙◌, arith, rules}, lemmas.List.take_at}, specs.Prelude.slice_set}
+use Rattle.std.{proofs.{Common.{◌≡◌, true, [], ◌∷◌, ◌++◌, drop, length, ◌∙◌, arith, rules}, lemmas.{List.take_at, Grind.common_steps}}, specs.Prelude.slice_set}
 use Rattle.stn_matrix.proofs.UnderWay.{under_way_at_first, under_way_further, rehearsal_at_end}
 use Rattle.stn_matrix.proofs.windows.rehearsal.rehearse_from.Goals as goal
 
@@ -39,3 +39,6 @@ pub returns : goal.returns
 returns g c = λ bounds exact.
     rehearsal_at_end bounds c.args.done.now c.args.now c.loop-answer.runs.items c.loop-answer.tightened c.loop-answer.finished.items c.loop-answer.answer
     (c.loop-answer.invariant.under_way bounds exact) c.in_default.not-Run
+
+pub loop-answer-smaller : goal.loop-answer-smaller
+loop-answer-smaller g c = grind (arith, common_steps)

@@ -1,4 +1,4 @@
-use Rattle.std.proofs.{Common.{◌≤◌, sym, subst, ◌∙◌, arith}, lemmas.Bool.false≢true}
+use Rattle.std.proofs.{Common.{◌≤◌, sym, subst, ◌∙◌, arith}, lemmas.{Bool.false≢true, Grind.common_steps}}
 use Rattle.stn_records.{specs.Content.{Content, AllAmend, known_count, most_known}, proofs.{Lists.same_lists, records.Records.from_lists.Goals.{then-not-all_amend-via-then-not-all_amend, then-not-all_amend-via-else-not-all_amend+then-known-gt-MOST_KNOWN}}}
 use Rattle.stn_records.proofs.records.Records.from_lists.Goals as goal
 
@@ -10,3 +10,9 @@ returns-then-not-all_amend-clause-all g c s sound p q r =
       | then-not-all_amend-via-then-not-all_amend w ↦ false≢true (sym w.if-not-all_amend.true ∙ c.all_amend.ensures.1 (subst AllAmend (sym is) sound.amends))
       | then-not-all_amend-via-else-not-all_amend+then-known-gt-MOST_KNOWN w ↦ (let few : known_count c.in_ok-state.state ≤ most_known = subst (λ t. known_count t ≤ most_known) (sym is) sound.limited in omega (arith, few, w.known.ensures, w.if-known-gt-MOST_KNOWN.true))
     ])
+
+pub invariant_of-result : goal.invariant_of-result
+invariant_of-result g c = grind (arith, common_steps)
+
+pub returns-clause-sound : goal.returns-clause-sound
+returns-clause-sound g c = grind (arith, common_steps)

@@ -1,4 +1,4 @@
-use Rattle.std.proofs.{Common.{◌≡◌, ℤ, pos, ◌+◌, ◌≤◌, ◌++◌, slice_index_or, sym, ap, ◌∙◌, false, arith, append_assoc}, lemmas.List.get_or_default}
+use Rattle.std.proofs.{Common.{◌≡◌, ℤ, pos, ◌+◌, ◌≤◌, ◌++◌, slice_index_or, sym, ap, ◌∙◌, false, arith, append_assoc}, lemmas.{List.get_or_default, Grind.common_steps}}
 use Rattle.stn_net.specs.Event.{most_events}
 use Rattle.stn_lift.specs.PlanSource.{events_of}
 use Rattle.stn_site.{specs.{Bounds.all_bounds, Lines.window_line, Report.is_done, Windows.window_at}, proofs.{Printing.one_more_line, Values.held_is}}
@@ -34,3 +34,6 @@ loop-before-preserved g c =
       );
       short = omega (arith, c.loop-before.invariant.short, c.in_ok-append_window_line.ensures.short);
     }
+
+pub returns-clause-part : goal.returns-clause-part
+returns-clause-part g c = grind (arith, common_steps)

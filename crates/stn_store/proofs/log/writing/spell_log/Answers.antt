@@ -1,4 +1,4 @@
-use Rattle.std.proofs.Common.{subst, ◌∙◌}
+use Rattle.std.proofs.{Common.{subst, ◌∙◌, arith}, lemmas.Grind.common_steps}
 use Rattle.stn_lift.specs.PlanSource.{PlanSource}
 use Rattle.stn_records.specs.Content.{Content, IsSound}
 use Rattle.stn_wire.{specs.Frame.{hello, records, IsFrame}, proofs.States.state_fits}
@@ -16,3 +16,6 @@ returns-clause-loaded g c =
     (subst (λ (s : PlanSource). IsFrame (hello s)) source c.in_ok-say.ensures.sound)
     (subst (λ (s : Content). IsFrame (records s)) state c.in_ok-say-2.ensures.sound)
     (subst HasBase c.base.ensures c.source.ensures.sound.based) c.records-records.ensures.named (subst IsSound state c.known.ensures.sound)
+
+pub say-requires : goal.say-requires
+say-requires g c = grind (arith, common_steps)

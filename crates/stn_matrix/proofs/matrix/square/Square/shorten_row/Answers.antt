@@ -1,4 +1,4 @@
-use Rattle.std.{proofs.{Common.{SFits, rules, subst, ap, ◌≡◌, pos, ◌+◌, ◌*◌, ◌<◌, ◌≤◌, ◌<ℤ◌, ◌+ℤ◌, set, w64, to_z, of_z, inl, inr, length, sym, ◌∙◌, arith}, lemmas.{Int.{ints, clamps, to_z-of_z}, List.with_items_is}}, specs.{Prelude.slice_index_or, Int.int_min}}
+use Rattle.std.{proofs.{Common.{SFits, rules, subst, ap, ◌≡◌, pos, ◌+◌, ◌*◌, ◌<◌, ◌≤◌, ◌<ℤ◌, ◌+ℤ◌, set, w64, to_z, of_z, inl, inr, length, sym, ◌∙◌, arith}, lemmas.{Int.{ints, clamps, to_z-of_z}, List.with_items_is, Grind.{common_steps, rows}}}, specs.{Prelude.slice_index_or, Int.int_min}}
 use Rattle.stn_net.specs.Matrix.{Table.{entry, entry_in}, Way.{IsWholeSquare, IsRowShortened}}
 use Rattle.stn_matrix.proofs.Entries.{shortened_column, shortened_run, shortened_columns, written-set}
 use Rattle.stn_matrix.proofs.matrix.square.Square.shorten_row.Goals as goal
@@ -83,3 +83,9 @@ returns-clause-shortened g c =
     let items = with_items_is c.self.inside.entries c.loop-place.entries (omega arith) in
     let events_same : c.self.inside.events ≡ events = ap (λ s. s.events) c.self.view_is in
     rw (items, events_same) done
+
+pub invariant_of-self : goal.invariant_of-self
+invariant_of-self g c = grind (arith, common_steps)
+
+pub slice_copy_out-way : goal.slice_copy_out-way
+slice_copy_out-way g c = grind (ints, arith, common_steps, rows)

@@ -9,3 +9,12 @@ returns-in_ok-extend_from_slice-in-Ok-clause-filled g c = (
   grind (arith, common_steps),
   grind (arith, common_steps),
 )
+
+pub invariant_of-self-in-Ok : goal.invariant_of-self-in-Ok
+invariant_of-self-in-Ok g c = grind (arith, common_steps)
+
+pub slice_bounds-buffer-end-in-Ok : goal.slice_bounds-buffer-end-in-Ok
+slice_bounds-buffer-end-in-Ok g c = grind (arith, common_steps)
+
+pub slice_bounds-extend_from_slice-end : goal.slice_bounds-extend_from_slice-end
+slice_bounds-extend_from_slice-end g c = grind (arith, common_steps)

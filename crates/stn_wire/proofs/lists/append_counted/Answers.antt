@@ -1,0 +1,5 @@
+use Rattle.std.proofs.{Common.arith, lemmas.Grind.common_steps}
+use Rattle.stn_wire.proofs.lists.append_counted.Goals as goal
+
+pub returns-clause-appended : goal.returns-clause-appended
+returns-clause-appended g c = grind (arith, common_steps)
