@@ -22,7 +22,7 @@ ready_between bounds table done event last time exact one_each left leads least 
 )
 
 -- and from now on, from the later of now and its earliest time
-pub ready_from_now : (bounds : List Difference) (table : Table) (done : List Bool) (event : ℕ) (now early first last : ℤ) → IsExact bounds table
+ready_from_now : (bounds : List Difference) (table : Table) (done : List Bool) (event : ℕ) (now early first last : ℤ) → IsExact bounds table
     → length done ≡ table.events + 1 → IsLeft done event → MayLead (far_of table) done event → IsLeastLatest (far_of table 0) done last
     → early ≡ earliest (far_of table) event → first ≡ ord_max int_cmp early now
     → (time : ℤ) → ((now ≤ℤ time) × IsReady bounds done event time) ↔ ((first ≤ℤ time) × (time ≤ℤ last))

@@ -4,8 +4,8 @@
 
 pub use matrix::Matrix;
 pub use windows::{
-    next, next_unique, overdue, ready, ready_times, rehearsal_unique, rehearse,
-    rehearsed_or_overdue, something_comes_next, soonest_next, soonest_runs, window,
+    next, next_unique, overdue, ready, rehearsal_unique, rehearse, rehearsed_or_overdue,
+    something_comes_next, soonest_next, soonest_runs, window,
 };
 
 mod matrix;

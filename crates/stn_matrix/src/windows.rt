@@ -4,7 +4,7 @@
 //! A list of flags says which events are done: one for each event, the origin's first. The origin's
 //! counts for nothing.
 
-pub use dispatch::{next, ready, ready_times};
+pub use dispatch::{next, ready};
 pub use ends::window;
 pub use laws::{next_unique, rehearsal_unique, rehearsed_or_overdue, something_comes_next};
 pub use rehearsal::rehearse;

@@ -1,7 +1,6 @@
 //! One site's replica of a plan: what it holds, with how far apart its events can be, and the rest of its plan.
 #![tactic(auto)]
 
-pub use dispatch::flags_of;
 pub use replica::Replica;
 pub use stn_site::{BoundName, ReplicaFault};
 

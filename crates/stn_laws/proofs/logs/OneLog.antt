@@ -27,10 +27,6 @@ no_frame more log frame tail meaning h e = by meaning e
     by (Err Bound) e = let bad = front unfinished e.1 in cc
     by (Err other) e = e
 
--- a whole log is no other answer
-whole_alone : (more : Bool) (log : Option LogSoFar) (behind : List ℕ) (one : Log) (meaning : Result Log LoadFault) → IsEnding more behind log (Ok one) → IsEnding more behind log meaning → Ok one ≡ meaning
-whole_alone more log behind one meaning p q = search rules
-
 one_ending : (more : Bool) (log : Option LogSoFar) (behind : List ℕ) (a b : Result Log LoadFault) → IsEnding more behind log a → IsEnding more behind log b → a ≡ b
 one_ending more log behind a b p q = search rules
 

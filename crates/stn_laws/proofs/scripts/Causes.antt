@@ -1,13 +1,12 @@
 -- Each cause for which a command is declined is a refusal, and never a fault of a device or of memory.
-use Rattle.std.{proofs.{Common.{rules, ℕ, ℤ, Bool, true, false, cond, List, [], ◌∷◌, length, Option, Some, None, IfSome, IfErr, arith}, lemmas.Grind.common_steps}, specs.{Option.option_map, Prelude.{◌==◌, option_and_then}}}
+use Rattle.std.{proofs.{Common.{rules, ℕ, Bool, true, false, cond, List, [], ◌∷◌, length, Option, Some, None, IfSome, IfErr, arith}, lemmas.Grind.common_steps}, specs.{Option.option_map, Prelude.{◌==◌, option_and_then}}}
 use Rattle.stn_refusal.specs.declared.failure.Failure.{Failure, TheVariants.{Refused, Failed}}
 use Rattle.stn_text.specs.Numbers.{number_of}
-use Rattle.stn_records.specs.Content.{Content}
-use Rattle.stn_site.specs.{declared.{faults.ReplicaFault.ReplicaFault, change.Change.Change}, Failures.replica_failure, Held.Held, Change.change_refusal, Refusals.take_refusal}
+use Rattle.stn_site.specs.{declared.faults.ReplicaFault.ReplicaFault, Failures.replica_failure}
 use Rattle.stn_questions.specs.declared.words.Outlook.{Outlook}
 use Rattle.stn_world.specs.{World.{World}, Steps.{Step, step_refusal, send_refusal}}
-use Rattle.stn_command.specs.Words.{time_read, times_read, side_read, bound_between}
-use Rattle.stn_exec.specs.Command.{Action, change, query, sites_command, bound_asked, add_of, amend_of, done_of, send_of, check_read, check_of, why_of, outlook_or_alone, action_of, command_of}
+use Rattle.stn_command.specs.Words.{times_read}
+use Rattle.stn_exec.specs.Command.{Action, change, query, sites_command, add_of, amend_of, done_of, send_of, check_read, check_of, why_of, outlook_or_alone, action_of, command_of}
 
 -- the failure is a refusal
 abbrev pub HasRefusal : Failure → Type 0
@@ -18,37 +17,15 @@ HasRefusal (Failed fault) = ⊥
 abbrev OfReplica : ReplicaFault → Type 0
 OfReplica fault = HasRefusal (replica_failure fault)
 
-change_fits : (held : Held) (asked : Change) → IfSome (change_refusal held asked) OfReplica
-change_fits held asked = grind (arith)
-
-take_fits : (held : Held) (other : Content) → IfSome (take_refusal held other) OfReplica
-take_fits held other = grind (arith)
-
-replica_fits : (found : Option ReplicaFault) → IfSome found OfReplica → IfSome (option_map replica_failure found) HasRefusal
-replica_fits found one = grind (arith)
-
 pub step_fits : (world : World) (step : Step) → IfSome (step_refusal world step) HasRefusal
 step_fits world step = search rules
 
 pub send_fits : (world : World) (site : ℕ) (held : Bool) → IfSome (send_refusal world site held) HasRefusal
 send_fits world site held = grind (arith)
 
--- ---- the words of times
-time_fits : (word : List ℕ) → IfErr (time_read word) HasRefusal
-time_fits word = grind (arith)
-
 times_fits : (words : List (List ℕ)) → IfErr (times_read words) HasRefusal
 times_fits [] = tt
 times_fits (word ∷ words) = grind (arith, times_fits words)
-
-side_fits : (open_side : ℤ) (word : Option (List ℕ)) → IfErr (side_read open_side word) HasRefusal
-side_fits open_side word = grind (arith)
-
-between_fits : (from to : ℕ) (lo hi : Option (List ℕ)) → IfErr (bound_between from to lo hi) HasRefusal
-between_fits from to lo hi = grind (arith)
-
-bound_fits : (words : List (List ℕ)) → IfSome (bound_asked words) (λ bound. IfErr bound HasRefusal)
-bound_fits words = grind (arith)
 
 -- ---- the forms of commands
 -- what the action asks for could be read, or is refused
@@ -65,9 +42,6 @@ amend_fits words = grind (arith)
 
 done_fits : (words : List (List ℕ)) → IfSome (done_of words) IsReadOrRefused
 done_fits words = grind (arith)
-
-number_fits : (make : ℕ → Action) (found : Option ℕ) → ((number : ℕ) → IsReadOrRefused (make number)) → IfSome (option_map make found) IsReadOrRefused
-number_fits make found each = grind (arith)
 
 items_fits : (words : List (List ℕ)) → IfSome (send_of words) IsReadOrRefused
 items_fits words = grind (arith)

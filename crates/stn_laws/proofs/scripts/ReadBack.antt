@@ -1,5 +1,5 @@
 -- The printed line of a bound is read by an addition as the bound.
-use Rattle.std.{proofs.{lemmas.{Grind.common_steps, Bool.{eqb-true, and_from}, Fmt.{digits_decimal, digits_value-decimal}, Int.ints, List.{Folds.list_all-append, Splits.{slice_split_at, slice_split_none}, Sums.AllPass-from_list_all}}, Common.{rules, ◌≡◌, ℕ, ◌+◌, ◌-◌, ◌*◌, ◌/◌, ◌%◌, ◌<◌, ◌≤◌, ◌^◌, Bool, true, false, ◌==◌, cond, not, List, [], ◌∷◌, ◌++◌, length, ℤ, neg_ℤ, Option, Some, Ok, Err, codes, decimal, refl, sym, ap, ◌∙◌, arith, append_assoc, append-nil, bytes_eq}}, specs.{Prelude.unsigned_abs, Fmt.sign_text, List.{All, list_all}, Ordering.int_eq, Str.{all_ascii_digits, Parse.digits_value}}}
+use Rattle.std.{proofs.{lemmas.{Grind.common_steps, Bool.{eqb-true, and_from}, Fmt.{digits_decimal, digits_value-decimal}, Int.ints, List.{Folds.list_all-append, Splits.{slice_split_at, slice_split_none}, Sums.AllPass-from_list_all}}, Common.{rules, ◌≡◌, ℕ, ◌+◌, ◌-◌, ◌*◌, ◌/◌, ◌%◌, ◌<◌, ◌≤◌, ◌^◌, Bool, true, false, ◌==◌, cond, not, List, [], ◌∷◌, ◌++◌, ℤ, neg_ℤ, Option, Some, Ok, Err, codes, decimal, refl, sym, ap, ◌∙◌, arith, append_assoc, append-nil, bytes_eq}}, specs.{Prelude.unsigned_abs, Fmt.sign_text, List.{All, list_all}, Ordering.int_eq, Str.{all_ascii_digits, Parse.digits_value}}}
 use Rattle.std.specs.FinMap as map
 use Rattle.stn_text.{specs.Lines.{is_gap, is_word, words_of}, proofs.Digits.own}
 use Rattle.stn_time.{specs.{Time.{horizon, IsWithinHorizon}, Text.{printed, whole_text, three_digits}, TimeOf.time_of, declared.reading.TimeFault.TheVariants.Malformed}, proofs.Prints.{time_of-printed, decimal-whole_text}}
@@ -66,9 +66,6 @@ no_gap-append xs ys e f = search (rules, list_all-append)
 is_word-append : (xs ys : List ℕ) → is_word ys ≡ true → is_word (xs ++ ys) ≡ true
 is_word-append [] ys e = e
 is_word-append (x ∷ xs) ys e = refl
-
-some_word : (xs : List ℕ) → 0 < length xs → is_word xs ≡ true
-some_word xs lt = search rules
 
 -- the printed event is one word
 event_word-by : (event : ℕ) (zero odd : Bool) → event ≤ 512
@@ -189,15 +186,6 @@ named_back name bound is readable = (
   refl,
   reads_back _ _ [] bound readable (name_word name is) refl (sym (append-nil _)),
 )
-
-done_apart : (done : Bool) → is_apart (done_text done) ≡ true
-done_apart done = search rules
-
-amends_apart : (old : Option SiteCounter) → is_apart (amends_text old) ≡ true
-amends_apart old = search rules
-
-where_apart : (so : Bool) (word : List ℕ) → is_apart word ≡ true → is_apart (word_where so word) ≡ true
-where_apart so word e = search rules
 
 -- what stands after the bound of a record
 abbrev behind : Content → SiteCounter → Record → List ℕ

@@ -1,21 +1,15 @@
 -- The commands of a script are a run of the world's steps.
-use Rattle.std.{proofs.{Common.{rules, ◌≡◌, ◌↔◌, ℕ, ℤ, ◌+◌, Bool, true, false, cond, List, [], ◌∷◌, ◌++◌, length, Option, Some, None, Result, Ok, inl, inr, option_map, option_to_list, refl, sym, ap, subst, ◌∙◌, append_assoc}, lemmas.{Bool.false≢true, Option.none-some, List.Sums.fold-append}}, specs.{Prelude.option_and_then, Result.result_ok}}
+use Rattle.std.{proofs.{Common.{rules, ◌≡◌, ◌↔◌, ℕ, ℤ, ◌+◌, Bool, true, false, cond, List, [], ◌∷◌, ◌++◌, length, Option, Some, None, Ok, inl, inr, option_to_list, refl, sym, ap, subst, ◌∙◌, append_assoc}, lemmas.{Bool.false≢true, Option.none-some, List.Sums.fold-append}}, specs.Prelude.option_and_then}
 use Rattle.stn_lift.specs.PlanSource.{PlanSource, events_of}
 use Rattle.stn_text.specs.Lines.{lines_of, words_of}
-use Rattle.stn_site.specs.{Bounds.all_bounds, Report.{IsReport, done_events}, Held.holding_state, declared.change.Change.Change}
+use Rattle.stn_site.specs.{Bounds.all_bounds, Report.{IsReport, done_events}, Held.holding_state}
 use Rattle.stn_laws.{specs.Reports.{line_steps, steps_of_lines, LineOf, first_world, steps_before, world_at, QueriesSite, ReportsSite, AsksSite, AsksReady, PrintsAt, PrintSame}, proofs.worlds.Runs.{run_stays, run_keeps, coherent_run}}
-use Rattle.stn_world.{specs.{World.{World, HasSite, opening_world, content_at}, Whole.IsCoherent, Steps.{Step, changed, sent, step_refusal, IsAccepted, run, TookAt}}, proofs.{Accepted.{no_site}, Sendings.{part_free, all_free}, Whole.coherent_at_first}}
+use Rattle.stn_world.{specs.{World.{World, HasSite, opening_world, content_at}, Whole.IsCoherent, Steps.{Step, sent, IsAccepted, run, TookAt}}, proofs.{Sendings.{part_free, all_free}, Whole.coherent_at_first}}
 use Rattle.stn_records.specs.Content.{Content, Item, HasItem}
-use Rattle.stn_refusal.specs.declared.code.Code.TheVariants as code
-use Rattle.stn_refusal.specs.{declared.failure.Failure.{Failure, TheVariants.Refused}, Refusals.refused}
+use Rattle.stn_refusal.specs.{declared.failure.Failure.TheVariants.Refused, Refusals.refused}
 use Rattle.stn_questions.specs.{declared.asked.Question.Question, Answer.IsAnswer, Ready.{IsReadyText, IsReadyWith}}
 use Rattle.stn_command.{specs.{Query.{Query, IsSaid, IsQueryRefusal}, Dispatch.{every_event, done_or_not_chosen}}, proofs.OneRefusal.one_refusal}
-use Rattle.stn_exec.{specs.{Command.{Action, query, Command, sites_command, command_of}, Effect.{CommandEffect, CommandReply, told, sending, sent_step, changing, action_effect, command_effect, action_step, command_step}, Script.{Outcome, Start, is_skipped, form_effect, line_outcome, lines_outcome, heading_of, last_line, script_outcome}, Output.{IsReplyText, IsOutput}}, proofs.{Effects.there_effect, Scripts.{line_outcome-skipped, line_outcome-run, line_effect-is, script_outcome-is}}}
-
--- ---- what a command leaves is what its step leaves
-changing_run : (world : World) (site : ℕ) (read : Result Change Failure)
-    → (changing world site read).world ≡ run world (option_to_list (option_map (changed site) (result_ok read)))
-changing_run world site read = search rules
+use Rattle.stn_exec.{specs.{Command.{Action, query, Command, sites_command, command_of}, Effect.{CommandEffect, CommandReply, told, sending, sent_step, action_effect, command_effect, action_step, command_step}, Script.{Outcome, Start, is_skipped, form_effect, line_outcome, lines_outcome, heading_of, last_line, script_outcome}, Output.{IsReplyText, IsOutput}}, proofs.{Effects.there_effect, Scripts.{line_outcome-skipped, line_outcome-run, line_effect-is, script_outcome-is}}}
 
 sending_run : (world : World) (site : ℕ) (part : Content) (held : Bool) → IsAccepted world (sent site part)
     → (sending world site part held).world ≡ run world (option_to_list (sent_step world site part held))
@@ -23,16 +17,6 @@ sending_run world site part held free = search rules
 
 there_run : (world : World) (site : ℕ) (action : Action) → HasSite world site → IsCoherent world → (action_effect world site action).world ≡ run world (option_to_list (action_step world site action))
 there_run world site action there coherent = search (rules, sending_run, all_free, part_free)
-
--- at a site that is not there, each step is refused
-refused_run : (world : World) (step : Step) → step_refusal world step ≡ Some (refused code.NoSite) → run world (step ∷ []) ≡ world
-refused_run world step refused = cc
-
-unsent_run : (world : World) (site : ℕ) (part : Content) (held : Bool) → ¬ HasSite world site → run world (option_to_list (sent_step world site part held)) ≡ world
-unsent_run world site part held missing = simp no_site
-
-missing_run : (world : World) (site : ℕ) (action : Action) → ¬ HasSite world site → run world (option_to_list (action_step world site action)) ≡ world
-missing_run world site action missing = search rules
 
 effect_run : (world : World) (site : ℕ) (action : Action) → IsCoherent world → (command_effect world (sites_command site action)).world ≡ run world (option_to_list (action_step world site action))
 effect_run world site action coherent = search (rules, there_run, false≢true)

@@ -2,14 +2,7 @@
 use Rattle.std.{proofs.Common.{rules, ◌≡◌, ◌⊎◌, ◌+◌, ℕ, List, Option, Result, Ok, Err, IfSome}, specs.Io.KnownBytes.{Consumes, IsAtEnd}}
 use Rattle.stn_device.{specs.Bytes.{most_bytes, ConsumesAtMost}}
 use Rattle.stn_refusal.specs.declared.failure.Failure.{Failure}
-use Rattle.stn_exec.specs.{declared.script.Ran.Ran, Effect.CommandReply, Output.WritesOutputPart, Runs.{Streams, OnInput, OnOutput, ReadsScript, PrintsReplies, RunsScript}, Script.script_outcome}
-
--- nothing was written
-part-nil : (a : Option (List ℕ)) (replies : List CommandReply) → WritesOutputPart a a replies
-part-nil a replies = search (rules)
-
-IfSome-all : {X : Type 0} (o : Option X) (P : X → Type 0) → ((x : X) → P x) → IfSome o P
-IfSome-all o P each = search rules
+use Rattle.stn_exec.specs.{declared.script.Ran.Ran, Output.WritesOutputPart, Runs.{Streams, OnInput, OnOutput, ReadsScript, PrintsReplies, RunsScript}, Script.script_outcome}
 
 -- the script is the whole input
 whole : (input rest : Option (List ℕ)) (script : List ℕ) → Consumes input rest script → IsAtEnd rest → IfSome input (λ bytes. bytes ≡ script)

@@ -1,7 +1,7 @@
 -- Two texts or a number of steps have a base, or each fault of theirs is printed as a refusal.
-use Rattle.std.{proofs.Common.{rules, ℕ, ◌+◌, List, [], ◌∷◌, Option, Result, IfErr, arith}, specs.List.AllByRecursion}
+use Rattle.std.proofs.Common.{rules, ℕ, ◌+◌, List, [], ◌∷◌, Option, Result, IfErr, arith}
 use Rattle.stn_text.specs.Faults.{◌>>=◌}
-use Rattle.stn_pddl.{specs.{declared.{tree.scan.TreeFault.TreeFault, fault.DomainFault.DomainFault}, Tree.Trees.Trees, Failures.domain_failure, Schemas.ActionSchema, Sound.IsSound, Domains.{root, domain_of_tree, domain_of_bytes, domain_of}}, proofs.Forms.{OfForms, all_parts_given}}
+use Rattle.stn_pddl.{specs.{declared.{tree.scan.TreeFault.TreeFault, fault.DomainFault.DomainFault}, Tree.Trees.Trees, Failures.domain_failure, Schemas.ActionSchema, Domains.{root, domain_of_tree, domain_of_bytes, domain_of}}, proofs.Forms.all_parts_given}
 use Rattle.stn_lift.specs.{declared.{plan.{bytes.Mark.TheVariants.Close, fault.PlanFault.PlanFault}, fault.{LiftFault.LiftFault, BaseFault.BaseFault}}, Plan.{Failures.plan_failure, Tokens.{Lexeme, Word, Sign}, Steps.{PlannedStep, Form, args_of, duration_form, form_of, time_at, duration_of, step_at, timed_step, step_of, steps_of, limited, plan_of}}, Failures.{base_failure, lift_failure}, Activities.{Activity, with_action, with_found, activity_of, activities}, PlanSource.{PlanSource, of_lift, steps_in, lifted, source_with, base_of}}
 use Rattle.stn_laws.proofs.scripts.Causes.{HasRefusal}
 
@@ -12,9 +12,6 @@ bind_fits Fits first rest one others = search rules
 -- ---- a domain
 abbrev OfDomain : DomainFault → Type 0
 OfDomain fault = HasRefusal (domain_failure fault)
-
-forms_fit : (read : Result (List ActionSchema) DomainFault) → OfForms (AllByRecursion IsSound) read → IfErr read OfDomain
-forms_fit read is = search rules
 
 root_fits : (line : ℕ) (children : Trees) → IfErr (root line children) OfDomain
 unfolding root

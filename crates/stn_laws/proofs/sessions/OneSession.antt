@@ -1,6 +1,6 @@
 -- Bytes have one session.
-use Rattle.std.{proofs.Common.{rules, ◌≡◌, ℕ, cond, List, [], ◌∷◌, ◌++◌, length, Option, Some, None, refl, sym, ap, subst, ◌∙◌, inl, ⊎_elim, arith, append_assoc}, specs.{Prelude.{flat_map, is_some}, List.AllByRecursion}}
-use Rattle.stn_wire.{specs.{Frame.{FrameContent, spelling, IsFrame}, Front.{whole, faulty, unfinished, IsFront}, Stream.{wire_fault}}, proofs.Streams.{spelling_some}}
+use Rattle.std.{proofs.Common.{rules, ◌≡◌, ℕ, cond, List, [], ◌∷◌, ◌++◌, length, Option, Some, None, refl, sym, ap, subst, ◌∙◌, ⊎_elim, append_assoc}, specs.{Prelude.{flat_map, is_some}, List.AllByRecursion}}
+use Rattle.stn_wire.{specs.{Frame.{FrameContent, spelling, IsFrame}, Front.{whole, faulty}, Stream.wire_fault}, proofs.Streams.spelling_some}
 use Rattle.stn_laws.proofs.frames.Fronts.{one_front_lem, one_spelling_lem, whole_in_front}
 use Rattle.stn_session.specs.{Session.{Session, answer, followed, advanced, talked}, Serving.{EndsSession, IsSession}, declared.session.End.{End, TheVariants.{Closed, Cut, Refused}}}
 
@@ -20,9 +20,6 @@ no_frame s rest later frame Cut last on is front h = search (rules, whole_in_fro
 no_frame s rest later frame (Refused code) last on is front h =
     ⊎_elim (λ by. let some = by.0 in absurd (cc))
     (λ by. let clash = one_front_lem rest (faulty (wire_fault by.0)) (whole frame (length (spelling frame))) by.2 (whole_in_front frame rest later is front) in absurd (cc)) h
-
-nothing_unfinished : (rest : List ℕ) → rest ≡ [] → IsFront rest unfinished
-nothing_unfinished rest none = inl (omega (arith, ap length none))
 
 same_end : (s : Session) (rest : List ℕ) (one other : End) (last final : Session) → s.ended ≡ None → EndsSession s rest one last → EndsSession s rest other final → (one ≡ other) × (last ≡ final)
 same_end s rest one other last final on p q = search rules

@@ -3,10 +3,9 @@ use Rattle.std.{proofs.Common.{rules, ◌≡◌, ℕ, ◌+◌, ◌≤◌, List, 
 use Rattle.stn_device.specs.Bytes.{most_bytes}
 use Rattle.stn_lift.specs.PlanSource.{PlanSource}
 use Rattle.stn_records.specs.Content.{Content}
-use Rattle.stn_site.specs.{declared.faults.ReplicaFault.ReplicaFault}
 use Rattle.stn_wire.specs.{Frame.{FrameContent, same, spelling}, Front.{unfinished, IsFront}}
 use Rattle.stn_laws.{specs.Reception.SaysReplies, proofs.{frames.{Fronts.ShowsNone, Cuts.IsCut}, sessions.SomeSession.of_frame}}
-use Rattle.stn_session.specs.{Exchange.{Stage, greeting, handing, telling, told, failed, Reception, expecting, unexpected, greeted_by, received, handed, reception_of, staged, replied, IsWaiting, IsReception, IsReceived}, declared.exchange.ReplyFault.{ReplyFault, TheVariants.{Frame, Reply, Bound}}}
+use Rattle.stn_session.specs.{Exchange.{Stage, greeting, handing, telling, told, failed, Reception, expecting, unexpected, greeted_by, handed, reception_of, staged, replied, IsWaiting, IsReception, IsReceived}, declared.exchange.ReplyFault.{ReplyFault, TheVariants.{Frame, Reply, Bound}}}
 
 -- what refused a reply is a reply, and no device or lack of memory
 abbrev IsOfReplies : Stage → Type 0
@@ -22,9 +21,6 @@ of_unexpected frame = search rules
 of_greeting : (state : Content) (frame : FrameContent) → IsOfReplies (greeted_by state frame).stage
 of_greeting state same = tt
 of_greeting state frame = of_unexpected frame
-
-of_received : (state theirs : Content) (found : Option ReplicaFault) → IsOfReplies (received state theirs found).stage
-of_received state theirs found = search rules
 
 of_handing : (source : PlanSource) (state : Content) (frame : FrameContent) → IsOfReplies (handed source state frame).stage
 of_handing source state frame = search rules

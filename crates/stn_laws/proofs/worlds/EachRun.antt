@@ -1,5 +1,5 @@
 -- The law over all runs of a world.
-use Rattle.std.{proofs.Common.{rules, ◌≡◌, inr, ℕ, ◌≤◌, Bool, true, false, ◌&&◌, ltb, None, List, refl, ap, ◌∙◌, arith}, specs.{Bool.then_some, List.Contains}}
+use Rattle.std.{proofs.Common.{rules, ◌≡◌, inr, ℕ, ◌≤◌, true, false, ltb, None, List, refl, ap, ◌∙◌, arith}, specs.{Bool.then_some, List.Contains}}
 use Rattle.stn_records.specs.{Id.SiteCounter, Content.{most_known, Content, Item, HasItem, is_known, is_replaced, is_live, known_in_either, dispute_contents, IsPart}}
 use Rattle.stn_site.specs.{declared.faults.ReplicaFault.TheVariants.Full, Calls.Replaces, Refusals.take_refusal}
 use Rattle.stn_world.{specs.{World.{World, HasSite, HasPacket, content_at, packet_at, held_at}, Whole.IsCoherent, Steps.{Step, merged, delivered, IsAccepted, stepped, run, Brings}}, proofs.{Accepted.{accepted_merge, accepted_delivery}, Merges.take_agrees, Whole.{parts_agree, held_record, items_known}}}
@@ -37,10 +37,6 @@ module _ (world : World) (items : List Making) (now : IsLawful world items) wher
 
   pub merge_stays : (site other : ℕ) → IsAccepted world (merged site other) → (rest : List Step) → IsPart (content_at world other) (content_at (run (stepped world (merged site other)) rest) site)
   merge_stays site other accepted rest item h = taken_stays (merged site other) site item accepted (accepted_merge world site other accepted).0 (refl, h) rest
-
-  -- ---- withdrawals
-  and_false : (a : Bool) → (a && false) ≡ false
-  and_false a = search rules
 
   never_live : (content : Content) (id : SiteCounter) → is_replaced content id ≡ true → is_live content id ≡ false
   never_live content id gone = search rules

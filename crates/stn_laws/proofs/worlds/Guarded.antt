@@ -11,9 +11,6 @@ use Rattle.stn_laws.{specs.Guarded.{IsOwnItem, IsBesideOwn, HoldsGuarded, KeepsT
 
 -- ---- what each step keeps
 module _ (owner : ℕ → ℕ) (state : Content) where
-  still_own : (world next : World) → ((site : ℕ) → HasSite world site → HasSite next site) → (item : Item) → IsOwnItem owner world item → IsOwnItem owner next item
-  still_own world next stays item own = search rules
-
   beside_after : (world next : World) → ((site : ℕ) → HasSite world site → HasSite next site) → (content : Content)
       → IsBesideOwn owner world state content → IsBesideOwn owner next state content
   beside_after world next stays content beside item there = search rules

@@ -1,6 +1,5 @@
 -- What is true of a world in its run: its sites and packets are parts of the whole of what was made.
-use Rattle.std.proofs.lemmas.Grind.{common_steps}
-use Rattle.std.{proofs.{Common.{rules, ◌≡◌, ◌↔◌, ◌⊎◌, inl, inr, ⊎_elim, ℕ, zero, suc, ◌≤◌, ◌||◌, true, cond, is_some, Option, Some, None, List, [], ◌∷◌, ◌++◌, length, map, filter, is_eq, refl, ap, sym, subst, ◌∙◌, arith}, lemmas.{List.{append_assoc, Folds.list_any-append, Elements.{Contains-append_left, Contains-append_right, Contains-append_cases}}, Map.Made.distinct_count-le, Bool.{or_right, or_cases}}}, specs.{List.Contains, Set.is_member, Cmp.tied_itself}}
+use Rattle.std.{proofs.{lemmas.{Grind.common_steps, List.{append_assoc, Folds.list_any-append, Elements.{Contains-append_left, Contains-append_right, Contains-append_cases}}, Map.Made.distinct_count-le, Bool.{or_right, or_cases}}, Common.{rules, ◌≡◌, ◌↔◌, ◌⊎◌, inl, inr, ⊎_elim, ℕ, zero, suc, ◌≤◌, ◌||◌, true, cond, is_some, Option, Some, None, List, [], ◌∷◌, ◌++◌, length, map, filter, is_eq, refl, ap, sym, subst, ◌∙◌, arith}}, specs.{List.Contains, Set.is_member, Cmp.tied_itself}}
 use Rattle.stn_lift.specs.PlanSource.{PlanSource}
 use Rattle.stn_records.{specs.{Id.{SiteCounter, same_ids}, declared.record.Record.Record, ContentLaws.ids_total, Content.{Content, Item, addition, withdrawal, replacement, HasItem, known_ids, known_in_either, no_content, IsPart}}, proofs.KnownIds.{fewer, known_member}}
 use Rattle.stn_site.{specs.{Calls.{Accepted, Brought}, Change.change_call}, proofs.Items.nothing_there}
@@ -29,12 +28,6 @@ made_of site (x ∷ rest) one (suc k, lt, e) = let later = made_of site rest one
 
 nothing : {X : Type 0} (x : X) → ¬ Contains [] x
 nothing x h = let lt = h.1 in omega (arith, lt)
-
-one_item : (x item : Item) → Contains (x ∷ []) item ↔ (item ≡ x)
-one_item x item = search rules
-
-both_items : (x y item : Item) → Contains (x ∷ (y ∷ [])) item ↔ ((item ≡ x) ⊎ (item ≡ y))
-both_items x y item = search rules
 
 -- the items that a call makes are those that it brings, where it takes in nothing
 items_brought : (call : Accepted) → IsOwn call → (item : Item) → Contains (items_made call) item ↔ Brought call item

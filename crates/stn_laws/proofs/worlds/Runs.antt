@@ -7,9 +7,6 @@ use Rattle.stn_refusal.specs.declared.failure.Failure.{Failure}
 use Rattle.stn_world.{specs.{Whole.IsCoherent, World.{World, HasSite, opening_world, content_at, packet_at, with_content}, Steps.{Step, changed, merged, sent, delivered, after, stepped, run, step_refusal, IsAccepted, Brings, TookAt}}, proofs.{Accepted.{accepted_merge, accepted_delivery}, Whole.{changed_items, taken_items, coherent_after, coherent_at_first, nothing_at_first, kept}}}
 use Rattle.stn_net.specs.Difference.{IsBoundWithin}
 
-there_after : (world : World) (at : ℕ) (content : Content) (site : ℕ) → HasSite world site → HasSite (with_content world at content) site
-there_after world at content site there = search rules
-
 -- what a change of one site brings to each
 changed_at : (world : World) (at : ℕ) (content : Content) (New : Item → Type 0) (item : Item) → HasSite world at
     → HasItem content item ↔ (HasItem (content_at world at) item ⊎ New item)

@@ -1,5 +1,5 @@
 ghost use Rattle.std.specs.Prelude.{◌≡◌, ◌≢◌, ◌+◌, ◌<◌, ◌≤◌, ◌≤ℤ◌, ◌↔◌, List, length, IsTrue, IfSome, IfNone, Some};
-ghost use Rattle.stn_net.specs.{Difference.Difference, Matrix.{Table.far_of, Tightest.IsExact}, Windows.{Dispatch.{IsLeft, IsReady, AreReadyTimes, IsNext, NamesLeft}, Leading.{earliest, MayLead, NonePast, CanLead, IsFirstPast, IsFirstRun, IsLeastLatest, earlier_of}}};
+ghost use Rattle.stn_net.specs.{Difference.Difference, Matrix.{Table.far_of, Tightest.IsExact}, Windows.{Dispatch.{IsLeft, IsReady, IsNext, NamesLeft}, Leading.{earliest, MayLead, NonePast, CanLead, IsFirstPast, IsFirstRun, earlier_of}}};
 
 use crate::Matrix;
 use std::alloc::Allocator;
@@ -16,50 +16,6 @@ pub fn ready<A: Allocator>(matrix: &Matrix<A>, done: &[bool], event: Event, time
 {
     first_before(matrix, done, Event::origin(), time).is_none()
         && can_lead(matrix, done, event, time)
-}
-
-/// The first and the last time from now on at which an event may run, by the rule of `ready`: it may run at each whole
-/// millisecond between, too. None exactly where it may run at no time from now on.
-///
-/// It reads two rows of the matrix, as far as events are left.
-pub fn ready_times<A: Allocator>(
-    matrix: &Matrix<A>,
-    done: &[bool],
-    event: Event,
-    now: Ms,
-) -> Option<(Ms, Ms)>
-    requires one_each { length done.now ≡ matrix.now.events + 1 }
-    requires within { event ≤ matrix.now.events }
-    ensures { (bounds : List Difference) → IsExact bounds matrix.now → AreReadyTimes bounds done.now now event result }
-{
-    if !is_left(done, event) || !leads(matrix, done, event) {
-        return None;
-    }
-    let earliest = -matrix.far(event, Event::origin());
-    let first = earliest.max(now);
-    let last = least_latest(matrix, done, event);
-    if first <= last {
-        Some((first, last))
-    } else {
-        None
-    }
-}
-
-// The least of the latest times of the events that are left, of which the event is one.
-fn least_latest<A: Allocator>(matrix: &Matrix<A>, done: &[bool], event: Event) -> Ms
-    requires one_each { length done.now ≡ matrix.now.events + 1 }
-    requires within { event ≤ matrix.now.events }
-    requires left { IsLeft done.now event }
-    ensures { IsLeastLatest (far_of matrix.now 0) done.now result }
-{
-    let mut least = matrix.far(Event::origin(), event);
-    for number in 1..matrix.events() + 1 {
-        let other = Event::new(number).unwrap();
-        if is_left(done, other) {
-            least = least.min(matrix.far(Event::origin(), other));
-        }
-    }
-    least
 }
 
 /// What comes next from now on: of the events that may run at some time from now on the first, by

@@ -3,10 +3,6 @@ use Rattle.std.proofs.Common.{rules, ◌≡◌, ◌<◌, ℕ, ◌⊎◌, inl, in
 use Rattle.stn_pddl.{specs.{declared.{tree.scan.TreeFault.TreeFault, fault.DomainFault.{DomainFault, TheVariants.{TooLong, Syntax, TooDeep, Memory}}}, Tree.{Names.is_same_word, Trees.{Trees, End, Word, Group}, Scan.{most_text, tree_of}}, Faults.{of_tree, is_memory}, Schemas.ActionSchema, Domains.{parts, is_title, root, domain_of_tree, domain_of_bytes, domain_of}, Causes.{row_then, BeginsDomain, IsListAt, IsOtherList, IsRefusedPart, IsFirstRefusedPart, IsDomainCause}}, proofs.Causes.cause_of}
 use Rattle.stn_pddl.specs.declared.tree.scan.TreeFault.TheVariants as tree
 
-refused_row : (row : Trees) (before : List ActionSchema) (fault : DomainFault) → IsRefusedPart row before fault → parts row before ≡ Err fault
-unfolding parts
-refused_row row before fault is = search rules
-
 -- after parts without a fault
 refused_then : (earlier later : Trees) (before given : List ActionSchema) (fault : DomainFault) → parts earlier before ≡ Ok given → IsRefusedPart later given fault
     → parts (row_then earlier later) before ≡ Err fault

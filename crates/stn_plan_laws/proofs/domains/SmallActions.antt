@@ -1,5 +1,5 @@
 -- Conditions and effects in small letters.
-use Rattle.std.proofs.{Common.{rules, arith, ◌≡◌, ℕ, Bool, cond, List, map, Option, Result, refl}, lemmas.List.map-append}
+use Rattle.std.proofs.{Common.{rules, arith, ◌≡◌, ℕ, Bool, List, map, Option, Result, refl}, lemmas.List.map-append}
 use Rattle.stn_text.specs.Faults.{◌>>=◌}
 use Rattle.stn_pddl.specs.{Tree.{Names.folded, Trees.{Trees, End, Word, Group, how_many}}, declared.{fault.DomainFault.DomainFault, action.{Label.Label, Side.Side, Form.{Form, TheVariants.{Plain, Timed}}}, word.Head.Head}, Words.head_of, Atoms.{term, terms, atom, equality}, Schemas.{TermSchema, AtomSchema, ActionSchema, with_literal}, Conditions.{row, tree, equal_tree, literal, negated_tree, negated_first, negation, label_of, labelled}}
 use Rattle.stn_plan_laws.{specs.{Tree.Case.{in_small, mapped}, Case.{term_in_small, atom_in_small, action_in_small}}, proofs.domains.SmallWords.{same_first, same_variable, same_key, same_position, same_head}}
@@ -8,10 +8,6 @@ use Rattle.stn_plan_laws.{specs.{Tree.Case.{in_small, mapped}, Case.{term_in_sma
 pub mapped-then : {A B C D : Type 0} {f : A → C} (g : B → D) {other : Result C DomainFault} (one : Result A DomainFault) (after : C → Result D DomainFault) (next : A → Result B DomainFault)
     → other ≡ mapped f one → ((found : A) → after (f found) ≡ mapped g (next found)) → (other >>= after) ≡ mapped g (one >>= next)
 mapped-then g one after next same rest = search rules
-
-pub mapped-either : {A B : Type 0} (f : A → B) {test other_test : Bool} (one two : Result A DomainFault) {other_one other_two : Result B DomainFault}
-    → other_test ≡ test → other_one ≡ mapped f one → other_two ≡ mapped f two → cond other_test other_one other_two ≡ mapped f (cond test one two)
-mapped-either f one two tests first second = search rules
 
 same_many : (row : Trees) → how_many (in_small row) ≡ how_many row
 unfolding how_many in_small

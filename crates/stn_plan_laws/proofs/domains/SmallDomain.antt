@@ -42,9 +42,6 @@ small_values values = record {
   effect = option_map small_listing values.effect;
 }
 
-same_some : (found : Option Listing) → is_some (option_map small_listing found) ≡ is_some found
-same_some found = search rules
-
 same_value : (name : Field) (values : Values) → is_some (value_of name (small_values values)) ≡ is_some (value_of name values)
 unfolding small_values
 same_value name values = search (rules)

@@ -1,12 +1,7 @@
 -- A text in small letters has the tree of the text, with its words in small letters.
-use Rattle.std.{proofs.{Common.{rules, ◌≡◌, ℕ, ◌+◌, ◌<◌, ◌≤◌, Bool, eqb, List, [], ◌∷◌, map, Result, refl, arith}, lemmas.List.length-map}, specs.Char.to_ascii_lowercase}
-use Rattle.stn_text.specs.Faults.{◌>>=◌}
-use Rattle.stn_pddl.specs.{declared.tree.{bytes.Kind.{Kind, TheVariants.Letter}, scan.{TreeFault.TreeFault, Place.Place}}, Tree.{Bytes.{kind_of, kind_in, comment_after, line_after}, Names.folded, Scan.{scanned, tree_of}, Trees.{Trees, Rows, before_byte, begins_word, rows_from}}}
+use Rattle.std.{proofs.{Common.{rules, ◌≡◌, ℕ, ◌<◌, ◌≤◌, Bool, eqb, List, [], ◌∷◌, map, refl, arith}, lemmas.List.length-map}, specs.Char.to_ascii_lowercase}
+use Rattle.stn_pddl.specs.{declared.tree.{bytes.Kind.TheVariants.Letter, scan.Place.Place}, Tree.{Bytes.{kind_of, kind_in, comment_after, line_after}, Names.folded, Scan.{scanned, tree_of}, Trees.{Rows, begins_word, rows_from}}}
 use Rattle.stn_plan_laws.specs.Tree.Case.{in_small, tree_in_small}
-
--- the small letter for a byte, and what a byte is: no capital letter, or one
-pub small_by : (P : ℕ → Type 0) {b : ℕ} → P b → (65 ≤ b → b ≤ 90 → P (b + 32)) → P (to_ascii_lowercase b)
-small_by P same capital = search rules
 
 letter : (b : ℕ) → 65 ≤ b → b ≤ 122 → kind_of b ≡ Letter
 unfolding kind_of
@@ -33,10 +28,6 @@ same_begins : (bytes : List ℕ) → begins_word (folded bytes) ≡ begins_word 
 unfolding begins_word
 same_begins bytes = search (rules, same_kind)
 
--- the scan of both
-same_steps : (step : Result Place TreeFault) {one other : Place → Result Place TreeFault} → ((next : Place) → one next ≡ other next) → (step >>= one) ≡ (step >>= other)
-same_steps step same = search rules
-
 scanned-folded : (text : List ℕ) (comment : Bool) (line : ℕ) (place : Place) → scanned comment line place (folded text) ≡ scanned comment line place text
 unfolding scanned
 scanned-folded [] comment line place = refl
@@ -46,11 +37,6 @@ scanned-folded (b ∷ bytes) comment line place =
 -- the rows of both
 small_rows : Rows → Rows
 small_rows rows = record { row = in_small rows.row; around = map in_small rows.around }
-
-before_byte-small : (kind : Kind) (line b : ℕ) (more : Bool) (row : Trees) (around : List Trees)
-    → before_byte kind line (to_ascii_lowercase b) more (small_rows (record { row = row; around = around })) ≡ small_rows (before_byte kind line b more (record { row = row; around = around }))
-unfolding in_small small_rows
-before_byte-small kind line b more row around = search rules
 
 rows-folded : (text : List ℕ) (comment : Bool) (line : ℕ) → rows_from comment line (folded text) ≡ small_rows (rows_from comment line text)
 unfolding rows_from small_rows in_small

@@ -14,13 +14,6 @@ depth_of Before = 0
 depth_of (Inside depth) = depth
 depth_of After = 0
 
--- a row that can be written from a line on can be from an earlier one
-earlier_row : (depth at before : ℕ) (row : Trees) → before ≤ at → IsWritable depth at row → IsWritable depth before row
-unfolding IsWritable
-earlier_row depth at before End le is = tt
-earlier_row depth at before (Word line word next) le is = (omega (arith, is.0), is.1, is.2)
-earlier_row depth at before (Group line children next) le is = (omega (arith, is.0), is.1, is.2, is.3)
-
 earlier : (depth at before : ℕ) (rows : List Trees) → before ≤ at → AreWritable depth at rows → AreWritable depth before rows
 unfolding AreWritable IsWritable end_line
 earlier depth at before [] le are = tt
