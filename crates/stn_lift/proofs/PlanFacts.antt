@@ -1,5 +1,5 @@
 -- What the text of a plan gives: its steps, or the first fault with its cause.
-use Rattle.std.{proofs.{Common.{◌≡◌, ◌<◌, ℕ, ℤ, pos, ◌≤ℤ◌, Bool, true, false, cond, nat_lt, ◌≤◌, length, List, [], ◌∷◌, ◌++◌, Option, Some, None, IfSome, Result, Ok, Err, IsOk, refl, ap, rules}, lemmas.{Bool.{ltb-true, ltb-false}, List.Elements.{All-nil, All-cons, All-append}, Result.{MatchResult-weaker}}}, specs.{Int.is_negative, List.All, Option.{option_to_list, option_map_or}, Result.MatchResult}}
+use Rattle.std.{proofs.{Common.{◌≡◌, ◌<◌, ℕ, ℤ, Bool, true, false, cond, nat_lt, ◌≤◌, length, List, [], ◌∷◌, ◌++◌, Option, Some, None, IfSome, Result, Ok, Err, IsOk, refl, ap, rules}, lemmas.{Bool.{ltb-true, ltb-false}, List.Elements.{All-nil, All-cons, All-append}, Result.MatchResult-weaker}}, specs.{List.All, Option.option_to_list, Result.MatchResult}}
 use Rattle.stn_text.{specs.Faults.{◌>>=◌, Fails}, proofs.Readings.both_give}
 use Rattle.stn_lift.specs.{declared.plan.{bytes.Mark.TheVariants.{Colon, Open, Close}, fault.PlanFault.{PlanFault, TheVariants.{TooLong, TooManySteps}}}, Plan.{Tokens.{Lexeme, Word, Sign, tokens_of}, Lines.lines_of, Faults.{NamesLine, IsFirstLineFault, IsPlanCause}, Steps.{PlannedStep, Form, IsTimely, IsPlan, args_of, duration_form, form_of, time_at, duration_of, step_at, timed_step, step_of, line_step, most_text, most_steps, steps_of, limited, plan_of, is_plan_memory}}}
 
@@ -33,12 +33,6 @@ duration_given : (line : ℕ) (word : Option (List ℕ)) → OfLine line (λ _. 
 unfolding duration_of
 duration_given line None = tt
 duration_given line (Some word) = both_give (λ _. Unit {0}) (λ _. Unit {0}) (NamesLine line) (time_at line word) _ (time_given line word) (λ millis _. tt)
-
-is_negative-false : {millis : ℤ} → is_negative millis ≡ false → pos 0 ≤ℤ millis
-is_negative-false e = search rules
-
-no_negative : (duration : Option ℤ) → option_map_or is_negative duration false ≡ false → IfSome duration (λ millis. pos 0 ≤ℤ millis)
-no_negative duration e = search rules
 
 step_given : (line : ℕ) (form : Form) (time : ℤ) (duration : Option ℤ) → OfLine line IsTimely (step_at line form time duration)
 unfolding step_at

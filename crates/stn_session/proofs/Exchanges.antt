@@ -1,6 +1,5 @@
 -- Replies that come one after the other.
-use Rattle.std.{proofs.{Common.{◌≡◌, ℕ, ◌+◌, List, [], ◌∷◌, ◌++◌, length, ◌⊎◌, Option, Result, Ok, Err, refl, sym, ap, subst, ◌∙◌, inl, inr, ⊎_elim, arith, append_assoc, length-append}, KnownBytes.{Consumes-nil, Consumes-trans}, lemmas.List.Sums.fold-append}, specs.{Prelude.{flat_map, IfOk, IfErr, OnOk, OnErr}, Io.KnownBytes.Consumes}}
-use Rattle.stn_device.proofs.Known.{not_err}
+use Rattle.std.{proofs.{Common.{rules, ◌≡◌, ℕ, ◌+◌, List, [], ◌∷◌, ◌++◌, length, ◌⊎◌, Option, Result, Ok, Err, refl, sym, ap, subst, ◌∙◌, inl, inr, ⊎_elim, arith, append_assoc, length-append}, KnownBytes.{Consumes-nil, Consumes-trans}, lemmas.List.Sums.fold-append}, specs.{Prelude.{IfOk, IfErr, OnOk, OnErr}, Io.KnownBytes.Consumes}}
 use Rattle.stn_time.proofs.Each.{each_pushed}
 use Rattle.stn_wire.{proofs.Streams.cut_more, specs.{Frame.{FrameContent, content, same, records, text, spelling, IsFrame}, declared.frame.Frame.Frame as WireFrame, Stream.{unread, pending, Held.Stream}}}
 use Rattle.stn_lift.specs.PlanSource.{PlanSource}
@@ -9,8 +8,7 @@ use Rattle.stn_session.specs.{Exchange.{greeting, handing, telling, told, failed
 
 -- an answer as it is seen
 pub seen_err : {X : Type 0} (view : X → List ℕ) (call : Result X ReplyFault) (why : ReplyFault) → seen_value view call ≡ Err why → call ≡ Err why
-seen_err view (Ok given) why is = absurd (not_err (view given) why is)
-seen_err view (Err other) why is = cc
+seen_err view call why is = search rules
 
 -- one frame more
 abbrev pub received : PlanSource → Reception → FrameContent → Reception
@@ -32,15 +30,7 @@ module _ (source : PlanSource) (first : Content) (before after : Option (List �
     (last : Option (List ℕ)) (more : List ℕ) (read : Consumes after last more) where
   -- more bytes were read
   pub read_on : Came source first before last (rest ++ more) (taken + length more) reception
-  read_on = record {
-    bytes = p.bytes ++ more;
-    frames = p.frames;
-    consumed = Consumes-trans before after last p.bytes more p.consumed read;
-    many = omega (arith, p.many, length-append p.bytes more);
-    each = p.each;
-    cut = ap (λ l. l ++ more) p.cut ∙ append_assoc (flat_map spelling p.frames) rest more;
-    came = p.came;
-  }
+  read_on = search (rules, Consumes-trans, length-append, append_assoc)
 
 -- the frame in front leads to the next stage
 pub frame_came : (source : PlanSource) (first : Content) (before after : Option (List ℕ)) (rest : List ℕ) (taken : ℕ) (reception : Reception)

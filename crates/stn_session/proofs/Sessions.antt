@@ -1,5 +1,5 @@
 -- A session that goes on, frame by frame, and what it keeps.
-use Rattle.std.{proofs.{Common.{◌≡◌, ◌≢◌, ℕ, ◌+◌, ◌<◌, ◌≤◌, cond, Bool, true, false, List, [], ◌∷◌, ◌++◌, length, Option, Some, None, Result, Ok, Err, refl, sym, ap, subst, ◌∙◌, inl, inr, ⊎_elim, arith, append_assoc, append-nil, length-append}, KnownBytes.{Consumes-nil, Consumes-trans, Appends-nil, Appends-trans}, lemmas.List.Sums.fold-append}, specs.{Prelude.{flat_map, is_some, min, ◌^◌, ◌-◌, IsErrOf}, Io.KnownBytes.{Consumes, Appends, IsAtEnd}}}
+use Rattle.std.{proofs.{Common.{rules, ◌≡◌, ◌≢◌, ℕ, ◌+◌, ◌<◌, ◌≤◌, cond, Bool, List, [], ◌∷◌, ◌++◌, length, Option, Some, None, Result, Ok, Err, refl, sym, ap, subst, ◌∙◌, inl, inr, ⊎_elim, arith, append_assoc, length-append}, KnownBytes.{Consumes-nil, Consumes-trans, Appends-nil, Appends-trans}, lemmas.List.Sums.fold-append}, specs.{Prelude.{flat_map, is_some, min, ◌^◌, ◌-◌, IsErrOf}, Io.KnownBytes.{Consumes, Appends, IsAtEnd}}}
 use Rattle.stn_device.{specs.{Bytes.AppendsPart, declared.whole.ReadFault.ReadFault}, proofs.Known.fails_more}
 use Rattle.stn_time.proofs.Each.{each_pushed}
 use Rattle.stn_wire.{proofs.Streams.cut_more, specs.{Frame.{FrameContent, spelling, refused, IsFrame}, Front.{IsFront, faulty, unfinished}, Stream.{wire_fault, frame_code, IsNextFrame, IsCounted, Held.Stream}, declared.stream.fault.FrameFault.FrameFault}}
@@ -13,13 +13,12 @@ use Rattle.stn_device.specs.declared.whole.ReadFault.TheVariants as stream
 
 -- ---- replies, one after the other
 pub replies_more : (first : List Reply) (done : List ℕ) (reply : Reply) (bytes : List ℕ) → AreReplies first done → IsReplyBytes reply bytes → AreReplies (first ++ reply ∷ []) (done ++ bytes)
-replies_more [] done reply bytes none spoken = (bytes, [], spoken, refl, ap (λ (l : List ℕ). l ++ bytes) none ∙ sym (append-nil bytes))
+replies_more [] done reply bytes none spoken = search rules
 replies_more (one ∷ first) done reply bytes all spoken =
     (all.0, all.1 ++ bytes, all.2, replies_more first all.1 reply bytes all.3 spoken, ap (λ (l : List ℕ). l ++ bytes) all.4 ∙ append_assoc all.0 all.1 bytes)
 
 pub writes_more : (a b c : Option (List ℕ)) (replies : List Reply) (reply : Reply) (bytes : List ℕ) → WritesReplies a b replies → IsReplyBytes reply bytes → Appends b c bytes → WritesReplies a c (replies ++ reply ∷ [])
-writes_more a b c replies reply bytes done spoken more =
-    (done.0 ++ bytes, replies_more replies done.0 reply bytes done.1 spoken, Appends-trans a b c done.0 bytes done.2 more)
+writes_more a b c replies reply bytes done spoken more = search (rules, replies_more, Appends-trans)
 
 -- ---- frames, one after the other
 abbrev pub reaches_frame : (first : Session) (bytes : List ℕ) (session : Session) (rest later : List ℕ) (frame : FrameContent) → Reaches first bytes session rest → IsFrame frame → rest ≡ spelling frame ++ later
@@ -42,7 +41,7 @@ reaches_more first bytes session rest more r = record {
 -- ---- the states that are kept
 each_more : {P : Type 0} (Keeps : Content → Effect P (Unit {0})) (first : Session) (frames : List FrameContent) (frame : FrameContent) (old between new : P) → KeepsEach Keeps first frames old between
     → KeepsChange Keeps (talked first frames).state (advanced (talked first frames) frame).state between new (Ok tt) → KeepsEach Keeps first (frames ++ frame ∷ []) old new
-each_more Keeps first [] frame old between new none kept = (new, subst (λ place. KeepsChange Keeps first.state (advanced first frame).state place new (Ok tt)) none kept, refl)
+each_more Keeps first [] frame old between new none kept = search rules
 each_more Keeps first (one ∷ frames) frame old between new all kept = (all.0, all.1, each_more Keeps (advanced first one) frames frame all.0 between new all.2 kept)
 
 -- ---- how far a session has come
@@ -83,13 +82,13 @@ module _ {P : Type 0} {Keeps : Content → Effect P (Unit {0})} {source : PlanSo
     (p : Progress Keeps source old now rest taken greeted count) (heard : Device) (more : List ℕ) (read : Consumes now.unheard.bytes heard.bytes more) where
   -- more bytes were read
   consumed_all : Consumes old.unheard.bytes heard.bytes (p.bytes ++ more)
-  consumed_all = Consumes-trans old.unheard.bytes now.unheard.bytes heard.bytes p.bytes more p.consumed read
+  consumed_all = search (rules, Consumes-trans)
 
   many_all : taken + length more ≡ length (p.bytes ++ more)
-  many_all = omega (arith, p.many, length-append p.bytes more)
+  many_all = search (rules, length-append)
 
   few_all : taken + length more ≤ 16777216 → length (p.bytes ++ more) ≤ 16777216
-  few_all few = omega (arith, few, many_all)
+  few_all few = omega (arith, many_all)
 
   abbrev reached_all : Reaches (opening source old.state) (p.bytes ++ more) p.session (rest ++ more)
   reached_all = reaches_more (opening source old.state) p.bytes p.session rest more p.reached
@@ -104,22 +103,14 @@ module _ {P : Type 0} {Keeps : Content → Effect P (Unit {0})} {source : PlanSo
 
   breaks_with : (then : Device) (state : Content) (place : P) (fault : ServeFault) → BreaksOffSession Keeps all_read old (talk heard then state place) fault
       → Serves Keeps source old (talk heard then state place) (Ok (Err fault))
-  breaks_with then state place fault is = ends_with then state place (Ok (Err fault)) (p.on, is)
+  breaks_with then state place fault is = search (rules, ends_with)
 
   -- nothing more comes of the stream
   pub stream_fails : {X : Type 0} (A : Type 0) (stream_now : Stream) (fault : ReadFault) → IsNextFrame {A = A} (rest ++ more) stream_now (Err fault) → IsCounted {A = A} (taken + length more) stream_now (Err fault)
       → old.unheard.failures < 2 ^ 64 - 1 → (call : Result X ReadFault) → call ≡ Err fault
       → (IsErrOf call stream.Read → heard.failures ≡ min (now.unheard.failures + 1) (2 ^ 64 - 1)) → (call ≢ Err stream.Read → heard.failures ≡ now.unheard.failures)
       → Serves Keeps source old (talk heard now.told now.state now.place) (Ok (Err (serve_fault fault)))
-  stream_fails A stream_now stream.Read next few room call is fails keeps =
-      breaks_with now.told now.state now.place Read (
-        p.says,
-        p.state_is,
-        refl,
-        next,
-        few_all few,
-        fails_more old.unheard.failures now.unheard.failures heard.failures (fails is) p.well room,
-      )
+  stream_fails A stream_now stream.Read next few room call is fails keeps = search (rules, breaks_with, few_all, fails_more)
   stream_fails A stream_now stream.Bound next many room call is fails keeps =
       breaks_with now.told now.state now.place Bound (p.says, p.state_is, refl, next, omega (arith, many, many_all), keeps (λ e. cc) ∙ p.well)
   stream_fails A stream_now stream.Memory next few room call is fails keeps =
@@ -300,6 +291,4 @@ module _ {P : Type 0} {Keeps : Content → Effect P (Unit {0})} {source : PlanSo
 pub turn_kept : {P : Type 0} (Keeps : PlanSource → Content → Effect P (Unit {0})) (source here : PlanSource) (before after there : Content) (place kept : P) (changed : Bool)
     (ended : Result (Unit {0}) Failure) → here ≡ source → there ≡ after → IsChange before after changed → KeepsTurn (Keeps here there) changed place kept ended
     → KeepsChange (Keeps source) before after place kept ended
-turn_kept Keeps source here before after there place kept true ended from left differs keeps =
-    inr (differs, subst (λ (state : Content). Keeps source state place kept ended) left (subst (λ (plan : PlanSource). Keeps plan there place kept ended) from keeps))
-turn_kept Keeps source here before after there place kept false ended from left same stays = inl (same, stays)
+turn_kept Keeps source here before after there place kept changed ended from left differs keeps = search rules

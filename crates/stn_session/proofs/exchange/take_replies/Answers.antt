@@ -1,4 +1,4 @@
-use Rattle.std.proofs.lemmas.Result.{err_from_is_err_and}
+use Rattle.std.proofs.Common.{rules}
 use Rattle.stn_session.proofs.Exchanges.{nothing_came}
 use Rattle.stn_session.proofs.exchange.take_replies.Goals as goal
 
@@ -11,17 +11,10 @@ take_text-requires g c =
     (c.in_ok-take_records.ensures.leads _ _ one.1).0
 
 pub returns-in_err-take_same-clause-received : goal.returns-in_err-take_same-clause-received
-returns-in_err-take_same-clause-received g c =
-    let p = err_from_is_err_and c.from_residual.result c.from_residual.ensures.1 in
-    let lost = c.in_err-take_same.ensures in
-    rw (p.1, p.2) (lost.leads _ _ _ (nothing_came (g.C.SiteCopy.held c.args.copy.now).source (g.C.SiteCopy.held c.args.copy.now).state _ c.args.frames.now c.requires))
+returns-in_err-take_same-clause-received g c = search (rules, nothing_came)
 
 pub returns-in_err-take_records-clause-received : goal.returns-in_err-take_records-clause-received
-returns-in_err-take_records-clause-received g c =
-    let p = err_from_is_err_and c.from_residual-in_err-take_records.result c.from_residual-in_err-take_records.ensures.1 in
-    let one = c.in_ok-take_same.ensures.leads _ _ _ (nothing_came (g.C.SiteCopy.held c.args.copy.now).source (g.C.SiteCopy.held c.args.copy.now).state _ c.args.frames.now c.requires) in
-    let lost = c.in_err-take_records.ensures in
-    rw (p.1, p.2) (lost.leads _ _ one.1)
+returns-in_err-take_records-clause-received g c = search (rules, nothing_came)
 
 pub returns-clause-received : goal.returns-clause-received
 returns-clause-received g c =
