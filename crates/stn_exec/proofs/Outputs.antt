@@ -1,15 +1,11 @@
 -- A reply is no answer and a refusal, and at most one refusal.
-use Rattle.std.{proofs.{Common.{◌≡◌, ℕ, ◌+◌, ◌≤◌, Bool, true, false, cond, List, [], ◌∷◌, ◌++◌, Some, None, refl, ap, subst, ◌∙◌, arith}, lemmas.Option.none-some}, specs.Bool.Decides}
+use Rattle.std.{proofs.Common.{rules, ◌≡◌, ℕ, ◌+◌, ◌≤◌, Bool, cond, List, [], ◌∷◌, ◌++◌, refl, subst, arith}, specs.Bool.Decides}
 use Rattle.stn_refusal.specs.declared.failure.Failure.{Failure}
-use Rattle.stn_site.specs.Held.{holding_state}
-use Rattle.stn_command.proofs.OneRefusal.{one_refusal as one_cause}
-use Rattle.stn_exec.specs.{Effect.{CommandReply, said, declined, told}, Output.{IsAnswerText, Declines, IsRefusal, CountsRefusals}}
+use Rattle.stn_exec.specs.{Effect.CommandReply, Output.{IsAnswerText, Declines, IsRefusal, CountsRefusals}}
 
 -- a reply that is an answer is no refusal
 pub not_both : (reply : CommandReply) (text : List ℕ) (cause : Failure) → IsAnswerText reply text → ¬ Declines reply cause
-not_both (said answer) text cause is other = other
-not_both (declined given) text cause is other = is
-not_both (told source state query) text cause is other = none-some cause (one_cause query (holding_state source state) None (Some cause) is.0 other)
+not_both reply text cause is other = search rules
 
 abbrev pub counted : Bool → ℕ → ℕ
 counted refused others = cond refused 1 0 + others
@@ -19,10 +15,7 @@ pub count_none : CountsRefusals [] 0
 count_none = refl
 
 pub count_one : (reply : CommandReply) (refused : Bool) (count : ℕ) → count ≡ cond refused 1 0 → Decides refused (IsRefusal reply) → CountsRefusals (reply ∷ []) count
-count_one reply refused count is decides = (refused, 0, decides, refl, is ∙ none (cond refused 1 0))
-  where
-    none : (n : ℕ) → n ≡ n + 0
-    none n = omega arith
+count_one reply refused count is decides = search rules
 
 pub counts_join : (first later : List CommandReply) (a b : ℕ) → CountsRefusals first a → CountsRefusals later b → CountsRefusals (first ++ later) (a + b)
 counts_join [] later a b p q = subst (CountsRefusals later) (same p) q
@@ -36,8 +29,4 @@ counts_join (reply ∷ first) later a b p q = (p.0, p.1 + b, p.2, counts_join fi
 
 -- one reply is at most one refusal
 pub one_refusal : (reply : CommandReply) (count : ℕ) → CountsRefusals (reply ∷ []) count → count ≤ 1
-one_refusal reply count p = most p.0 (p.4 ∙ ap (counted p.0) p.3)
-  where
-    most : (b : Bool) → count ≡ counted b 0 → count ≤ 1
-    most true e = omega (arith, e)
-    most false e = omega (arith, e)
+one_refusal reply count p = search rules

@@ -1,13 +1,11 @@
-use Rattle.std.proofs.{Common.{Result, inr, subst, sym, ◌∙◌}, lemmas.Result.err_from_is_err_and}
+use Rattle.std.proofs.Common.{rules, Result, subst, sym, ◌∙◌}
 use Rattle.stn_text.specs.Lines.{lines_of}
 use Rattle.stn_refusal.specs.declared.failure.Failure.{Failure}
 use Rattle.stn_exec.{specs.{Heading.{seen_found, IsRead}, Script.Based}, proofs.Blocks.{based-none, based-files, based-bare}}
 use Rattle.stn_exec.proofs.heading.read_base.Goals as goal
 
 pub returns-in_err-found-clause-read : goal.returns-in_err-found-clause-read
-returns-in_err-found-clause-read g c =
-    let p = err_from_is_err_and c.from_residual.result c.from_residual.ensures.1 in
-    rw (p.1, p.2) (inr (based-none c.args.last (lines_of c.args.script.now) c.in_err-found.field-0.0 (sym c.in_err-found.ensures.found)))
+returns-in_err-found-clause-read g c = search (rules, based-none)
 
 pub returns-then-stands_alone-clause-read : goal.returns-then-stands_alone-clause-read
 returns-then-stands_alone-clause-read g c =

@@ -1,4 +1,4 @@
-use Rattle.std.{proofs.{Common.{◌≡◌, ◌∷◌, ℕ, List, [], cond, inl, refl, sym, ap, ◌∙◌, subst, arith}, KnownBytes.Appends-nil, lemmas.{Grind.common_steps, Result.err_from_is_err_and}}, specs.Io.KnownBytes.Appends}
+use Rattle.std.{proofs.{Common.{rules, ◌≡◌, ◌∷◌, ℕ, List, cond, inl, refl, sym, ap, ◌∙◌, subst, arith}, lemmas.{Grind.common_steps, Result.err_from_is_err_and}}, specs.Io.KnownBytes.Appends}
 use Rattle.stn_device.specs.{Bytes.AppendsPart, Counted.counted_device}
 use Rattle.stn_text.specs.Lines.{words_of}
 use Rattle.stn_exec.{specs.{Output.{CountsRefusals, WritesOutput, WritesOutputPart}, Script.{Outcome, effect_outcome, line_effect, line_outcome}}, proofs.{Outputs.{count_none, count_one}, Scripts.{line_outcome-skipped, line_outcome-run, output_one, part-one}}}
@@ -38,20 +38,10 @@ returns-in_ok-write_whole-in-Some-clause-run g c =
     )
 
 pub returns-in_ok-write_whole-in-Some-clause-world : goal.returns-in_ok-write_whole-in-Some-clause-world
-returns-in_ok-write_whole-in-Some-clause-world g c =
-    c.in_ok-refused-in-Some.ensures.left
-    ∙ sym (ap (λ (o : Outcome). o.world) (line_outcome-run c.args.number c.args.world.now (words_of c.args.line.now) c.in-Some.ensures.kept)
-    ∙ ap (λ (w : List (List ℕ)). (line_effect c.args.number c.args.world.now w).world) c.in-Some.ensures.cut)
+returns-in_ok-write_whole-in-Some-clause-world g c = search (rules, line_outcome-run)
 
 pub returns-in-None-clause-run : goal.returns-in-None-clause-run
-returns-in-None-clause-run g c =
-    let before = g.W.Write.contents (counted_device c.args.writer.now) in
-    let skipped = line_outcome-skipped c.args.number c.args.world.now (words_of c.args.line.now) c.in-None.ensures.skipped in (
-      subst (λ (o : Outcome). WritesOutput before before o.replies) (sym skipped) ([], refl, Appends-nil before),
-      sym (ap (λ (o : Outcome). o.commands) skipped),
-      subst (λ (o : Outcome). CountsRefusals o.replies 0) (sym skipped) count_none,
-      refl,
-    )
+returns-in-None-clause-run g c = search (rules, line_outcome-skipped, count_none)
 
 pub returns-in-None-clause-world : goal.returns-in-None-clause-world
-returns-in-None-clause-world g c = sym (ap (λ (o : Outcome). o.world) (line_outcome-skipped c.args.number c.args.world.now (words_of c.args.line.now) c.in-None.ensures.skipped))
+returns-in-None-clause-world g c = search (rules, line_outcome-skipped)

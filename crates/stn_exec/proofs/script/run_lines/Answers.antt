@@ -6,11 +6,11 @@ use Rattle.stn_exec.proofs.script.run_lines.Goals as goal
 
 pub overflow_add-ran : goal.overflow_add-ran
 overflow_add-ran g c =
-    omega (arith, c.in_ok-more.ensures.run.1, (line_outcome-counts c.loop-rest.at c.loop-rest.world (words_of c.first_line.result.0.now) _ c.in_ok-more.ensures.run.2).0, c.loop-rest.invariant.few_commands, c.loop-rest.invariant.within, c.requires)
+    omega (arith, c.in_ok-more.ensures.run.1, (line_outcome-counts c.loop-rest.at c.loop-rest.world (words_of c.first_line.result.0.now) _ c.in_ok-more.ensures.run.2).0, c.loop-rest.invariant.within, c.requires)
 
 pub overflow_add-ran-in-loop-rest : goal.overflow_add-ran-in-loop-rest
 overflow_add-ran-in-loop-rest g c =
-    omega (arith, (line_outcome-counts c.loop-rest.at c.loop-rest.world (words_of c.first_line.result.0.now) _ c.in_ok-more.ensures.run.2).1, c.loop-rest.invariant.few_refused, c.loop-rest.invariant.within, c.requires)
+    omega (arith, (line_outcome-counts c.loop-rest.at c.loop-rest.world (words_of c.first_line.result.0.now) _ c.in_ok-more.ensures.run.2).1, c.loop-rest.invariant.within, c.requires)
 
 pub returns-in_err-more : goal.returns-in_err-more
 returns-in_err-more g c =
