@@ -1,7 +1,7 @@
 -- The axis reaches past what it has to show.
-use Rattle.std.{proofs.{Common.{◌≡◌, ℕ, ℤ, zero, suc, ◌+◌, ◌-◌, ◌*◌, ◌/◌, ◌<◌, ◌≤◌, Bool, true, false, List, [], ◌∷◌, if◌then◌else◌, ⊎_elim, true≢false, refl, subst, sym, arith, mul-add}, lemmas.{Bool.{and_parts, cases_lt}, Nat.{div-add-mod', mod_below, div_below}}}, specs.{Prelude.Option, List.list_all}}
-use Rattle.stn_drawing.{specs.{Axis.{gaps, gaps_in, gap_of, first_gap, fits}, Ticks.{Axis, place_on}}, proofs.AxisGaps.{is_gap, gap_bounds}}
-use Rattle.stn_chart.specs.{Chart.{reach, furthest, axis_reach, axis_for, is_open_in, soonest_in, latest_in}, Places.{line_left, line_width}}
+use Rattle.std.{proofs.{Common.{rules, ◌≡◌, ℕ, ℤ, zero, suc, ◌+◌, ◌-◌, ◌*◌, ◌/◌, ◌<◌, ◌≤◌, Bool, true, false, List, [], ◌∷◌, if◌then◌else◌, ⊎_elim, refl, subst, sym, arith}, lemmas.Bool.{and_parts, cases_lt}}, specs.{Prelude.Option, List.list_all}}
+use Rattle.stn_drawing.{specs.{Axis.{gaps, gap_of, first_gap, fits}, Ticks.{Axis, place_on}}, proofs.AxisGaps.{is_gap, gap_bounds}}
+use Rattle.stn_chart.specs.{Chart.{reach, furthest, axis_for, is_open_in, soonest_in, latest_in}, Places.{line_left, line_width}}
 
 -- the axis reaches as far as it has to for each event
 pub reached : (windows : List (ℤ × ℤ)) (events event : ℕ) → 1 ≤ event → event ≤ events → reach windows event ≤ furthest windows events
@@ -14,8 +14,7 @@ reached windows (suc events) event some within = ⊎_elim
     (cases_lt event (suc events))
 
 gap_case : (b : Bool) (gap other : ℕ) → 1 ≤ gap → 1 ≤ other → 1 ≤ (if b then gap else other)
-gap_case true gap other first second = first
-gap_case false gap other first second = second
+gap_case b gap other first second = search rules
 
 some_in : (before after : ℕ) (xs : List ℕ) → list_all is_gap xs ≡ true → 1 ≤ first_gap before after xs
 some_in before after [] all = omega arith
@@ -27,35 +26,22 @@ some_in before after (gap ∷ rest) all =
 some_gap : (before after : ℕ) → 1 ≤ gap_of before after
 some_gap before after = some_in before after gaps refl
 
--- so many gaps reach so far
-pub gaps_reach : (gap far : ℕ) → 1 ≤ gap → far ≤ gap * gaps_in gap far
-gaps_reach gap far some =
-    let whole = div-add-mod' (far + (gap - 1)) gap in
-    let rest = mod_below (far + (gap - 1)) gap (omega (arith, some)) in
-    omega (arith, whole, rest, some)
-
 -- a time before the end of the axis stands on it
 pub on_axis : (end time : ℕ) → time < end → line_left + line_width * time / end ≤ line_left + line_width
-on_axis end time below =
-    let quotient = div_below (line_width * time) end 541 (omega (arith, below)) (omega (arith, below)) in
-    omega (arith, quotient)
+on_axis end time below = search rules
 
 module _ (windows : List (ℤ × ℤ)) (events event steps : ℕ) (now : Option ℤ) (some : 1 ≤ event) (within : event ≤ events) where
   abbrev axis : Axis
   axis = axis_for windows events now steps
 
   past : (time : ℕ) → time ≤ furthest windows events → time < axis.long
-  past time shown =
-      let far = axis_reach windows events now in
-      omega (arith, shown, gaps_reach axis.gap far (some_gap 0 far), mul-add axis.gap (gaps_in axis.gap 0) (gaps_in axis.gap far))
+  past time shown = omega (arith, some_gap)
 
   soonest_case : (b : Bool) (soonest latest : ℕ) → soonest ≤ latest → soonest ≤ (if b then soonest else latest)
-  soonest_case true soonest latest order = omega arith
-  soonest_case false soonest latest order = order
+  soonest_case b soonest latest order = search rules
 
   latest_case : (b : Bool) (soonest latest : ℕ) → b ≡ false → latest ≤ (if b then soonest else latest)
-  latest_case false soonest latest closed = omega arith
-  latest_case true soonest latest closed = absurd (true≢false closed)
+  latest_case b soonest latest closed = search rules
 
   pub soonest_on_axis : soonest_in windows event ≤ latest_in windows event → place_on axis (soonest_in windows event) ≤ line_left + line_width
   soonest_on_axis order =

@@ -1,13 +1,12 @@
 -- Texts that grow by a line.
-use Rattle.std.{proofs.{Common.{◌≡◌, ℕ, ℤ, suc, ◌+◌, not, Bool, true, false, cond, if◌then◌else◌, List, [], ◌∷◌, ◌++◌, length, filter, map, drop, drop-cons, get_or, ◌<◌, ◌≤◌, refl, sym, ap, ◌∙◌, add-one, arith, append_assoc}, lemmas.List.{length-append, map-append, Elements.filter-append}}, specs.{List.range_with_len, Prelude.{Some, find}, Int.from_bool}}
+use Rattle.std.{proofs.{lemmas.{Grind.common_steps, List.{length-append, map-append, Elements.filter-append}}, Common.{rules, ◌≡◌, ℕ, ℤ, suc, ◌+◌, not, Bool, cond, if◌then◌else◌, List, [], ◌∷◌, ◌++◌, length, filter, map, drop, get_or, ◌<◌, ◌≤◌, ap, ◌∙◌, add-one, arith, append_assoc}}, specs.{List.range_with_len, Prelude.{Some, find}, Int.from_bool}}
 use Rattle.stn_records.specs.Content.{Content}
 use Rattle.stn_site.specs.Report.{is_done}
 use Rattle.stn_text.proofs.Growing.{range_push}
 use Rattle.stn_chart.specs.{declared.parts.Part.Part, Frame.{entry_at, left_after, entries_text}, Chart.{Chart, floor, floors_at}, Seen.present_floor}
 
 first_case : (b : Bool) (x : ℕ) (rest : List ℕ) → length (cond b (x ∷ rest) rest) ≡ cond b 1 0 + length rest
-first_case true x rest = omega arith
-first_case false x rest = omega arith
+first_case b x rest = search rules
 
 -- whether the first is counted
 pub one_first : (p : ℕ → Bool) (x : ℕ) (xs : List ℕ) → length (filter p (x ∷ xs)) ≡ cond (p x) 1 0 + length (filter p xs)
@@ -23,19 +22,15 @@ count_more p n =
     omega (arith, more, one_first p (n + 1) [])
 
 flagged : (so : Bool) → (from_bool so ≡ cond so 1 0) × (from_bool so ≤ 1)
-flagged true = (refl, omega arith)
-flagged false = (refl, omega arith)
+flagged so = search rules
 
 -- the count goes on with the next number
 pub count_step : (p : ℕ → Bool) (before count one next : ℕ) → count ≡ length (filter p (range_with_len 1 before)) → count ≤ before → one ≡ from_bool (p (before + 1))
     → next ≡ count + one → (next ≡ length (filter p (range_with_len 1 (before + 1)))) × (next ≤ before + 1)
-count_step p before count one next was most is grown =
-    let flag = flagged (p (before + 1)) in
-    (omega (arith, was, is, grown, flag.0, count_more p before), omega (arith, most, is, grown, flag.1))
+count_step p before count one next was most is grown = omega (arith, flagged, count_more)
 
 left_case : (done : Bool) (now : ℤ) (event : ℕ) → map (floor now) (cond (not done) (event ∷ []) []) ≡ present_floor done now event
-left_case true now event = refl
-left_case false now event = refl
+left_case done now event = search rules
 
 -- the floors of one event more
 pub floors_more : (state : Content) (now : ℤ) (n : ℕ) → floors_at state (n + 1) now ≡ floors_at state n now ++ present_floor (is_done state (n + 1)) now (n + 1)
@@ -49,16 +44,10 @@ floors_more state now n =
 -- the search for the first such number goes on
 pub find_next : (p : ℕ → Bool) (n left more : ℕ) → left ≡ suc more
     → find p (range_with_len n left) ≡ (if p n then Some n else find p (range_with_len (n + 1) more))
-find_next p n left more e = ap (λ count. find p (range_with_len n count)) e
+find_next p n left more e = cc
 
 -- the legend goes on with the next part
 pub legend_step : (chart : Chart) (base place left next i : ℕ) (xs : List Part) (one : Part) (front old new : List ℕ) → place ≡ base → i < length xs → one ≡ get_or xs i one
     → front ≡ old ++ entries_text chart base left (drop i xs) → new ≡ old ++ entry_at chart place left one → next ≡ left_after chart left one
     → front ≡ new ++ entries_text chart base next (drop (i + 1) xs)
-legend_step chart base place left next i xs one front old new same within is was grown moved =
-    was
-    ∙ ap (λ rest. old ++ entries_text chart base left rest) (drop-cons xs i one within)
-    ∙ (λ k. old ++ (entry_at chart base left (sym is k) ++ entries_text chart base (left_after chart left (sym is k)) (drop (sym (add-one i) k) xs)))
-    ∙ ap (λ n. old ++ (entry_at chart base left one ++ entries_text chart base n (drop (i + 1) xs))) (sym moved)
-    ∙ sym (append_assoc old (entry_at chart base left one) (entries_text chart base next (drop (i + 1) xs)))
-    ∙ ap (λ text. text ++ entries_text chart base next (drop (i + 1) xs)) (sym (grown ∙ ap (λ b. old ++ entry_at chart b left one) same))
+legend_step chart base place left next i xs one front old new same within is was grown moved = grind (arith, common_steps, add-one, append_assoc)

@@ -1,62 +1,38 @@
 -- The events that hold the starts of steps, bound by bound.
-use Rattle.std.{proofs.{Common.{◌≡◌, ℕ, ℤ, ◌+◌, ◌==◌, ◌&&◌, Bool, true, false, if◌then◌else◌, Option, Some, None, List, [], ◌∷◌, ◌++◌, ◌<◌, length, take, map, get_or, replicate, refl, sym, ap, ◌∙◌, arith}, lemmas.List.{ext_get_or, take_more, length-replicate, get_or-replicate, FromFn.{get_or-map-range_with_len, length-map-range_with_len}}}, specs.{List.range_with_len, Option.option_or}}
+use Rattle.std.{proofs.{lemmas.{Grind.common_steps, List.{ext_get_or, length-replicate, get_or-replicate, FromFn.{get_or-map-range_with_len, length-map-range_with_len}}}, Common.{rules, ◌≡◌, ℕ, ℤ, ◌+◌, ◌==◌, if◌then◌else◌, Option, None, List, [], ◌∷◌, ◌++◌, ◌<◌, length, take, map, get_or, replicate, refl, sym, ap, ◌∙◌, arith}}, specs.{List.range_with_len, Option.option_or}}
 use Rattle.stn_net.specs.Difference.{Difference}
-use Rattle.stn_chart.specs.Chart.{start_of, is_of_another, holds_upper, holds_lower, held_by, holder_in}
+use Rattle.stn_chart.specs.Chart.{start_of, held_by, holder_in}
 
 -- of three holders, the first that there is
 or_chain : (a b c : Option ℕ) → option_or (option_or a b) c ≡ option_or a (option_or b c)
-or_chain None b c = refl
-or_chain (Some n) b c = refl
+or_chain a b c = search rules
 
 or_none : (a : Option ℕ) → option_or a None ≡ a
-or_none None = refl
-or_none (Some n) = refl
-
-or_same : (a : Option ℕ) → option_or a a ≡ a
-or_same None = refl
-or_same (Some n) = refl
+or_none a = search rules
 
 -- the first holder of two lists of bounds
 holder_append : (windows : List (ℤ × ℤ)) (step : ℕ) (xs ys : List Difference)
     → holder_in windows step (xs ++ ys) ≡ option_or (holder_in windows step xs) (holder_in windows step ys)
 holder_append windows step [] ys = refl
 holder_append windows step (bound ∷ xs) ys =
-    ap (option_or (held_by windows step bound)) (holder_append windows step xs ys)
-    ∙ sym (or_chain (held_by windows step bound) (holder_in windows step xs) (holder_in windows step ys))
-
-noted_case : (a b : Bool) (old middle new held : Option ℕ) → (a ≡ false → b ≡ false → held ≡ None) → middle ≡ (if a then option_or old held else old)
-    → new ≡ (if b then option_or middle held else middle) → new ≡ option_or old held
-noted_case true true old middle new held none first second = second ∙ ap (λ o. option_or o held) first ∙ or_chain old held held ∙ ap (option_or old) (or_same held)
-noted_case true false old middle new held none first second = second ∙ first
-noted_case false true old middle new held none first second = second ∙ ap (λ o. option_or o held) first
-noted_case false false old middle new held none first second = second ∙ first ∙ sym (ap (option_or old) (none refl refl) ∙ or_none old)
+    cc (holder_append windows step xs ys, or_chain (held_by windows step bound) (holder_in windows step xs) (holder_in windows step ys))
 
 -- what stands at a step after the two events of a bound were noted
 pub noted_bound : (windows : List (ℤ × ℤ)) (step : ℕ) (bound : Difference) (old middle new : Option ℕ)
     → middle ≡ (if bound.from == start_of step then option_or old (held_by windows step bound) else old)
     → new ≡ (if bound.to == start_of step then option_or middle (held_by windows step bound) else middle) → new ≡ option_or old (held_by windows step bound)
-noted_bound windows step bound old middle new first second =
-    noted_case (bound.from == start_of step) (bound.to == start_of step) old middle new (held_by windows step bound)
-    (λ from to.
-    λ i. if from i && (is_of_another step bound.to && holds_upper windows (start_of step) bound) then Some bound.to
-    else (if to i && (is_of_another step bound.from && holds_lower windows (start_of step) bound) then Some bound.from else None))
-    first second
+noted_bound windows step bound old middle new first second = search rules
 
 -- the first holder of one bound more
 holder_more : (windows : List (ℤ × ℤ)) (step : ℕ) (bounds : List Difference) (bound : Difference)
     → holder_in windows step (bounds ++ bound ∷ []) ≡ option_or (holder_in windows step bounds) (held_by windows step bound)
-holder_more windows step bounds bound =
-    holder_append windows step bounds (bound ∷ []) ∙ ap (option_or (holder_in windows step bounds)) (or_none (held_by windows step bound))
+holder_more windows step bounds bound = search (rules, holder_append, or_none)
 
 -- what stands at a step after one bound more was noted
 pub noted_more : (windows : List (ℤ × ℤ)) (step : ℕ) (bounds : List Difference) (place : ℕ) (bound : Difference) (front old new : Option ℕ) → place < length bounds
     → bound ≡ get_or bounds place bound → old ≡ option_or front (holder_in windows step (take place bounds)) → new ≡ option_or old (held_by windows step bound)
     → new ≡ option_or front (holder_in windows step (take (place + 1) bounds))
-noted_more windows step bounds place bound front old new within is was grown =
-    grown ∙ ap (λ o. option_or o (held_by windows step bound)) was
-    ∙ or_chain front (holder_in windows step (take place bounds)) (held_by windows step bound)
-    ∙ ap (option_or front)
-    (sym (ap (holder_in windows step) (take_more bounds place bound within ∙ ap (λ y. take place bounds ++ y ∷ []) (sym is)) ∙ holder_more windows step (take place bounds) bound))
+noted_more windows step bounds place bound front old new within is was grown = grind (arith, common_steps, or_chain, holder_more)
 
 -- what stands at each step after the bounds of the plan and the others were noted
 pub noted_all : (windows : List (ℤ × ℤ)) (base others : List Difference) (steps : ℕ) (fresh middle last : List (Option ℕ)) → fresh ≡ replicate (steps + 1) None

@@ -1,5 +1,5 @@
 -- Each step has a row of its own.
-use Rattle.std.{proofs.{Common.{◌≡◌, ◌≢◌, ◌⊎◌, ℕ, ℤ, zero, suc, ◌+◌, ◌==◌, ◌<◌, ◌≤◌, nat_lt, Bool, true, false, ◌&&◌, ◌||◌, cond, List, length, filter, ⊎_elim, refl, sym, ap, true≢false, arith}, lemmas.Bool.{cases_lt, Decides.nat_tests}}, specs.List.range_with_len}
+use Rattle.std.{proofs.{Common.{rules, ◌≡◌, ◌≢◌, ◌⊎◌, ℕ, ℤ, zero, suc, ◌+◌, ◌==◌, ◌<◌, ◌≤◌, nat_lt, Bool, true, false, ◌&&◌, ◌||◌, cond, List, length, filter, ⊎_elim, refl, sym, ap, arith}, lemmas.Bool.cases_lt}, specs.List.range_with_len}
 use Rattle.stn_chart.{specs.Chart.{start_of, soonest_in, is_above, row_in}, proofs.Drawing.one_first}
 
 -- one step comes before another in the order of a time and a number
@@ -7,19 +7,16 @@ abbrev before : ℕ → ℕ → ℕ → ℕ → Bool
 before k x j y = nat_lt k j || ((k == j) && nat_lt x y)
 
 before_trans : (k x j y i z : ℕ) → before k x j y ≡ true → before j y i z ≡ true → before k x i z ≡ true
-before_trans k x j y i z first second = grind (arith, nat_tests)
+before_trans k x j y i z first second = grind (arith)
 
 before_itself : (k x : ℕ) → before k x k x ≡ false
-before_itself k x = grind (arith, nat_tests)
+before_itself k x = grind (arith)
 
 one_before : (k x j y : ℕ) → x ≢ y → (before k x j y ≡ true) ⊎ (before j y k x ≡ true)
-one_before k x j y other = grind (arith, nat_tests)
+one_before k x j y other = grind (arith)
 
 le_case : (b c : Bool) (m n : ℕ) → (b ≡ true → c ≡ true) → m ≤ n → cond b 1 0 + m ≤ cond c 1 0 + n
-le_case true true m n kept rest = omega (arith, rest)
-le_case true false m n kept rest = absurd (true≢false (sym (kept refl)))
-le_case false true m n kept rest = omega (arith, rest)
-le_case false false m n kept rest = omega (arith, rest)
+le_case b c m n kept rest = search rules
 
 module _ (p q : ℕ → Bool) (kept : (x : ℕ) → p x ≡ true → q x ≡ true) where
   counted_le : (a n : ℕ) → length (filter p (range_with_len a n)) ≤ length (filter q (range_with_len a n))
@@ -55,10 +52,7 @@ module _ (windows : List (ℤ × ℤ)) (steps : ℕ) where
       other (before_itself (soonest_in windows (start_of other)) other) above 1 steps least (omega (arith, most))
 
   pub rows_apart : (one other : ℕ) → 1 ≤ one → one ≤ steps → 1 ≤ other → other ≤ steps → one ≢ other → row_in windows steps one ≢ row_in windows steps other
-  rows_apart one other a b c d apart = λ same. ⊎_elim
-      (λ (first : is_above windows other one ≡ true). absurd (omega (arith, same, above_less other one a b first)))
-      (λ (second : is_above windows one other ≡ true). absurd (omega (arith, same, above_less one other c d second)))
-      (one_before (soonest_in windows (start_of one)) one (soonest_in windows (start_of other)) other apart)
+  rows_apart one other a b c d apart = search (rules, above_less)
 
   -- a step doesn't stand above itself, so there is a row for it
   pub row_below : (step : ℕ) → 1 ≤ step → step ≤ steps → row_in windows steps step < steps

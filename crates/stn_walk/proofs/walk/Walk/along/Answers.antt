@@ -6,16 +6,16 @@ short : (gap before : ℕ) → gap < 68719476736 → before < 16384 → gap * be
 short gap before small few = grind arith
 
 pub overflow_mul-shift : goal.overflow_mul-shift
-overflow_mul-shift g c = omega (arith, short c.args.self.now.axis.gap c.args.self.now.axis.before (omega arith) (omega arith))
+overflow_mul-shift g c = omega (arith, short)
 
 pub overflow_cast-shift : goal.overflow_cast-shift
-overflow_cast-shift g c = omega (arith, ints, short c.args.self.now.axis.gap c.args.self.now.axis.before (omega arith) (omega arith))
+overflow_cast-shift g c = omega (arith, short)
 
 pub overflow_add-time : goal.overflow_add-time
-overflow_add-time g c = omega (arith, ints, short c.args.self.now.axis.gap c.args.self.now.axis.before (omega arith) (omega arith))
+overflow_add-time g c = omega (arith, ints, short)
 
 pub returns-clause-value : goal.returns-clause-value
-returns-clause-value g c = omega (arith, ints, short c.args.self.now.axis.gap c.args.self.now.axis.before (omega arith) (omega arith))
+returns-clause-value g c = omega (arith, ints, short)
 
 pub returns-clause-small : goal.returns-clause-small
-returns-clause-small g c = omega (arith, ints, short c.args.self.now.axis.gap c.args.self.now.axis.before (omega arith) (omega arith))
+returns-clause-small g c = omega (arith, ints, short)
