@@ -26,7 +26,7 @@ module _ (before after : ℕ) (first : before < 35184372088832) (second : after 
   fit_few gap e = search rules
 
   few_in : (xs : List ℕ) → gaps_in (first_gap before after xs) before + gaps_in (first_gap before after xs) after < 16384
-  few_in [] = omega (arith, first)
+  few_in [] = omega (arith)
   few_in (gap ∷ rest) = few_case gap (first_gap before after rest) (fit_few gap) (few_in rest)
 
   -- an axis has few gaps
