@@ -1,16 +1,13 @@
 -- Where all steps are chosen, the events that don't count as left, by the steps of a plan and without them.
-use Rattle.std.{proofs.{Common.{◌≡◌, ℕ, ◌+◌, ◌*◌, ◌≤◌, false, ◌||◌, ◌&&◌, not, leb, List, [], ◌∷◌, Bor, Option, Some, None, unwrap_or, option_map, ap, ◌∙◌, arith}, lemmas.List.FromFn.{fill_by_all, get_or-map-range_with_len, length-map-range_with_len}}, specs.List.list_any}
-use Rattle.stn_site.{proofs.AllOwn.has_all, specs.{declared.own.{StepRange.StepRange, Own.Own}, Own.{has, is_end, is_own, done_or_others}, Report.is_done}}
-use Rattle.stn_lift.specs.{BaseBounds.step_of, PlanSource.{PlanSource, steps_of, events_of}}
+use Rattle.std.proofs.{Common.{rules, ◌≡◌, ℕ, ◌+◌, ◌*◌, ◌≤◌, false, ◌||◌, not, List, [], ◌∷◌, Bor, None, unwrap_or, ap, ◌∙◌, arith}, lemmas.List.FromFn.{fill_by_all, get_or-map-range_with_len, length-map-range_with_len}}
+use Rattle.stn_site.specs.{declared.own.{StepRange.StepRange, Own.Own}, Own.{is_own, done_or_others}, Report.is_done}
+use Rattle.stn_lift.specs.PlanSource.{PlanSource, steps_of, events_of}
 use Rattle.stn_records.specs.Content.{Content}
 use Rattle.stn_command.specs.{declared.queries.Choice.Choice as ChoiceOfCode, Dispatch.{is_chosen, done_or_not_chosen}, Query.seen_choice}
 
 chosen_all : (own : Own) (range : StepRange) (steps event : ℕ) → own.steps.now ≡ range ∷ [] → range.first ≡ 0 → range.last ≡ steps → event ≤ 2 * steps
     → is_own own event ≡ is_chosen (record { steps = None; starts = own.starts }) event
-chosen_all own range steps event list first last within =
-    (λ i. list_any (λ (r : StepRange). has r event) (list i) && not (own.starts && is_end event))
-    ∙ (λ i. (leb (first i) (step_of event) && leb (step_of event) (last i) || false) && not (own.starts && is_end event))
-    ∙ ap (λ t. (t || false) && not (own.starts && is_end event)) (has_all steps event within)
+chosen_all own range steps event list first last within = search rules
 
 pub all_chosen : (own : Own) (range : StepRange) (source : PlanSource) (state : Content) → own.steps.now ≡ range ∷ [] → range.first ≡ 0 → range.last ≡ steps_of source
     → done_or_others own source state ≡ done_or_not_chosen (record { steps = None; starts = own.starts }) source state
@@ -25,10 +22,4 @@ all_chosen own range source state list first last =
 pub chosen_own : (choice : ChoiceOfCode) (steps all : Bor (List StepRange)) (range : StepRange) (source : PlanSource) (state : Content) → steps ≡ unwrap_or choice.steps all
     → all.now ≡ range ∷ [] → range.first ≡ 0 → range.last ≡ steps_of source
     → done_or_others (record { steps = steps; starts = choice.starts }) source state ≡ done_or_not_chosen (seen_choice choice) source state
-chosen_own choice steps all range source state is list first last = by choice.steps is
-  where
-    by : (found : Option (Bor (List StepRange))) → steps ≡ unwrap_or found all
-        → done_or_others (record { steps = steps; starts = choice.starts }) source state
-        ≡ done_or_not_chosen (record { steps = option_map (λ ranges. ranges.now) found; starts = choice.starts }) source state
-    by None e = all_chosen (record { steps = steps; starts = choice.starts }) range source state (ap (λ (one : Bor (List StepRange)). one.now) e ∙ list) first last
-    by (Some ranges) e = ap (λ (one : Bor (List StepRange)). done_or_others (record { steps = one; starts = choice.starts }) source state) e
+chosen_own choice steps all range source state is list first last = search (rules, all_chosen)

@@ -4,12 +4,12 @@ use Rattle.stn_net.specs.{Difference.Difference, Schedule.{Meets, HasSchedule}}
 use Rattle.stn_conflict.{specs.{declared.links.Link.Link, Arcs.{bound_at, IsChain, weight_of, IsNegativeCycle}}, proofs.Tightness.arc_kept}
 use Rattle.stn_records.specs.{Id.{SiteCounter, same_ids}, declared.record.{Mark.TheVariants.Plain, Record.Record}}
 use Rattle.stn_site.specs.{Bounds.bounds_of, Names.name_in, declared.names.BoundName.TheVariants.{Record as of_record}}
-use Rattle.stn_repairs.{specs.{Repairs.{without, others}, Links.IsLinkOf}, proofs.Elements.{first_of, later_of, first_or_later, none_of_nothing, kept_by, mapped}}
+use Rattle.stn_repairs.{specs.{Repairs.{without, others}, Links.IsLinkOf}, proofs.Elements.{first_of, later_of, first_or_later, kept_by, mapped}}
 
 -- over a chain of links whose bounds are met, times grow by its weight at most
 chain_kept : (bounds : List Difference) (time : ℕ → ℤ) (links : List Link) (x y : ℕ) → ((link : Link) → Contains links link → link.place < length bounds → Meets time (bound_at bounds link.place))
     → IsChain bounds links x y → (time y -ℤ time x) ≤ℤ weight_of bounds links
-chain_kept bounds time [] x y met chain = let e = ap time chain in omega (arith, ints)
+chain_kept bounds time [] x y met chain = search rules
 chain_kept bounds time (link ∷ links) x y met (there, from, rest) =
     let e = ap time from in
     omega (
@@ -57,7 +57,7 @@ module _ (base : List Difference) (live : List (SiteCounter × Record)) (id : Si
 
   -- a link that is of the record, or none of the links is
   find_link : (links : List Link) → ((link : Link) × Contains links link × IsLinkOf (length base) live id link) ⊎ ((link : Link) → Contains links link → IsLinkOf (length base) live id link → ⊥)
-  find_link [] = inr (λ link has is. none_of_nothing link has)
+  find_link [] = search rules
   find_link (first ∷ links) =
       ⊎_elim
       (λ here. inl (first, first_of first links, here))

@@ -1,5 +1,5 @@
 -- What a list has.
-use Rattle.std.{proofs.{Common.{◌≡◌, zero, suc, Bool, true, false, cond, List, [], ◌∷◌, map, filter, refl, sym, ap, subst, ◌∙◌, inl, inr, ⊎_elim, arith, ◌⊎◌}, lemmas.{Bool.false≢true, List.{length-map, get_or-map}}}, specs.List.Contains}
+use Rattle.std.{proofs.{Common.{rules, ◌≡◌, suc, Bool, true, false, cond, List, [], ◌∷◌, map, filter, refl, sym, ap, subst, ◌∙◌, ⊎_elim, arith, ◌⊎◌}, lemmas.{Bool.false≢true, List.{length-map, get_or-map}}}, specs.List.Contains}
 
 module _ {X : Type 0} where
   pub first_of : (x : X) (xs : List X) → Contains (x ∷ xs) x
@@ -10,8 +10,7 @@ module _ {X : Type 0} where
 
   -- an element is the first, or one of the rest
   pub first_or_later : (y : X) (xs : List X) (x : X) → Contains (y ∷ xs) x → (y ≡ x) ⊎ Contains xs x
-  first_or_later y xs x (zero, below, is) = inl is
-  first_or_later y xs x (suc k, below, is) = inr (k, omega arith, is)
+  first_or_later y xs x h3 = search rules
 
   pub none_of_nothing : (x : X) → Contains [] x → ⊥
   none_of_nothing x (k, below, is) = omega arith

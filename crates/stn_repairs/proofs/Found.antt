@@ -1,5 +1,5 @@
 -- The repairs among one record more.
-use Rattle.std.proofs.{Common.{◌≡◌, ℕ, ◌+◌, ◌<◌, List, [], ◌∷◌, ◌++◌, length, take, get_or, refl, sym, ap, subst, ◌∙◌, inl, inr, ⊎_elim}, lemmas.List.take_more}
+use Rattle.std.proofs.{Common.{rules, ◌≡◌, ℕ, ◌+◌, ◌<◌, List, [], ◌∷◌, ◌++◌, length, take, get_or, sym, ap, subst, ◌∙◌, inl, inr, ⊎_elim}, lemmas.List.take_more}
 use Rattle.stn_net.specs.{Difference.Difference, Schedule.HasSchedule}
 use Rattle.stn_records.specs.{Id.SiteCounter, declared.record.Record.Record}
 use Rattle.stn_repairs.specs.{declared.repair.Repair.Repair, Repairs.{others, IsRepair, AreRepairs}}
@@ -13,7 +13,7 @@ module _ (base : List Difference) (live : List (SiteCounter × Record)) where
 
   one_more : (front : List (SiteCounter × Record)) (repairs : List Repair) (entry : SiteCounter × Record) (repair : Repair) → AreRepairs base live front repairs
       → IsRepair (others base live entry.0) entry.0 entry.1.bound repair → AreRepairs base live (front ++ entry ∷ []) (repairs ++ repair ∷ [])
-  one_more [] repairs entry repair are is = inr (repair, [], is, refl, ap (λ some. some ++ repair ∷ []) are)
+  one_more [] repairs entry repair are is = search rules
   one_more (first ∷ front) repairs entry repair are is =
       ⊎_elim
       (λ h. inl (h.0, one_more front repairs entry repair h.1 is))

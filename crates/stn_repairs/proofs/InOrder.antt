@@ -1,7 +1,7 @@
 -- The ids of the refused records, in order, are those among the live ones.
-use Rattle.std.{proofs.{Common.{◌≡◌, ◌+◌, Bool, true, false, ◌&&◌, ◌||◌, not, Ordering, Less, Equal, Greater, is_lt, is_eq, List, [], ◌∷◌, ◌++◌, map, filter, get_or, refl, sym, ap, subst, ◌∙◌, ⊎_elim, arith}, lemmas.{Bool.{and_parts, or_right, false≢true}, List.{Kept.IsStrictlySortedBy-filter, Sorted.{IsPermutation-filter_both, IsPermutation-map, list_any-IsPermutation}}, Map.{Keys.{IsDistinct-cons, IsDistinct-from_sorted, IsDistinct-head, IsDistinct-tail, IsDistinct-IsPermutation, apart_from_distinct, sorted_from_all_adjacent}, Lookups.btree_set_from_contains, Made.is_member-filter}}}, specs.{Cmp.{IsEquivalence, eq_by_cmp_equiv}, List.{AllByRecursion, IsDistinct, Sorted.{IsPermutation, IsSorted, IsStrictlySortedBy}}, Set.is_member, FinMap.{is_sorted, Entries.below_all}}}
+use Rattle.std.{proofs.{Common.{rules, ◌≡◌, ◌+◌, Bool, true, false, ◌&&◌, ◌||◌, not, Less, is_lt, List, [], ◌∷◌, ◌++◌, map, filter, get_or, sym, ap, subst, ◌∙◌, ⊎_elim, arith}, lemmas.{Bool.{and_parts, or_right}, List.{Kept.IsStrictlySortedBy-filter, Sorted.{IsPermutation-filter_both, IsPermutation-map, list_any-IsPermutation}}, Map.{Keys.{IsDistinct-cons, IsDistinct-from_sorted, IsDistinct-head, IsDistinct-tail, IsDistinct-IsPermutation, apart_from_distinct, sorted_from_all_adjacent}, Lookups.btree_set_from_contains, Made.is_member-filter}}}, specs.{Cmp.{IsEquivalence, eq_by_cmp_equiv}, List.{AllByRecursion, IsDistinct, Sorted.{IsPermutation, IsSorted, IsStrictlySortedBy}}, Set.is_member, FinMap.{is_sorted, Entries.below_all}}}
 use Rattle.stn_net.specs.Difference.{Difference}
-use Rattle.stn_records.{specs.{Id.{SiteCounter, id_cmp, same_ids}, Record.same_marks, declared.record.{Mark.{Mark, TheVariants.{Plain, Done}}, Record.Record}, ContentLaws.{ids_decide, ids_exact, ids_total}}, proofs.Entries.{greater_back, less_is}}
+use Rattle.stn_records.{specs.{Id.{SiteCounter, id_cmp, same_ids}, Record.same_marks, declared.record.{Mark.{Mark, TheVariants.{Plain, Done}}, Record.Record}, ContentLaws.{ids_decide, ids_exact, ids_total}}, proofs.Entries.less_is}
 use Rattle.stn_repairs.specs.Dropped.{facts_first, AreRefused}
 
 laws : IsEquivalence same_ids
@@ -22,12 +22,7 @@ ids_rise (entry ∷ records) e = let both = and_parts _ _ e in (all_below entry.
 
 -- and so do ids that were sorted, and differ
 next_less : (a b : SiteCounter) → is_lt (id_cmp b a) ≡ false → same_ids a b ≡ false → id_cmp a b ≡ Less
-next_less a b up apart = by (id_cmp a b) refl
-  where
-    by : (order : Ordering) → id_cmp a b ≡ order → id_cmp a b ≡ Less
-    by Less e = e
-    by Equal e = absurd (false≢true (sym apart ∙ ap is_eq e))
-    by Greater e = absurd (false≢true (sym up ∙ ap is_lt (greater_back ids_total a b e)))
+next_less a b up apart = search rules
 
 nobody : SiteCounter
 nobody = record { site = 0; counter = 0 }
@@ -50,7 +45,7 @@ each_refused P kept (entry ∷ rest) refused are all =
 -- no id is refused twice
 refused_differ : (kept : List Difference) (order : List (SiteCounter × Record)) (refused : List SiteCounter) → AreRefused kept order refused
     → IsDistinct same_ids (ids_of order) → IsDistinct same_ids refused
-refused_differ kept [] refused are differ = subst (IsDistinct same_ids) (sym are) differ
+refused_differ kept [] refused are differ = search rules
 refused_differ kept (entry ∷ rest) refused are differ =
     let others = IsDistinct-tail same_ids entry.0 (ids_of rest) differ in
     ⊎_elim
@@ -63,12 +58,11 @@ refused_differ kept (entry ∷ rest) refused are differ =
 
 -- and each is that of a record
 or_later : (a b c : Bool) → (b ≡ true → c ≡ true) → (a || b) ≡ true → (a || c) ≡ true
-or_later true b c implied either = refl
-or_later false b c implied either = implied either
+or_later a b c implied either = search rules
 
 refused_among : (id : SiteCounter) (kept : List Difference) (order : List (SiteCounter × Record)) (refused : List SiteCounter) → AreRefused kept order refused
     → is_member same_ids refused id ≡ true → is_member same_ids (ids_of order) id ≡ true
-refused_among id kept [] refused are has = ap (λ (ids : List SiteCounter). is_member same_ids ids id) (sym are) ∙ has
+refused_among id kept [] refused are has = cc
 refused_among id kept (entry ∷ rest) refused are has =
     ⊎_elim
     (λ h. or_right (same_ids id entry.0) _ (refused_among id (kept ++ entry.1.bound ∷ []) rest refused h.1 has))
@@ -76,13 +70,10 @@ refused_among id kept (entry ∷ rest) refused are has =
     are
 
 other_mark : (mark : Mark) → same_marks mark Plain ≡ not (same_marks mark Done)
-other_mark Plain = refl
-other_mark Done = refl
+other_mark mark = search rules
 
 and_implied : (a b : Bool) → (b ≡ true → a ≡ true) → b ≡ (a && b)
-and_implied true b implied = refl
-and_implied false true implied = sym (implied refl)
-and_implied false false implied = refl
+and_implied a b implied = search rules
 
 -- the refused ids, sorted
 pub sorted_are : (base : List Difference) (live : List (SiteCounter × Record)) (refused ids : List SiteCounter) → is_sorted id_cmp live ≡ true → AreRefused base (facts_first live) refused

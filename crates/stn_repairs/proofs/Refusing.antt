@@ -1,5 +1,5 @@
 -- Which records are refused, one after another.
-use Rattle.std.proofs.{Common.{rules, ◌≡◌, ℕ, ◌+◌, ◌<◌, ◌≤◌, List, [], ◌∷◌, ◌++◌, length, drop, get_or, refl, sym, subst, ◌∙◌, inl, add-one, append_assoc}, Math.{Seq.drop-cons, ListN.drop_of_length-le}, lemmas.List.append-nil}
+use Rattle.std.proofs.{Common.{rules, ◌≡◌, ℕ, ◌+◌, ◌<◌, ◌≤◌, List, [], ◌∷◌, ◌++◌, length, drop, get_or, refl, sym, subst, append_assoc}, Math.{Seq.drop-cons, ListN.drop_of_length-le}, lemmas.List.append-nil}
 use Rattle.stn_net.specs.{Difference.Difference, Schedule.HasSchedule}
 use Rattle.stn_records.specs.{Id.SiteCounter, declared.record.Record.Record}
 use Rattle.stn_repairs.specs.Dropped.{AreRefused}
@@ -11,16 +11,16 @@ IsRefusedSoFar base order place refused kept = (later : List SiteCounter) → Ar
 
 -- at first all of the plan's
 pub none_refused : (base : List Difference) (order : List (SiteCounter × Record)) → IsRefusedSoFar base order 0 [] (base ++ [])
-none_refused base order = λ later h. subst (λ kept. AreRefused kept order later) (append-nil base) h
+none_refused base order = search rules
 
 module _ (base : List Difference) (order : List (SiteCounter × Record)) (place : ℕ) (entry : SiteCounter × Record) (refused : List SiteCounter) (kept : List Difference)
     (there : place < length order) (is_at : entry ≡ get_or order place entry) (so_far : IsRefusedSoFar base order place refused kept) where
   left : drop place order ≡ entry ∷ drop (place + 1) order
-  left = drop-cons order place entry there ∙ (λ i. sym is_at i ∷ drop (sym (add-one place) i) order)
+  left = search (rules, drop-cons)
 
   -- one that is kept
   pub keeps_one : HasSchedule (kept ++ entry.1.bound ∷ []) → IsRefusedSoFar base order (place + 1) refused (kept ++ entry.1.bound ∷ [])
-  keeps_one possible = λ later h. so_far later (subst (λ (rest : List (SiteCounter × Record)). AreRefused kept rest later) (sym left) (inl (possible, h)))
+  keeps_one possible = search (rules, left)
 
   -- one that is refused
   pub refuses_one : ¬ HasSchedule (kept ++ entry.1.bound ∷ []) → IsRefusedSoFar base order (place + 1) (refused ++ entry.0 ∷ []) kept

@@ -1,4 +1,4 @@
-use Rattle.std.{proofs.{Common.{◌++◌, ◌∙◌, ap, sym, arith}, lemmas.List.{append-nil, take_all}}, specs.List.flat_map}
+use Rattle.std.proofs.{Common.{◌∙◌, sym, arith}, lemmas.List.{append-nil, take_all}}
 use Rattle.stn_site.proofs.Behind.{behind}
 use Rattle.stn_text.proofs.Growing.{lines_grown}
 use Rattle.stn_command.specs.Guarding.{added_line}
@@ -21,5 +21,4 @@ returns-clause-behind g c =
     behind c.args.out.now.len c.args.out.now.items _ c.loop-id.out.items (omega (arith, c.args.out.now.ok.0)) c.loop-id.invariant
 
 pub returns-clause-printed : goal.returns-clause-printed
-returns-clause-printed g c =
-    c.loop-id.invariant ∙ ap (λ all. c.args.out.now.items ++ flat_map added_line all) (take_all c.loop-id.id-index c.args.ids.now c.loop-id-test.false)
+returns-clause-printed g c = cc (take_all c.loop-id.id-index c.args.ids.now c.loop-id-test.false)

@@ -1,4 +1,4 @@
-use Rattle.std.{proofs.{Common.{◌≡◌, ◌∙◌, ℕ, ◌+◌, ◌<◌, ◌≤◌, ◌++◌, ◌==◌, Bool, true, false, List, add-one, refl, sym, ap, arith, get_or, set, length, map, take}, Math.Bool.{or-true, or-false}, lemmas.{Bool.{cases_eq, Decides.nat_tests}, Grind.{common_steps, get_or_default_zero}, List.{append-nil, get_or-set_same, get_or-set_other, length-set, Folds.list_any_more}}}, specs.{List.list_any, Prelude.slice_index_or}}
+use Rattle.std.{proofs.{Common.{◌≡◌, ◌∙◌, ℕ, ◌+◌, ◌<◌, ◌≤◌, ◌++◌, ◌==◌, Bool, true, false, List, add-one, refl, sym, ap, arith, get_or, set, length, map, take}, Math.Bool.{or-true, or-false}, lemmas.{Bool.Decides.nat_tests, Grind.{common_steps, get_or_default_zero}, List.{append-nil, get_or-set_same, get_or-set_other, length-set, Folds.list_any_more}}}, specs.{List.list_any, Prelude.slice_index_or}}
 use Rattle.stn_text.proofs.Growing.{range_grown}
 use Rattle.stn_net.specs.Event.{most_steps}
 use Rattle.stn_lift.specs.BaseBounds.{step_of}
@@ -11,7 +11,7 @@ named_more : (flags : List Bool) (events : List ℕ) (place flag step : ℕ) →
     → get_or flags step false ≡ list_any (λ other. step_of other == step) (take place events)
     → get_or (set flags flag true) step false ≡ list_any (λ other. step_of other == step) (take (place + 1) events)
 named_more flags events place flag step within is room named =
-    grind (arith, common_steps, nat_tests, cases_eq flag step, list_any_more, get_or-set_same, get_or-set_other, or-true, or-false)
+    grind (arith, common_steps, nat_tests, list_any_more, get_or-set_same, get_or-set_other, or-true, or-false)
 
 pub loop-event-init : goal.loop-event-init
 loop-event-init g c = record {

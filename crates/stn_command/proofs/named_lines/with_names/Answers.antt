@@ -1,4 +1,4 @@
-use Rattle.std.{proofs.{Common.{◌≡◌, ◌∙◌, ℕ, List, [], ◌∷◌, ◌++◌, length, map, refl, sym, ap, arith}, lemmas.{Grind.common_steps, List.append-nil}}, specs.List.flat_map}
+use Rattle.std.{proofs.{Common.{◌≡◌, ◌∙◌, ℕ, List, [], ◌++◌, length, map, sym, ap, arith}, lemmas.{Grind.common_steps, List.append-nil}}, specs.List.flat_map}
 use Rattle.stn_text.specs.Lines.{lines_of}
 use Rattle.stn_command.specs.NamedLines.{line_with_names}
 use Rattle.stn_command.proofs.named_lines.with_names.Goals as goal
@@ -6,8 +6,7 @@ use Rattle.stn_command.proofs.named_lines.with_names.Goals as goal
 -- an empty text has no lines
 no_lines : (text : List ℕ) → length text ≡ 0 → lines_of text ≡ []
 unfolding lines_of
-no_lines [] none = refl
-no_lines (x ∷ xs) none = absurd (omega arith)
+no_lines text none = grind (arith, common_steps)
 
 pub returns : goal.returns
 returns g c =

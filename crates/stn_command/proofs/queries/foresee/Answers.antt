@@ -1,4 +1,4 @@
-use Rattle.std.{proofs.Common.{◌≡◌, ℤ, Vec, Result, Ok, Err, true, inl, inr, refl, sym, ap, ◌∙◌, ℕ, subst}, specs.Prelude.Some}
+use Rattle.std.{proofs.Common.{rules, ◌≡◌, ℤ, Vec, Result, true, inl, refl, sym, ap, ◌∙◌, ℕ, subst}, specs.Prelude.Some}
 use Rattle.stn_refusal.specs.declared.failure.Failure.{Failure}
 use Rattle.stn_lift.specs.PlanSource.{steps_of}
 use Rattle.stn_site.specs.Held.{Held}
@@ -9,11 +9,7 @@ use Rattle.stn_command.proofs.queries.foresee.Goals as goal
 
 foreseen : {A : Type 0} (held : Held) (outlook : Outlook) (now : ℤ) (choice : Choice) (result : Result (Vec ℕ A) Failure) → has_steps choice (steps_of held.source) ≡ true
     → Foresees outlook now (done_or_not_chosen choice held.source held.state) held result → Says (foresee outlook now choice) held result
-foreseen held outlook now choice (Ok text) has (said, free) = (said, inr (has, free))
-foreseen held outlook now choice (Err failure) has (inl refused) = inl (inr (has, refused))
-foreseen held outlook.Next now choice (Err failure) has (inr lack) = inr (lack, inl (inr (has, refl)))
-foreseen held outlook.Ready now choice (Err failure) has (inr lack) = inr (lack, inl (inr (has, refl)))
-foreseen held outlook.Rehearse now choice (Err failure) has (inr lack) = inr (lack, inr has)
+foreseen held outlook now choice result has h6 = search rules
 
 pub returns-then-has_steps : goal.returns-then-has_steps
 returns-then-has_steps g c =

@@ -1,4 +1,4 @@
-use Rattle.std.{proofs.{Common.{◌≡◌, ℕ, List, Option, Some, None, unwrap_or, option_map, refl, sym, ap, ◌∙◌}, lemmas.Result.err_from_is_err_and}, specs.Borrow.Bor}
+use Rattle.std.{proofs.{Common.{rules, ◌≡◌, ℕ, List, Option, unwrap_or, option_map, refl}, lemmas.Result.err_from_is_err_and}, specs.Borrow.Bor}
 use Rattle.stn_command.specs.Steps.{around, range_of, range_read}
 use Rattle.stn_command.proofs.steps.read_range.Goals as goal
 
@@ -6,14 +6,13 @@ abbrev seen : Bor (List ℕ) × Bor (List ℕ) → List ℕ × List ℕ
 seen ends = (ends.0.now, ends.1.now)
 
 seen_ends : (found : Option (Bor (List ℕ) × Bor (List ℕ))) (ends : Bor (List ℕ) × Bor (List ℕ)) → seen (unwrap_or found ends) ≡ unwrap_or (option_map seen found) (seen ends)
-seen_ends None ends = refl
-seen_ends (Some parts) ends = refl
+seen_ends found ends = search rules
 
 -- the range is that between the two ends
 between : (found : Option (Bor (List ℕ) × Bor (List ℕ))) (word : Bor (List ℕ)) (ends : Bor (List ℕ) × Bor (List ℕ)) → ends ≡ unwrap_or found (word, word)
     → option_map seen found ≡ around 45 word.now → range_read word.now ≡ range_of (seen ends)
 unfolding range_read
-between found word ends is cut = sym (ap range_of (ap seen is ∙ seen_ends found (word, word) ∙ ap (λ parts. unwrap_or parts (word.now, word.now)) cut))
+between found word ends is cut = cc (seen_ends found (word, word))
 
 pub returns-in_err-first : goal.returns-in_err-first
 returns-in_err-first c =

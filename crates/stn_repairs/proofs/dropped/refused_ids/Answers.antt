@@ -1,6 +1,6 @@
-use Rattle.std.proofs.{Common.{rules, ◌≡◌, ◌+◌, [], ◌∷◌, ◌++◌, ap, sym, subst, ◌∙◌, arith}, lemmas.{Bool.iff_false, Grind.common_steps}}
+use Rattle.std.proofs.{Common.{rules, ◌≡◌, ◌+◌, [], ◌∷◌, ◌++◌, ap, sym, subst, ◌∙◌, arith}, lemmas.Bool.iff_false}
 use Rattle.stn_conflict.specs.Listing.{ListedBounds}
-use Rattle.stn_lift.specs.PlanSource.{base_bounds, events_of}
+use Rattle.stn_lift.specs.PlanSource.{base_bounds}
 use Rattle.stn_repairs.proofs.{Listing.named_at, Refusing.{IsRefusedSoFar, keeps_one, refuses_one, all_refused}, dropped.refused_ids.Goals.{then-not-branch+in_ok-push, else-not-branch}}
 use Rattle.stn_repairs.proofs.dropped.refused_ids.Goals as goal
 
@@ -8,8 +8,7 @@ pub loop-id-init : goal.loop-id-init
 loop-id-init g c = search rules
 
 pub take-requires : goal.take-requires
-take-requires g c =
-    named_at (events_of c.args.plan.now.source) c.args.order.now c.requires c.loop-id.kept.events c.loop-id.id-index c.loop-id-item.result c.loop-id.invariant.events c.loop-id-test.true c.loop-id-item.is
+take-requires g c = search (rules, named_at)
 
 pub loop-id-preserved : goal.loop-id-preserved
 loop-id-preserved g c =
@@ -41,4 +40,4 @@ pub returns : goal.returns
 returns g c = all_refused (base_bounds c.args.plan.now.source) c.args.order.now c.loop-id.id-index c.loop-id.refused.items c.loop-id.kept.bounds c.loop-id-test.false c.loop-id.invariant.so_far
 
 pub returns-in_err-push : goal.returns-in_err-push
-returns-in_err-push g c = grind (arith, common_steps)
+returns-in_err-push g c = grind (arith)

@@ -7,20 +7,10 @@ use Rattle.stn_repairs.specs.Text.{repair_line, drop_line}
 use Rattle.stn_repairs.proofs.print.text_of.Goals as goal
 
 pub repairs_on-requires : goal.repairs_on-requires
-repairs_on-requires g c =
-    let all : c.bounds.result.now ++ c.deref-2.result.now ≡ base_bounds c.args.plan.now.source ++ bounds_of c.deref-3.result.now = search rules in
-    record {
-      named = rw (c.deref-3.ensures.value ∙ c.in_ok-live.ensures.live) c.live_records.ensures.named;
-      negative = rw (c.deref-4.ensures.value, ← all) (rw c.in-Some.is at c.in_ok-found.ensures.negative);
-    }
+repairs_on-requires g c = search rules
 
 pub dropped_ids-requires : goal.dropped_ids-requires
-dropped_ids-requires g c =
-    let listed = c.deref-5.ensures.value ∙ c.in_ok-live.ensures.live in
-    record {
-      named = rw listed c.live_records.ensures.named;
-      in_order = rw listed c.live_records.ensures.in_order;
-    }
+dropped_ids-requires g c = search rules
 
 pub returns : goal.returns
 returns g c =

@@ -6,7 +6,7 @@ use Rattle.stn_repairs.{specs.Repairs.without, proofs.{Listing.others_named, Rep
 use Rattle.stn_repairs.proofs.repairs.repair_by.Goals as goal
 
 pub has_link_of-requires : goal.has_link_of-requires
-has_link_of-requires g c = cycle_places (base_bounds c.args.plan.now.source) c.bounds.result.now c.args.live.now c.args.cycle.now (c.bounds.ensures.value ∙ ap base_bounds c.base.ensures) c.requires.negative
+has_link_of-requires g c = search (rules, cycle_places)
 
 pub returns-then-not-has_link_of : goal.returns-then-not-has_link_of
 returns-then-not-has_link_of g c =

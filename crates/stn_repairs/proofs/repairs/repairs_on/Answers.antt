@@ -1,12 +1,11 @@
-use Rattle.std.proofs.{Common.refl, lemmas.Option.{MatchOption-at_some, MatchOption-at_none}}
+use Rattle.std.proofs.{Common.rules, lemmas.Option.{MatchOption-at_some, MatchOption-at_none}}
 use Rattle.stn_net.specs.Schedule.{HasSchedule}
-use Rattle.stn_lift.specs.PlanSource.{base_bounds, events_of}
+use Rattle.stn_lift.specs.PlanSource.{base_bounds}
 use Rattle.stn_repairs.{specs.Repairs.{others, IsRepair}, proofs.{Listing.named_at, Found.{repairs_pass, repairs_grow}, repairs.repairs_on.Goals.{in-Some+in_ok-push, in_default}}}
 use Rattle.stn_repairs.proofs.repairs.repairs_on.Goals as goal
 
 pub repair_by-requires-clause-bound_named : goal.repair_by-requires-clause-bound_named
-repair_by-requires-clause-bound_named g c =
-    named_at (events_of c.args.plan.now.source) c.args.live.now c.requires.named (events_of c.args.plan.now.source) c.loop-id.id-index c.loop-id-item.result refl c.loop-id-test.true c.loop-id-item.is
+repair_by-requires-clause-bound_named g c = search (rules, named_at)
 
 pub loop-id-preserved : goal.loop-id-preserved
 loop-id-preserved g c =
