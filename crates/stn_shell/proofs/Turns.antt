@@ -1,13 +1,12 @@
 -- The lines of a shell: their words, how they are read, and how they come one after the other; and what is told.
-use Rattle.std.{proofs.{Common.{Bor, Vec, inl, inr, map, Bool, true, false, Option, Some, None, is_some, ◌≡◌, ◌∙◌, ap, sym, refl, ℕ, List, [], ◌∷◌, ◌++◌, append_assoc}, lemmas.Bool.false≢true}, specs.{Prelude.{not, IsUtf8, IfNone, IfSome, IfOk, MatchResult, if◌then◌else◌, Ok, Err, Result}, Int.from_bool, List.AllByRecursion}}
+use Rattle.std.{proofs.{lemmas.Grind.common_steps, Common.{arith, rules, Bor, Vec, map, Bool, true, false, Option, is_some, ◌≡◌, ◌∙◌, ap, sym, refl, ℕ, List, [], ◌∷◌, ◌++◌, append_assoc}}, specs.{Prelude.{not, IsUtf8, IfNone, IfSome, IfOk, MatchResult, if◌then◌else◌, Ok, Err, Result}, Int.from_bool, List.AllByRecursion}}
 use Rattle.stn_effects.specs.{Effects.{Effect, stopped, went, seen}, Printing.{Device, TellsText}}
 use Rattle.stn_refusal.specs.declared.failure.Failure.{Failure}
 use Rattle.stn_shell.specs.{Carried.{Succeeds, Does}, Outside.{Outside, TellsSome}}
 
 -- one text more
 pub texts_more : (words : List (List ℕ)) (word : List ℕ) → AllByRecursion IsUtf8 words → IsUtf8 word → AllByRecursion IsUtf8 (words ++ word ∷ [])
-texts_more [] word texts text = (text, tt)
-texts_more (first ∷ words) word texts text = (texts.0, texts_more words word texts.1 text)
+texts_more words word texts text = grind (arith, common_steps)
 
 -- a word that is no text
 pub no_texts : (words : List (List ℕ)) (word : List ℕ) (later : List (List ℕ)) → ¬ (IsUtf8 word) → ¬ (AllByRecursion IsUtf8 (words ++ word ∷ later))
@@ -16,12 +15,10 @@ no_texts (first ∷ words) word later none all = no_texts words word later none 
 
 -- the status of a shell, by whether a line was refused
 pub refused_status : (refused : Bool) (status : ℕ) → status ≡ from_bool refused → status ≡ (if refused then 1 else 0)
-refused_status true status is = is
-refused_status false status is = is
+refused_status refused status is = search rules
 
 now_more : (words : List (Bor (List ℕ))) (word : Bor (List ℕ)) → map (λ one. one.now) (words ++ word ∷ []) ≡ map (λ one. one.now) words ++ word.now ∷ []
-now_more [] word = refl
-now_more (first ∷ words) word = ap (λ later. first.now ∷ later) (now_more words word)
+now_more words word = grind (arith, common_steps)
 
 -- one word more was read
 pub one_further : (before words pushed : List (Bor (List ℕ))) (word : Bor (List ℕ)) (cut : List ℕ) (all rest later texts : List (List ℕ))
@@ -45,13 +42,9 @@ succeeded Does old new (Err failure) told is does = stopped failure does is
 -- what is told of a text that was made for it
 pub tells_some : {A E : Type 0} (Is : List ℕ → Type 0) (made : Result (Vec ℕ A) E) (err told : Device) → IfOk made (λ text. Is text.items)
     → MatchResult made (λ text. TellsText text.items err told) (λ _. told ≡ err) → TellsSome Is err told
-tells_some Is (Ok text) err told is tells = inl (text.items, is, tells)
-tells_some Is (Err lack) err told is same = inr same
+tells_some Is made err told is tells = search rules
 
 -- whether a line is skipped, by whether there is a word that opens it
 pub skipped_without : {X : Type 0} (word : Option X) (none skipped : Bool) → IfNone word (skipped ≡ true) → IfSome word (λ _. skipped ≡ false) → is_some word ≡ not none
     → skipped ≡ none
-skipped_without None true skipped skips keeps is = skips
-skipped_without None false skipped skips keeps is = absurd (false≢true is)
-skipped_without (Some word) true skipped skips keeps is = absurd (false≢true (sym is))
-skipped_without (Some word) false skipped skips keeps is = keeps
+skipped_without word none skipped skips keeps is = search rules

@@ -1,4 +1,4 @@
-use Rattle.std.proofs.{lemmas.Grind.common_steps, Common.{refl, inr, arith}}
+use Rattle.std.proofs.{lemmas.Grind.common_steps, Common.{rules, arith}}
 use Rattle.stn_shell.proofs.execution.execute_over.Goals as goal
 
 pub returns-in-Ok : goal.returns-in-Ok
@@ -10,4 +10,4 @@ returns-in-Err-Words g c =
     grind (arith, common_steps)
 
 pub returns-in-Err-Memory : goal.returns-in-Err-Memory
-returns-in-Err-Memory g c = record { status = omega arith; executed = inr (refl, refl, inr (refl, refl, c.tell_fault.ensures)) }
+returns-in-Err-Memory g c = search rules

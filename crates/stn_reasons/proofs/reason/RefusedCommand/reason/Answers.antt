@@ -1,6 +1,5 @@
-use Rattle.std.proofs.lemmas.Result.{IfOk-weaker}
+use Rattle.std.proofs.Common.{rules}
 use Rattle.stn_reasons.proofs.reason.RefusedCommand.reason.Goals as goal
 
 pub returns : goal.returns
-returns g c =
-    IfOk-weaker c.joined.result _ _ (λ text is. (c.in_ok-meaning.meaning.items, c.in_ok-about.about.items, (c.in_ok-meaning.ensures, c.in_ok-about.ensures), is)) (rw c.deref.ensures.value at c.joined.ensures)
+returns g c = search rules
