@@ -9,6 +9,8 @@ whole crate, and later ones begin with what it proved: this is the base, with wh
 the last edit is counted. So a crate's first edit has no time of its own. A process that begins and ends within a second is
 missed; the line `in all` counts everything.
 
+- Machines differ, and so does one from hour to hour. So it says how long rt selftest, which is the same work everywhere, took before
+  and after the gate.
 - Each proof gets one processor, and as many run as there are processors, or as RT_JOBS says (.ci/run): a second processor saves
   a proof a tenth of its time at most.
 - A library with more than one edit is proved once more, as the base. With one edit it has no base: the edit is tried from
@@ -154,6 +156,19 @@ def from_nothing():
     return ["--anew"] if "--anew" in helped.stdout else []
 
 
+def selftest_seconds():
+    """Returns how many seconds of one processor the kit's own example takes to prove, build and run: how fast this machine is now."""
+    before = used_seconds()
+    subprocess.run(["rt", "selftest"], stdout=subprocess.DEVNULL, stderr=subprocess.DEVNULL, check=True)
+    return used_seconds() - before
+
+
+def used_seconds():
+    """Returns how many seconds of a processor the programs that ended have used."""
+    used = resource.getrusage(resource.RUSAGE_CHILDREN)
+    return used.ru_utime + used.ru_stime
+
+
 def print_table(parts, crates):
     """Prints the seconds of each crate's parts, and its dearest edits."""
 
@@ -184,7 +199,8 @@ def is_within(processor, clock, jobs):
 
 def main():
     jobs = sys.argv[1] if len(sys.argv) > 1 else os.environ.get("RT_JOBS", "")
-    ended, began = threading.Event(), time.time()
+    yardstick = selftest_seconds()
+    ended, began, before = threading.Event(), time.time(), used_seconds()
     with subprocess.Popen(["rt", "ci", *from_nothing()], cwd=TOP, stdin=subprocess.DEVNULL, env={**os.environ, "RT_JOBS": jobs}) as process:
         gate = Gate(process)
         watcher = threading.Thread(target=gate.watch, args=(ended,), daemon=True)
@@ -192,9 +208,9 @@ def main():
         status = process.wait()
         ended.set()
         watcher.join()
-    used = resource.getrusage(resource.RUSAGE_CHILDREN)
-    processor, clock = (used.ru_utime + used.ru_stime) / 60, (time.time() - began) / 60
+    processor, clock = (used_seconds() - before) / 60, (time.time() - began) / 60
     print_table(gate.parts(), below())
+    print(f"rt selftest: {yardstick:.0f} seconds of one processor before the gate, {selftest_seconds():.0f} after it")
     print(f"in all: {processor:.0f} minutes of one processor, {clock:.0f} by the clock")
     held = is_within(processor, clock, jobs)
     return status or int(not held)
