@@ -1,4 +1,4 @@
-use Rattle.std.proofs.{Common.{append_assoc, rules, ◌≡◌, ◌<◌, ◌++◌, ◌∷◌, map, length, get_or, sym, subst, [], arith}, lemmas.{List.{map-append, take_more, get_or-map, length-map}, Grind.common_steps}}
+use Rattle.std.proofs.{Common.{append_assoc, rules, ◌≡◌, ◌<◌, ◌++◌, ◌∷◌, map, length, get_or, sym, subst, [], arith}, lemmas.{Result.err_from_is_err_and, List.{map-append, take_more, get_or-map, length-map}, Grind.common_steps}}
 use Rattle.stn_pddl.specs.{Sound.IsSoundAtom, Views.{atom_schema, atoms_schema}}
 use Rattle.stn_lift.{specs.{Plan.Views.word_of, Numbering.AreNumbersOf}, proofs.NumberLists.{kept_along, numbers_kept, numbers_push, all_said}}
 use Rattle.stn_lift.proofs.atoms.Atoms.append_numbers.Goals as goal
@@ -30,14 +30,8 @@ loop-atom-preserved g c =
 pub returns-clause-numbers : goal.returns-clause-numbers
 returns-clause-numbers g c = grind (arith, common_steps)
 
-pub returns-in_err-number-clause-kept : goal.returns-in_err-number-clause-kept
-returns-in_err-number-clause-kept g c = grind (arith, common_steps)
+pub returns-in_err-number : goal.returns-in_err-number
+returns-in_err-number g c = let p = err_from_is_err_and c.from_residual.result c.from_residual.ensures.1 in rw (p.1) (record { numbers = tt; kept = tt })
 
-pub returns-in_err-number-clause-numbers : goal.returns-in_err-number-clause-numbers
-returns-in_err-number-clause-numbers g c = grind (arith, common_steps)
-
-pub returns-in_err-push-clause-kept : goal.returns-in_err-push-clause-kept
-returns-in_err-push-clause-kept g c = grind (arith, common_steps)
-
-pub returns-in_err-push-clause-numbers : goal.returns-in_err-push-clause-numbers
-returns-in_err-push-clause-numbers g c = grind (arith, common_steps)
+pub returns-in_err-push : goal.returns-in_err-push
+returns-in_err-push g c = let p = err_from_is_err_and c.from_residual-in_err-push.result c.from_residual-in_err-push.ensures.1 in rw (p.1) (record { numbers = tt; kept = tt })
