@@ -5,6 +5,10 @@ use Rattle.stn_site.specs.Report.{is_done}
 use Rattle.stn_text.proofs.Growing.{range_push}
 use Rattle.stn_chart.specs.{declared.parts.Part.Part, Frame.{entry_at, left_after, entries_text}, Chart.{Chart, floor, floors_at}, Seen.present_floor}
 
+-- nine pieces, joined from the right or from the left
+pub regrouped : (out a b c d e f g h i : List ℕ) → out ++ (a ++ (b ++ (c ++ (d ++ (e ++ (f ++ (g ++ (h ++ i)))))))) ≡ out ++ ((((((((a ++ b) ++ c) ++ d) ++ e) ++ f) ++ g) ++ h) ++ i)
+regrouped out a b c d e f g h i = simp append_assoc
+
 first_case : (b : Bool) (x : ℕ) (rest : List ℕ) → length (cond b (x ∷ rest) rest) ≡ cond b 1 0 + length rest
 first_case b x rest = search rules
 

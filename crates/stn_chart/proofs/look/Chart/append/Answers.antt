@@ -1,4 +1,4 @@
-use Rattle.std.proofs.Common.{append_assoc}
+use Rattle.std.proofs.Common.{refl}
 use Rattle.stn_drawing.proofs.Grown.{then, last}
 use Rattle.stn_chart.proofs.look.Chart.append.Goals as goal
 
@@ -9,4 +9,4 @@ returns g c =
     let rows = then out _ _ axis c.in_ok-append_rows.ensures in
     let present = then out _ _ rows c.in_ok-append_present.ensures in
     let legend = then out _ _ present c.in_ok-append_legend.ensures in
-    last c.extend_from_slice.result out _ _ _ legend c.extend_from_slice.ensures.items (simp append_assoc)
+    last c.extend_from_slice.result out _ _ _ legend c.extend_from_slice.ensures.items refl

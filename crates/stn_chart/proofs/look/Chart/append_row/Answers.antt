@@ -1,4 +1,4 @@
-use Rattle.std.proofs.Common.{append_assoc}
+use Rattle.std.proofs.Common.{refl}
 use Rattle.stn_drawing.proofs.Grown.{then, last}
 use Rattle.stn_chart.proofs.look.Chart.append_row.Goals as goal
 
@@ -12,4 +12,4 @@ returns g c =
     let mark = then out _ _ rest c.in_ok-append_latest_mark.ensures in
     let owner = then out _ _ mark c.in_ok-append_owner.ensures in
     let arrow = then out _ _ owner c.in_ok-append_arrow.ensures in
-    last c.extend_from_slice.result out _ _ _ arrow c.extend_from_slice.ensures.items (simp append_assoc)
+    last c.extend_from_slice.result out _ _ _ arrow c.extend_from_slice.ensures.items refl
