@@ -1,9 +1,13 @@
 -- The first part of a heading: the steps of a bare plan, or the blocks of a domain and of a plan.
-use Rattle.std.{proofs.{lemmas.Grind.common_steps, Common.{rules, ◌≡◌, ℕ, ◌+◌, ◌<◌, true, false, List, [], ◌∷◌, ◌++◌, length, length-append, take, Option, Some, None, Ok, Err, refl, ap, arith, codes, append_assoc}}, specs.Option.option_map}
+use Rattle.std.{proofs.{lemmas.Grind.common_steps, Common.{rules, ◌≡◌, ℕ, ◌+◌, ◌<◌, ◌==◌, zero, suc, true, false, List, [], ◌∷◌, ◌++◌, length, length-append, take, Option, Some, None, Ok, Err, refl, ap, arith, codes, append_assoc}}, specs.Option.option_map}
 use Rattle.stn_text.specs.Lines.{IsCutBehindLine, lines_of, words_of}
 use Rattle.stn_refusal.specs.declared.failure.Failure.{Failure}
 use Rattle.stn_command.specs.Words.{and_then}
 use Rattle.stn_exec.specs.{Blocks.{Block, is_alone, with_text, line_text, block_from}, Script.{Found, next_line, or_line, bare_part, files_part, first_part, based}}
+
+pub some_left : (n : ℕ) → (n == 0) ≡ false → 0 < n
+some_left zero is = cc
+some_left (suc n) is = omega arith
 
 -- ---- blocks
 with_texts : (front more : List ℕ) (block : Option Block) → option_map (with_text front) (option_map (with_text more) block) ≡ option_map (with_text (front ++ more)) block

@@ -1,4 +1,4 @@
-use Rattle.std.{proofs.{Common.{rules, ◌≡◌, ◌∷◌, ℕ, List, cond, inl, refl, sym, ap, ◌∙◌, subst, arith}, lemmas.{Grind.common_steps, Result.err_from_is_err_and}}, specs.Io.KnownBytes.Appends}
+use Rattle.std.{proofs.{Common.{rules, ◌≡◌, ◌∷◌, ◌++◌, ℕ, List, cond, inl, refl, sym, ap, ◌∙◌, subst, arith}, lemmas.{Grind.common_steps, Result.err_from_is_err_and}}, specs.Io.KnownBytes.Appends}
 use Rattle.stn_device.specs.{Bytes.AppendsPart, Counted.counted_device}
 use Rattle.stn_text.specs.Lines.{words_of}
 use Rattle.stn_exec.{specs.{Output.{CountsRefusals, WritesOutput, WritesOutputPart}, Script.{Outcome, effect_outcome, line_effect, line_outcome}}, proofs.{Outputs.{count_none, count_one}, Scripts.{line_outcome-skipped, line_outcome-run, output_one, part-one}}}
@@ -13,7 +13,7 @@ returns-in_err-write_whole-in-Some-clause-run g c =
     let replied = c.in_ok-refused-in-Some.ensures in
     let cut : line_outcome c.args.number c.args.world.now words ≡ effect_outcome (line_effect c.args.number c.args.world.now (c.in-Some.word.now ∷ words_of c.in-Some.rest.now)) =
     line_outcome-run c.args.number c.args.world.now words c.in-Some.ensures.kept ∙ ap (λ (w : List (List ℕ)). effect_outcome (line_effect c.args.number c.args.world.now w)) c.in-Some.ensures.cut in
-    let printed : c.deref.result.now ≡ replied.text = grind (arith, common_steps, replied.appended) in
+    let printed : c.deref.result.now ≡ replied.text = c.deref.ensures.value ∙ replied.appended ∙ ap (λ items. items ++ replied.text) c.new-out.ensures.items in
     rw (p.1, p.2) (
       subst (λ (o : Outcome). WritesOutputPart before after o.replies) (sym cut) (part-one before after _ replied.text replied.printed (subst (AppendsPart before after) printed c.in_err-write_whole-in-Some.ensures.part)),
       inl (refl, c.in_err-write_whole-in-Some.ensures.failed),
@@ -28,7 +28,7 @@ returns-in_ok-write_whole-in-Some-clause-run g c =
     let effect = line_effect c.args.number c.args.world.now (c.in-Some.word.now ∷ words_of c.in-Some.rest.now) in
     let cut : line_outcome c.args.number c.args.world.now words ≡ effect_outcome effect =
     line_outcome-run c.args.number c.args.world.now words c.in-Some.ensures.kept ∙ ap (λ (w : List (List ℕ)). effect_outcome (line_effect c.args.number c.args.world.now w)) c.in-Some.ensures.cut in
-    let printed : c.deref.result.now ≡ replied.text = grind (arith, common_steps, replied.appended) in
+    let printed : c.deref.result.now ≡ replied.text = c.deref.ensures.value ∙ replied.appended ∙ ap (λ items. items ++ replied.text) c.new-out.ensures.items in
     let counted : c.from.result ≡ cond c.in_ok-refused-in-Some.refused 1 0 = grind (arith, common_steps) in (
       subst (λ (o : Outcome). WritesOutput before after o.replies) (sym cut)
           (replied.text, output_one effect.reply replied.text replied.printed, subst (Appends before after) printed c.in_ok-write_whole-in-Some.ensures.written),
