@@ -1,4 +1,4 @@
-use Rattle.std.{proofs.{Common.{rules, ◌≡◌, ℕ, ◌<◌, ◌≤◌, List, [], ◌∷◌, ◌++◌, length, take, sym, ap, ◌∙◌, arith}, lemmas.{Int.ints, List.{take_more, Elements.All-from_recursion}}}, specs.{Prelude.{ℤ, pos, neg_ℤ, ◌*ℤ◌, ◌+ℤ◌, ◌-ℤ◌, ◌≤ℤ◌, ◌<ℤ◌}, List.AllByRecursion}}
+use Rattle.std.{proofs.{Common.{rules, ◌≡◌, ℕ, ◌<◌, ◌≤◌, List, [], ◌∷◌, ◌++◌, length, take, refl, sym, ap, ◌∙◌, arith}, lemmas.{Int.ints, List.{take_more, Elements.All-from_recursion}}}, specs.{Prelude.{ℤ, pos, neg_ℤ, ◌*ℤ◌, ◌+ℤ◌, ◌-ℤ◌, ◌≤ℤ◌, ◌<ℤ◌}, List.AllByRecursion}}
 use Rattle.stn_time.specs.Time.{horizon, IsWithinHorizon}
 use Rattle.stn_net.{specs.{Difference.Difference, Schedule.{IsSchedule, HasSchedule}, Matrix.Tightest.IsTightest}, proofs.Tightest.tightest_unique}
 use Rattle.stn_conflict.{specs.{declared.links.{Link.Link, Side.{Side, TheVariants.{Upper, Lower}}}, Arcs.{arc, arc_of, bound_at, IsChain, weight_of, IsNegativeCycle}, Culprit.IsRefusedSide, Named.{IsWay, IsWayOf, IsNamedCycle}, Search.IsCycleOf}, proofs.{Tightness.{tightest_self, link_kept}, Between.refused_lower, OneCycle.way_unique, Chains.{way_is_tight, weight_of_tight, chain_before}}}
@@ -27,7 +27,7 @@ module _ (bounds : List Difference) (link : Link) (links : List Link) (self far 
     (here : IsTightest (take link.place bounds) (arc_of bounds link).to (arc_of bounds link).to self) (there : IsTightest (take link.place bounds) (arc_of bounds link).to (arc_of bounds link).from far)
     (named : IsNamedCycle bounds (link ∷ links)) where
   way_on : IsChain bounds links (arc_of bounds link).to (arc_of bounds link).from × (weight_of (take link.place bounds) links ≡ weight_of bounds links)
-  way_on = search (rules, chain_before)
+  way_on = chain_before bounds link.place links _ _ named.1.chain
 
   -- what a named cycle weighs: the culprit's link and the tightest difference back
   weight_of_named : weight_of bounds (link ∷ links) ≡ (arc_of bounds link).weight +ℤ far
@@ -37,11 +37,24 @@ module _ (bounds : List Difference) (link : Link) (links : List Link) (self far 
 
   -- it is a negative cycle
   pub named_negative : IsNegativeCycle bounds (link ∷ links)
-  named_negative = search (rules, ints, take_more, refused_negative, weight_of_named, way_on)
+  named_negative =
+      let refused = λ (has : HasSchedule (take link.place bounds ++ bound_at bounds link.place ∷ [])). named.0.refused (rw (take_more bounds link.place (record { from = 0; to = 0; lo = pos 0; hi = pos 0 }) named.0.there) has) in
+      record {
+        some = search rules;
+        closed = ((arc_of bounds link).from, (named.0.there, refl, way_on.0));
+        negative = rw weight_of_named (refused_negative (bound_at bounds link.place) link.side ordered refused named.0.side there);
+      }
 
   -- with all that is told of it
   pub cycle_of_way : {events : ℕ} {sum : ℤ} → neg_ℤ (pos 2 *ℤ horizon) ≤ℤ sum → length links ≤ events → sum ≡ (arc_of bounds link).weight +ℤ far → IsCycleOf bounds events (link ∷ links) sum
-  cycle_of_way least short total = search (rules, named_negative, weight_of_named, All-from_recursion)
+  cycle_of_way least short total = record {
+    named = named;
+    negative = named_negative;
+    sum_is = total ∙ sym weight_of_named;
+    least = least;
+    places = All-from_recursion (λ l. l.place < length bounds) (link ∷ links) (named.0.there, places_of_chain bounds links _ _ way_on.0);
+    short = omega (arith, short);
+  }
 
 -- over a chain a schedule grows by its weight at most
 chain_kept : {bounds : List Difference} (links : List Link) (x y : ℕ) {time : ℕ → ℤ} → IsSchedule bounds time → IsChain bounds links x y → (time y -ℤ time x) ≤ℤ weight_of bounds links

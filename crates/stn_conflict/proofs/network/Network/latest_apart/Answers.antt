@@ -1,7 +1,19 @@
-use Rattle.std.proofs.{Common.{◌≡◌, ◌+◌, pos, true, get_or, length, replicate, rules, ap, ◌∙◌, arith}, lemmas.{Int.ints, List.get_or_default}}
-use Rattle.stn_net.specs.Schedule.{times_of}
+use Rattle.std.proofs.{Common.{◌≡◌, ℕ, ℤ, List, ◌+◌, ◌≤◌, ◌-ℤ◌, w64, of_z, to_z, pos, true, get_or, length, replicate, rules, ap, subst, ◌∙◌, arith}, lemmas.{Int.ints, List.get_or_default}}
+use Rattle.stn_time.specs.Time.{IsWithinHorizon}
+use Rattle.stn_net.specs.{Schedule.times_of, Ranges.CanBeApart}
 use Rattle.stn_conflict.{specs.{Listing.ListedBounds, Relaxation.AreDistances}, proofs.{Relaxing.distances_taken, Searches.{pending_all, pending_none}}}
 use Rattle.stn_conflict.proofs.network.Network.latest_apart.Goals as goal
+
+-- an estimate that the code reads
+read : (far : List ℤ) (size events event place : ℕ) (found default : ℤ) → length far ≡ size + 1 → size ≡ events → event ≤ events → place ≡ event
+    → found ≡ get_or far place default → found ≡ times_of far event
+read far size events event place found default long same within at is =
+    is ∙ ap (λ k. get_or far k default) at ∙ get_or_default far event default (pos 0) (omega arith)
+
+-- the difference that the code computes
+difference : (end begin x y : ℤ) → end ≡ x → begin ≡ y → IsWithinHorizon end → IsWithinHorizon begin
+    → (x -ℤ y) ≡ to_z w64 (of_z w64 (to_z w64 (of_z w64 end) -ℤ to_z w64 (of_z w64 begin)))
+difference end begin x y end_is begin_is end_within begin_within = omega (arith, ints)
 
 pub invariant_of-self-then-not-branch : goal.invariant_of-self-then-not-branch
 invariant_of-self-then-not-branch g c =
@@ -26,14 +38,8 @@ returns-clause-taken g c =
     let bounds = c.args.self.now.bounds in
     let whole : c.deref.result.now ≡ bounds = c.deref.ensures.value ∙ ap (λ (l : ListedBounds). l.bounds) c.self.view_is in
     let exact : AreDistances bounds 0 far = rw whole at (c.in_ok-extend.ensures.distances c.if-not-branch.false) in
-    let taken = distances_taken {from = c.args.from} {to = c.args.to} exact in
     let long : length far ≡ c.self.inside.events + 1 = c.extend.ensures.late.tables.far in
-    let events = ap (λ (l : ListedBounds). l.events) c.self.view_is in
-    let end : c.get-end.result ≡ times_of far c.args.to =
-    c.get-end.ensures.value ∙ c.index.ensures ∙ ap (λ k. get_or far k c.index.result.now) (c.from.ensures ∙ c.number.ensures.value)
-    ∙ get_or_default far c.args.to c.index.result.now (pos 0) (omega (arith, long, events, c.requires.to)) in
-    let begin : c.get.result ≡ times_of far c.args.from =
-    c.get.ensures.value ∙ c.index-2.ensures ∙ ap (λ k. get_or far k c.index-2.result.now) (c.from-2.ensures ∙ c.number-2.ensures.value)
-    ∙ get_or_default far c.args.from c.index-2.result.now (pos 0) (omega (arith, long, events, c.requires.from)) in
-    let at = taken.2 in
-    (taken.0, taken.1, omega (arith, ints, at, end, begin, c.get-end.ensures.within.0, c.get-end.ensures.within.1, c.get.ensures.within.0, c.get.ensures.within.1))
+    let events : c.self.inside.events ≡ c.args.self.now.events = ap (λ (l : ListedBounds). l.events) c.self.view_is in
+    let end = c.get-end.ensures.value ∙ read far _ _ c.args.to _ _ c.index.result.now long events c.requires.to (c.from.ensures ∙ c.number.ensures.value) c.index.ensures in
+    let begin = c.get.ensures.value ∙ read far _ _ c.args.from _ _ c.index-2.result.now long events c.requires.from (c.from-2.ensures ∙ c.number-2.ensures.value) c.index-2.ensures in
+    subst (CanBeApart bounds c.args.from c.args.to) (difference c.get-end.result c.get.result _ _ end begin c.get-end.ensures.within c.get.ensures.within) (distances_taken {far = far} {from = c.args.from} {to = c.args.to} exact)

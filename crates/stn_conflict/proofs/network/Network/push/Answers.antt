@@ -1,4 +1,4 @@
-use Rattle.std.proofs.Common.{[], ◌∷◌, ap, sym, subst, arith}
+use Rattle.std.proofs.Common.{[], ◌∷◌, ◌++◌, ap, sym, subst, arith}
 use Rattle.stn_net.specs.Difference.{NamesEvents}
 use Rattle.stn_conflict.{specs.Listing.ListedBounds, proofs.{Relaxing.network_more, Rows.rows_longer, Searches.tables_of}}
 use Rattle.stn_conflict.proofs.network.Network.push.Goals as goal
@@ -21,3 +21,6 @@ invariant_of-self-2 g c =
       pending = c.freshen.ensures is.events is.bounds.items named old.pending;
       tables = old.tables;
     })
+
+pub returns-clause-pushed : goal.returns-clause-pushed
+returns-clause-pushed g c = rw c.in_ok-push.ensures.items (ap (λ (l : ListedBounds). record l { bounds = l.bounds ++ c.args.bound ∷ [] }) c.self.view_is)
