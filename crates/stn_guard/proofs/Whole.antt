@@ -43,7 +43,7 @@ whole_guard {owner} {events} base extra {middle} {new} {named} {guard} first sec
     })
 
 -- each bound of a part has owners
-owned : {owners : List ℕ} {events : ℕ} (bounds : List Difference) → length owners ≡ events + 1 → All (NamesEvents events) bounds → All (HasOwners owners) bounds
+pub owned : {owners : List ℕ} {events : ℕ} (bounds : List Difference) → length owners ≡ events + 1 → All (NamesEvents events) bounds → All (HasOwners owners) bounds
 owned bounds long named = search rules
 
 -- the sides of both parts can be split

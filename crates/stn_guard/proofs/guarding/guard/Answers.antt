@@ -1,7 +1,7 @@
 use Rattle.std.{proofs.{Common.{◌≡◌, ℕ, ◌+◌, List, ◌++◌, length, sym, ◌∙◌, rules}, lemmas.{Bool.false≢true, List.{with_items_is, Elements.All-append}}}, specs.{Prelude.All, Vec.with_items}}
 use Rattle.stn_net.{proofs.Horizons.known_first, specs.{Difference.{Difference, NamesEvents}, Schedule.HasSchedule}}
 use Rattle.stn_conflict.specs.Listing.{ListedBounds}
-use Rattle.stn_guard.{specs.{Owners.owner_of, Making.IsGuardOf}, proofs.{Made.{made_guard, made_windows}, Whole.{can_first, can_second, AreNamed, noted, still_possible, whole_guard}, guarding.guard.{Given.Over, Goals.In-Some}}}
+use Rattle.stn_guard.{specs.{Owners.owner_of, Making.IsGuardOf}, proofs.{Made.{made_guard, made_windows}, Whole.{can_first, can_second, AreNamed, noted, owned, still_possible, whole_guard}, guarding.guard.{Given.Over, Goals.In-Some}}}
 use Rattle.stn_guard.proofs.guarding.guard.Goals as goal
 
 -- the windows that were found are those of the bounds, which have a schedule
@@ -16,6 +16,18 @@ found g c = record {
   possible = rw c.in-Some.is at c.in_ok-windows.ensures.possible;
   named = All-append (NamesEvents c.args.events) c.args.base.now c.args.extra.now c.requires.base_named c.requires.extra_named;
 }
+
+pub split_shared-requires-clause-owned : goal.split_shared-requires-clause-owned
+split_shared-requires-clause-owned g c = owned c.args.base.now c.requires.one_each c.requires.base_named
+
+pub split_shared-requires-2-clause-owned : goal.split_shared-requires-2-clause-owned
+split_shared-requires-2-clause-owned g c = owned c.args.extra.now c.requires.one_each c.requires.extra_named
+
+pub note_named-requires-clause-owned : goal.note_named-requires-clause-owned
+note_named-requires-clause-owned g c = owned c.args.base.now c.requires.one_each c.requires.base_named
+
+pub note_named-requires-2-clause-owned : goal.note_named-requires-2-clause-owned
+note_named-requires-2-clause-owned g c = owned c.args.extra.now c.requires.one_each c.requires.extra_named
 
 pub split_shared-requires-clause-can : goal.split_shared-requires-clause-can
 split_shared-requires-clause-can g c =

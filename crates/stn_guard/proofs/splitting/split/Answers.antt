@@ -3,6 +3,21 @@ use Rattle.stn_conflict.specs.Listing.{ListedBounds}
 use Rattle.stn_guard.{specs.{Making.{split_time, window_bound}, Splitting.{LeavesTime, NamesEnds}}, proofs.{Restricting.{both_possible, first_possible, leaves_known, nothing_to_split, two_to_split}, splitting.split.{Given.Over, Goals.After-middle}}}
 use Rattle.stn_guard.proofs.splitting.split.Goals as goal
 
+pub window-from-requires : goal.window-from-requires
+window-from-requires g c = (All-head (NamesEnds c.args.windows.now.events) c.args.arc [] c.requires.named).from_within
+
+pub window-to-requires : goal.window-to-requires
+window-to-requires g c = (All-head (NamesEnds c.args.windows.now.events) c.args.arc [] c.requires.named).to_within
+
+pub window_bound-requires-clause-beside : goal.window_bound-requires-clause-beside
+window_bound-requires-clause-beside g c = (All-head (NamesEnds c.args.windows.now.events) c.args.arc [] c.requires.named).to_beside
+
+pub window_bound-requires-clause-within : goal.window_bound-requires-clause-within
+window_bound-requires-clause-within g c = rw c.events-events.ensures (All-head (NamesEnds c.args.windows.now.events) c.args.arc [] c.requires.named).to_within
+
+pub window_bound-requires-2-clause-beside : goal.window_bound-requires-2-clause-beside
+window_bound-requires-2-clause-beside g c = (All-head (NamesEnds c.args.windows.now.events) c.args.arc [] c.requires.named).from_beside
+
 pub returns-then-get : goal.returns-then-get
 returns-then-get g c =
     nothing_to_split c.args.arc c.args.windows.now c.window-from.result c.window-to.result c.requires c.window-from.ensures c.window-to.ensures
