@@ -1,4 +1,4 @@
-use Rattle.std.proofs.Common.{append_assoc}
+use Rattle.std.proofs.Common.{refl}
 use Rattle.stn_drawing.proofs.Grown.{then, last}
 use Rattle.stn_walk.proofs.walk.Walk.append.Goals as goal
 
@@ -10,4 +10,4 @@ returns g c =
     let rows = then out _ _ drops c.in_ok-append_rows.ensures in
     let row = then out _ _ rows c.in_ok-append_last_row.ensures in
     let foot = then out _ _ row c.in_ok-append_foot.ensures in
-    last c.extend_from_slice.result out _ _ _ foot c.extend_from_slice.ensures.items (simp append_assoc)
+    last c.extend_from_slice.result out _ _ _ foot c.extend_from_slice.ensures.items refl

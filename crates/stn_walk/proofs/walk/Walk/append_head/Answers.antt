@@ -1,4 +1,4 @@
-use Rattle.std.proofs.Common.{◌++◌, ◌+◌, append_assoc, ap, ◌∙◌}
+use Rattle.std.proofs.Common.{◌++◌, ◌+◌, refl, ap, ◌∙◌}
 use Rattle.stn_drawing.{specs.Sheet.{open_text, paper_text}, proofs.Grown.{then, further}}
 use Rattle.stn_walk.proofs.walk.Walk.append_head.Goals as goal
 
@@ -10,4 +10,4 @@ returns g c =
     let style = then out _ _ opening c.in_ok-extend_from_slice.ensures.items in
     let paper = then out _ _ style (c.in_ok-append_paper.ensures ∙ (λ i. c.extend_from_slice.new.self.items ++ paper_text (end i + 36) (c.top_of.ensures.value i) (end i))) in
     let heading = then out _ _ paper c.in_ok-append_heading.ensures in
-    further c.append_summary.result out _ _ _ _ heading c.append_summary.ensures (simp append_assoc)
+    further c.append_summary.result out _ _ _ _ heading c.append_summary.ensures refl

@@ -1,4 +1,4 @@
-use Rattle.std.proofs.Common.{append_assoc}
+use Rattle.std.proofs.Common.{refl}
 use Rattle.stn_drawing.proofs.Grown.{then, last}
 use Rattle.stn_walk.proofs.walk.Walk.append_row.Goals as goal
 
@@ -10,4 +10,4 @@ returns g c =
     let mending = then out _ _ words c.in_ok-append_mending.ensures in
     let label = then out _ _ mending c.in_ok-append_label.ensures in
     let arrow = then out _ _ label c.in_ok-append_arrow.ensures in
-    last c.extend_from_slice-2.result out _ _ _ arrow c.extend_from_slice-2.ensures.items (simp append_assoc)
+    last c.extend_from_slice-2.result out _ _ _ arrow c.extend_from_slice-2.ensures.items refl
