@@ -5,13 +5,11 @@ use Rattle.stn_walk.proofs.conflict.conflict_text.Goals as goal
 
 pub text_along-requires : goal.text_along-requires
 text_along-requires g c =
-    let plan = c.args.plan.now in
-    let live = c.in_ok-live.ensures.value in
-    let bounds : c.bounds.result.now ++ c.deref.result.now ≡ all_bounds plan.source plan.state =
-    λ i. (c.bounds.ensures.value ∙ ap base_bounds c.base-base.ensures) i ++ (c.deref.ensures.value ∙ live) i in
+    let bounds : c.bounds.result.now ++ c.deref.result.now ≡ all_bounds c.args.plan.now.source c.args.plan.now.state =
+    λ i. (c.bounds.ensures.value ∙ ap base_bounds c.base-base.ensures) i ++ (c.deref.ensures.value ∙ c.in_ok-live.ensures.value) i in
     let links = c.deref-in-Some-2.ensures.value in
     record {
-      live = c.deref-in-Some.ensures.value ∙ live;
+      live = c.deref-in-Some.ensures.value ∙ c.in_ok-live.ensures.value;
       named = rw (c.in-Some.is, bounds, ← links) at c.in_ok-found.ensures.named;
       negative = rw (c.in-Some.is, bounds, ← links) at c.in_ok-found.ensures.negative;
       places = rw (c.in-Some.is, bounds, ← links) at c.in_ok-found.ensures.places;

@@ -9,7 +9,6 @@ returns g c =
     let walk = seen_walk c.args.self.now in
     let bound = c.bound_of-bound.ensures in
     let named : (length walk.names == 0) ≡ false = ap (λ n. n == 0) (length-map _ _) ∙ sym c.is_empty.ensures ∙ c.if-is_empty.false in
-    let first = then out _ _ c.in_ok-extend_from_slice.ensures.items c.in_ok-append_event_words.ensures in
-    let second = then out _ _ first c.in_ok-append_event_words-2.ensures in
-    last c.extend_from_slice-2.result out _ _ _ second c.extend_from_slice-2.ensures.items
+    let words = then out _ _ (then out _ _ c.in_ok-extend_from_slice.ensures.items c.in_ok-append_event_words.ensures) c.in_ok-append_event_words-2.ensures in
+    last c.extend_from_slice-2.result out _ _ _ words c.extend_from_slice-2.ensures.items
     (rw named (λ i. out ++ (codes "<title>" ++ event_words walk ((c.from.ensures.value ∙ ap (λ b. b.from) bound) i) ++ event_words walk ((c.to.ensures.value ∙ ap (λ b. b.to) bound) i) ++ codes "</title>")))
