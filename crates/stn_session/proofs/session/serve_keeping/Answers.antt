@@ -1,12 +1,21 @@
-use Rattle.std.proofs.{Common.{rules, Ok, Err, refl, ap, subst, ◌∙◌}, lemmas.Result.err_from_is_err_and}
+use Rattle.std.proofs.{Common.{◌≡◌, ◌+◌, ◌≤◌, Ok, Err, length, refl, ap, subst, ◌∙◌, arith}, lemmas.Result.err_from_is_err_and}
 use Rattle.stn_effects.specs.Printing.{device_of}
 use Rattle.stn_lift.specs.PlanSource.{PlanSource}
-use Rattle.stn_wire.{specs.{Frame.content, Stream.pending}, proofs.Streams.{count_fits, measure_falls}}
+use Rattle.stn_wire.{specs.{Frame.content, Stream.{unread, pending, Held.Stream}}, proofs.Streams.{count_fits, measure_falls}}
 use Rattle.stn_session.{specs.{Session.answer, Serving.talk, Turns.AnswersFrame}, proofs.Sessions.{begun, closes, cuts, stream_fails, refuses, refusal_fails, frame_fails, frame_answered, frame_ends}}
 use Rattle.stn_session.proofs.session.serve_keeping.Goals as goal
 
+none_pending : (s : Stream) → s ≡ unread → 0 + length (pending s) ≤ s.count
+none_pending s is = omega (arith, ap (λ (s : Stream). length (pending s)) is)
+
 pub frames-init : goal.frames-init
-frames-init g c = search (rules, begun)
+frames-init g c = record {
+  reading = ap (λ (s : Stream). s.broken) c.new-frames.ensures;
+  progress = begun _ _ _ _ _ (ap pending c.new-frames.ensures) (ap (λ (s : Stream). s.count) c.new-frames.ensures);
+  source = refl;
+  site = refl;
+  few = none_pending c.new-frames.result c.new-frames.ensures;
+}
 
 pub returns-in_err-frame-clause-served : goal.returns-in_err-frame-clause-served
 returns-in_err-frame-clause-served g c =
@@ -33,7 +42,9 @@ returns-in_err-turn-in-Frame-clause-served g c =
     (g.C.SiteCopy.held c.answer_frame-answered.new.copy).state c.requires.writer_counts c.answer_frame-answered.new.place fault lost)
 
 pub frames-smaller : goal.frames-smaller
-frames-smaller g c = search (rules, measure_falls)
+frames-smaller g c =
+    let gave = rw c.in-Frame.is at c.in_ok-frame.ensures.gives in
+    measure_falls (pending c.frames.frames) gave.bytes (pending c.next.new.self) (content c.in-Frame.frame) gave.next.1 c.frames.frames.count c.next.new.self.count gave.counted.0 gave.counted.1
 
 pub frames-preserved : goal.frames-preserved
 frames-preserved g c =
