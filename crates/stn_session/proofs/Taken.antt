@@ -1,8 +1,7 @@
 -- What is answered to records that are taken in, or refused.
 use Rattle.std.{proofs.{Common.{rules, ◌≡◌, ◌↔◌, ℕ, Bool, true, false, inr, not, List, ◌++◌, Option, Some, None, refl, ap, ◌∙◌}, lemmas.Bool.false≢true}, specs.Prelude.{is_some, IsTrue}}
-use Rattle.stn_refusal.specs.Refusals.{code_of}
 use Rattle.stn_records.specs.{Content.{Content, IsPart}, ContentLaws.contents_join}
-use Rattle.stn_site.specs.{Calls.{Leaves, took}, Failures.replica_failure, Held.Held, Refusals.take_refusal, declared.faults.ReplicaFault.ReplicaFault}
+use Rattle.stn_site.specs.{Calls.{Leaves, took}, Held.Held, Refusals.take_refusal}
 use Rattle.stn_wire.specs.Frame.{spelling, records}
 use Rattle.stn_session.specs.{Session.{Answer, take_code, taking}, Turns.{IsAnswered, IsChange}, declared.replies.Turn.Turn}
 
@@ -12,10 +11,6 @@ none_there o e = search rules
 -- the answer to a frame of records
 abbrev pub taking_of : Held → Content → Answer
 taking_of old theirs = taking old.state theirs (take_code old.source old.state theirs)
-
--- the code of a replica's fault; lack of memory has none
-abbrev pub refused_code : ReplicaFault → Option ℕ
-refused_code fault = code_of (replica_failure fault)
 
 joining : (old : Held) (theirs : Content) → take_refusal old theirs ≡ None → taking_of old theirs ≡ taking old.state theirs None
 joining old theirs none = search rules

@@ -1,22 +1,19 @@
 -- What is asked of a plan depends on the live records alone.
-use Rattle.std.{proofs.Common.{rules, ◌≡◌, ℕ, ℤ, ◌+◌, Bool, List, ◌++◌, map}, specs.List.range_with_len}
+use Rattle.std.proofs.Common.{rules, ◌≡◌, ℕ, ℤ, Bool, List, ◌++◌, map}
 use Rattle.stn_net.specs.{Difference.Difference}
-use Rattle.stn_lift.specs.PlanSource.{PlanSource, base_bounds, events_of}
+use Rattle.stn_lift.specs.PlanSource.{PlanSource, base_bounds}
 use Rattle.stn_records.specs.{Id.SiteCounter, declared.record.Record.Record, Content.{Content, live_of}}
 use Rattle.stn_conflict.specs.{declared.links.Link.Link}
-use Rattle.stn_site.specs.{Bounds.bounds_of, Report.{says_done, IsConflictPart}}
+use Rattle.stn_site.specs.{Bounds.bounds_of, Report.IsConflictPart}
 use Rattle.stn_questions.specs.{declared.asked.Question.Question, Ready.IsReadyText, Why.{end_text, IsReasonPart}, Answer.{IsAnswer, AsksOfPlan}}
 use Rattle.stn_laws.specs.Among.{IsReadyAmong}
 
 abbrev pub Entries : Type 0
 Entries = List (SiteCounter × Record)
 
--- all bounds, and the flags of the events that are done, by the live records
+-- all bounds, by the live records
 abbrev pub bounds_with : PlanSource → Entries → List Difference
 bounds_with source records = base_bounds source ++ bounds_of records
-
-abbrev done_with : PlanSource → Entries → List Bool
-done_with source records = map (says_done records) (range_with_len 0 (events_of source + 1))
 
 abbrev ids_of : Entries → List SiteCounter
 ids_of records = map (λ entry. entry.0) records

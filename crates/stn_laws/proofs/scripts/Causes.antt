@@ -2,7 +2,6 @@
 use Rattle.std.{proofs.{Common.{rules, ℕ, Bool, true, false, cond, List, [], ◌∷◌, length, Option, Some, None, IfSome, IfErr, arith}, lemmas.Grind.common_steps}, specs.{Option.option_map, Prelude.{◌==◌, option_and_then}}}
 use Rattle.stn_refusal.specs.declared.failure.Failure.{Failure, TheVariants.{Refused, Failed}}
 use Rattle.stn_text.specs.Numbers.{number_of}
-use Rattle.stn_site.specs.{declared.faults.ReplicaFault.ReplicaFault, Failures.replica_failure}
 use Rattle.stn_questions.specs.declared.words.Outlook.{Outlook}
 use Rattle.stn_world.specs.{World.{World}, Steps.{Step, step_refusal, send_refusal}}
 use Rattle.stn_command.specs.Words.{times_read}
@@ -13,10 +12,7 @@ abbrev pub HasRefusal : Failure → Type 0
 HasRefusal (Refused refusal) = Unit {0}
 HasRefusal (Failed fault) = ⊥
 
--- ---- a replica's causes, and a world's
-abbrev OfReplica : ReplicaFault → Type 0
-OfReplica fault = HasRefusal (replica_failure fault)
-
+-- ---- a world's causes
 pub step_fits : (world : World) (step : Step) → IfSome (step_refusal world step) HasRefusal
 step_fits world step = search rules
 
