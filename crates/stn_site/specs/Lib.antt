@@ -12,4 +12,5 @@ pub mod Calls
 pub mod Change
 pub mod Growth
 pub mod Own
+pub mod Pieces
 pub mod Dispatch

@@ -23,6 +23,7 @@ mod lines;
 mod names;
 mod own;
 mod parts;
+mod pieces;
 mod report;
 mod site_copy;
 mod site_plan;

@@ -4,15 +4,13 @@ ghost use Rattle.stn_lift.specs.PlanSource.{events_of};
 ghost use Rattle.stn_records.specs.Content.{most_known, known_count, live_of, replaced_count as replaced_count_of};
 ghost use Rattle.stn_site.specs.{Bounds.all_bounds, Lines.link_line, Windows.AreWindows, Report.{most_report, IsWindowsPart, IsReport, IsConflictPart, heading}};
 
-use crate::lines::{
-    MOST_LINE, append_conflict_line, append_counts, append_link_line, append_window_line,
-};
+use crate::lines::{MOST_LINE, append_conflict_line, append_link_line, append_window_line};
+use crate::pieces::{Piece, append_pieces};
 use crate::site_plan::SitePlan;
 use std::alloc::Allocator;
 use stn_conflict::{Link, cycle};
 use stn_net::{Bound, Event};
 use stn_records::{Id, Records};
-use stn_text::all_or_nothing;
 use stn_time::{Memory, Ms};
 
 impl<A: Allocator + Copy> SitePlan<A> {
@@ -58,8 +56,21 @@ impl<A: Allocator + Copy> SitePlan<A> {
     {
         let (live, replaced) = (live_count(self.records()), replaced_count(self.records()));
         let (steps, events) = (self.base().steps(), self.base().events());
-        append_counts(out, b"plan ", steps, b" steps ", events, b" events\n")?;
-        append_counts(out, b"records ", live, b" live ", replaced, b" withdrawn\n")
+        append_pieces(
+            out,
+            &[
+                Piece::Text(b"plan "),
+                Piece::Number(steps),
+                Piece::Text(b" steps "),
+                Piece::Number(events),
+                Piece::Text(b" events\n"),
+                Piece::Text(b"records "),
+                Piece::Number(live),
+                Piece::Text(b" live "),
+                Piece::Number(replaced),
+                Piece::Text(b" withdrawn\n"),
+            ],
+        )
     }
 
     // `ok` and the windows of the events.
@@ -129,8 +140,10 @@ pub fn append_link_lines<B: Allocator>(
 {
     let before = out.len();
     for link in links {
-        let outcome = append_link_line(out, base, ids, others, *link);
-        all_or_nothing(out, before, outcome)?;
+        if let Err(fault) = append_link_line(out, base, ids, others, *link) {
+            out.truncate(before);
+            return Err(fault);
+        }
     }
     Ok(())
 }

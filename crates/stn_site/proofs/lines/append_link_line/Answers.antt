@@ -1,24 +1,13 @@
-use Rattle.std.proofs.{Common.{ap, ◌∙◌, ◌++◌, append_assoc, arith}, lemmas.Grind.common_steps}
-use Rattle.stn_site.{specs.Names.name_text, proofs.Behind.behind_more}
+use Rattle.std.proofs.Common.{◌≡◌, ◌++◌, ◌∷◌, [], ℕ, List, OnOk, codes, subst, append_assoc}
+use Rattle.stn_site.specs.Lines.{line}
 use Rattle.stn_site.proofs.lines.append_link_line.Goals as goal
 
-pub returns-clause-behind : goal.returns-clause-behind
-returns-clause-behind g c = grind (arith, common_steps)
-
-pub returns-in_err-extend_from_slice-clause-behind : goal.returns-in_err-extend_from_slice-clause-behind
-returns-in_err-extend_from_slice-clause-behind g c = grind (arith, common_steps)
-
-pub returns-in_err-append_limit-clause-behind : goal.returns-in_err-append_limit-clause-behind
-returns-in_err-append_limit-clause-behind g c =
-    behind_more c.args.out.now.len c.extend_from_slice.new.self.len c.args.out.now.items (name_text c.bound_name.result ++ c.side_text.result.now) c.extend_from_slice.new.self.items c.append_limit.new.out.items
-    (omega (arith, c.args.out.now.ok.0))
-    (c.in_ok-extend_from_slice.ensures.items ∙ ap (λ text. text ++ c.side_text.result.now) c.in_ok-print.ensures.text ∙ append_assoc c.args.out.now.items (name_text c.bound_name.result) c.side_text.result.now) c.in_err-append_limit.ensures.behind
-
-pub returns-in_err-print-clause-behind : goal.returns-in_err-print-clause-behind
-returns-in_err-print-clause-behind g c = grind (arith, common_steps)
-
-pub returns-in_err-extend_from_slice-2-clause-behind : goal.returns-in_err-extend_from_slice-2-clause-behind
-returns-in_err-extend_from_slice-2-clause-behind g c = grind (arith, common_steps)
+-- the pieces of a line, and the line
+pieced : (name side from to limit : List ℕ) → name ++ ((codes " " ++ side ++ codes " ") ++ (from ++ (codes " " ++ (to ++ (codes " " ++ (limit ++ 10 ∷ []))))))
+    ≡ line (name ++ codes " " ++ side ++ codes " " ++ (from ++ codes " " ++ to ++ codes " " ++ limit))
+pieced name side from to limit = simp append_assoc
 
 pub returns-clause-line : goal.returns-clause-line
-returns-clause-line g c = grind (arith, common_steps)
+returns-clause-line g c =
+    let text = rw (c.bound_name.ensures, c.side_text.ensures, c.from.ensures.value, c.to.ensures.value, c.limit_of.ensures, c.bound_at-bound.ensures) at c.append_pieces.ensures.text in
+    subst (λ (it : List ℕ). OnOk c.append_pieces.result (c.append_pieces.new.out.items ≡ c.args.out.now.items ++ it)) (pieced _ _ _ _ _) text

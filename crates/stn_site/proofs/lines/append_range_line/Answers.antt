@@ -1,5 +1,5 @@
-use Rattle.std.proofs.Common.{rules}
+use Rattle.std.proofs.{Common.arith, lemmas.Grind.common_steps}
 use Rattle.stn_site.proofs.lines.append_range_line.Goals as goal
 
-pub returns-clause-kept : goal.returns-clause-kept
-returns-clause-kept g c = search rules
+pub returns-clause-line : goal.returns-clause-line
+returns-clause-line g c = grind (arith, common_steps)

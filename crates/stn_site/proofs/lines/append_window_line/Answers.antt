@@ -1,6 +1,5 @@
-use Rattle.std.proofs.{Common.◌∙◌, lemmas.Result.on_err_weaker}
+use Rattle.std.proofs.{Common.arith, lemmas.Grind.common_steps}
 use Rattle.stn_site.proofs.lines.append_window_line.Goals as goal
 
-pub returns-clause-kept : goal.returns-clause-kept
-returns-clause-kept g c =
-    on_err_weaker c.all_or_nothing.result (λ nothing. nothing ∙ rw c.len-before.ensures c.append_window-outcome.ensures.behind) c.all_or_nothing.ensures.nothing
+pub returns-clause-line : goal.returns-clause-line
+returns-clause-line g c = grind (arith, common_steps)

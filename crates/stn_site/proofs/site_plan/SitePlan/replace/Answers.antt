@@ -1,4 +1,4 @@
-use Rattle.std.{proofs.{Common.{◌≡◌, None, is_some, refl, sym, ap, subst, ◌∙◌}, lemmas.{Bool.false≢true, Result.err_from_is_err_and}}, specs.{Rc.rc_value, FinMap.get}}
+use Rattle.std.{proofs.{Common.{◌≡◌, None, is_some, refl, sym, ap, subst, ◌∙◌}, lemmas.{Bool.false≢true, Result.err_from_is_err_and}}, specs.{Rc.rc_value}}
 use Rattle.stn_net.specs.Difference.{NamesEvents}
 use Rattle.stn_lift.specs.PlanSource.{events_of}
 use Rattle.stn_records.specs.{Content.{Content, plain}, Refusals.amendment_refusal}
