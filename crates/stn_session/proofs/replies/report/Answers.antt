@@ -1,5 +1,5 @@
-use Rattle.std.proofs.Common.{rules}
+use Rattle.std.proofs.{Common.arith, lemmas.Grind.common_steps}
 use Rattle.stn_session.proofs.replies.report.Goals as goal
 
 pub returns : goal.returns
-returns g c = search rules
+returns g c = grind (arith, common_steps)
