@@ -19,13 +19,11 @@ freshen-requires g c =
 
 pub extend-fits-requires-clause-network : goal.extend-fits-requires-clause-network
 extend-fits-requires-clause-network g c =
-    let is = c.self.inside in
     let place = (goal.at.extend-fits-requires-clause-network g c).After-deref in
     rw (longer g place) (network_more c.self.invariant.network (named g place))
 
 pub extend-fits-requires-clause-rows : goal.extend-fits-requires-clause-rows
 extend-fits-requires-clause-rows g c =
-    let is = c.self.inside in
     rw (longer g (goal.at.extend-fits-requires-clause-rows g c).After-deref) (rows_longer (c.args.bound ∷ []) c.self.invariant.first)
 
 pub extend-fits-requires-clause-pending : goal.extend-fits-requires-clause-pending

@@ -15,7 +15,6 @@ ends_of {bounds} origin h = record {
 
 pub invariant_of-result : goal.invariant_of-result
 invariant_of-result g c =
-    let all = c.args.base.now ++ c.args.extra.now in
     let items : c.extend_from_slice.new.self.items ≡ c.args.base.now ++ c.args.extra.now =
     c.in_ok-extend_from_slice.ensures.items ∙ ap (λ l. l ++ c.args.extra.now) c.in_ok-bounds.ensures.items in
     let given : c.len-given.result ≡ length (c.args.base.now ++ c.args.extra.now) = omega (arith, c.len-given.ensures, c.extend_from_slice.new.self.ok.0, ap length items) in
@@ -32,7 +31,6 @@ invariant_of-result g c =
 
 pub returns-clause-possible : goal.returns-clause-possible
 returns-clause-possible g c =
-    let all = c.args.base.now ++ c.args.extra.now in
     let ends = ends_of c.origin-origin.ensures (rw c.in-Some.is at c.in_ok-latest.ensures) in
     let (time, s, at) = (ends.far.tightest 0 ends.far.start_named).attained in
     (time, s)
