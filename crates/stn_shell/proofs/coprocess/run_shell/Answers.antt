@@ -57,6 +57,9 @@ returns-clause-ran g c =
       ap Ok (refused_status _ _ c.from.ensures),
     )
 
+pub turns-smaller : goal.turns-smaller
+turns-smaller g c = less_room _ _ _ _ _ (rw c.in-Some.is at c.in_ok-text.ensures)
+
 pub turns-preserved : goal.turns-preserved
 turns-preserved g c =
     let is = rw c.in-Some.is at c.in_ok-text.ensures in
