@@ -1,3 +1,2 @@
 mod Opened
 mod Steps
-mod OneLine
