@@ -10,6 +10,7 @@ pub use laws::{
 pub use lines::{append_range_line, append_window_line, bound_at, bound_name};
 pub use names::BoundName;
 pub use own::{Own, OwnedSteps, StepRange, are_within, flags_among};
+pub use pieces::{Piece, append_pieces};
 pub use report::append_link_lines;
 pub use site_copy::SiteCopy;
 pub use site_plan::SitePlan;
