@@ -10,10 +10,6 @@ pub last : {T E : Type 0} (result : Result T E) (front seen piece text : List �
     → end ≡ cond (is_ok result) (middle ++ piece) middle → front ++ (seen ++ piece) ≡ front ++ text → OnOk result (end ≡ front ++ text)
 last result front seen piece text first second same = search (rules, then)
 
--- what holds where a write to memory succeeded
-pub in_memory : {T E F : Type 0} (P : Type 0) (result : Result T E) (written : Result T F) → MatchResult result (λ _. IsOk written) (λ _. IsErr written) → OnOk written P → OnOk result P
-in_memory P result written was holds = search rules
-
 -- what holds after a write that succeeded
 pub on_ok : {T F : Type 0} (P : Type 0) (written : Result T F) → IsOk written → OnOk written P → P
 on_ok P written was holds = search rules

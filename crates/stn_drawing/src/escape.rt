@@ -3,6 +3,7 @@ ghost use Rattle.std.specs.Prelude.{◌≡◌, ◌++◌, OnOk};
 ghost use Rattle.stn_drawing.specs.Escape.{escaped, is_printed, shown, cut};
 
 use std::alloc::Allocator;
+use std::slice;
 use stn_time::Memory;
 
 // After an error, the output has no meaning.
@@ -12,21 +13,21 @@ pub fn append_shown<A: Allocator>(out: &mut Vec<u8, A>, text: &[u8]) -> Result<(
     ensures { OnOk result (out.new.items ≡ out.old.items ++ shown text.now) }
 {
     for byte in text {
-        append_byte(out, *byte)?;
+        out.extend_from_slice(escaped(byte))?;
     }
     Ok(())
 }
 
-fn append_byte<A: Allocator>(out: &mut Vec<u8, A>, byte: u8) -> Result<(), Memory>
-    ensures { OnOk result (out.new.items ≡ out.old.items ++ escaped byte) }
+fn escaped(byte: &u8) -> &[u8]
+    ensures { result.now ≡ escaped byte.now }
 {
     match byte {
-        b'&' => out.extend_from_slice(b"&amp;"),
-        b'<' => out.extend_from_slice(b"&lt;"),
-        b'>' => out.extend_from_slice(b"&gt;"),
-        b'"' => out.extend_from_slice(b"&quot;"),
-        _ if is_printed(byte) => Ok(out.push(byte)?),
-        _ => out.extend_from_slice(b"?"),
+        b'&' => b"&amp;",
+        b'<' => b"&lt;",
+        b'>' => b"&gt;",
+        b'"' => b"&quot;",
+        _ if is_printed(*byte) => slice::from_ref(byte),
+        _ => b"?",
     }
 }
 

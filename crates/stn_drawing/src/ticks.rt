@@ -84,27 +84,13 @@ impl Axis {
         ensures { OnOk result (out.new.items ≡ out.old.items ++ is.tick_words (seen_axis self.now) tick) }
     {
         let left = self.tick_place(tick);
-        in_memory(write!(out, "<tspan x='{left}'>"))?;
-        self.append_count(out, tick)?;
-        out.extend_from_slice(b"</tspan>")
-    }
-
-    // Appends a number of units, with its sign, and the unit at 0.
-    fn append_count<A: Allocator>(&self, out: &mut Vec<u8, A>, tick: u64) -> Result<(), Memory>
-        requires { tick < self.now.ticks }
-        ensures { OnOk result (out.new.items ≡ out.old.items ++ is.tick_count (seen_axis self.now) tick) }
-    {
-        if tick < self.before {
-            let count = self.gap * (self.before - tick) / unit_of(self.gap);
-            in_memory(write!(out, "-{count}"))
+        let sign = if tick < self.before { "-" } else { "" };
+        let count = self.gap * tick.abs_diff(self.before) / unit_of(self.gap);
+        let unit = if tick == self.before {
+            unit_text(self.gap)
         } else {
-            let count = self.gap * (tick - self.before) / unit_of(self.gap);
-            let unit = if tick == self.before {
-                unit_text(self.gap)
-            } else {
-                ""
-            };
-            in_memory(write!(out, "{count}{unit}"))
-        }
+            ""
+        };
+        in_memory(write!(out, "<tspan x='{left}'>{sign}{count}{unit}</tspan>"))
     }
 }
