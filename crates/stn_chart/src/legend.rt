@@ -74,17 +74,18 @@ impl Entry {
     fn append_sample<A: Allocator>(&self, out: &mut Vec<u8, A>) -> Result<(), Memory>
         ensures { OnOk result (out.new.items ≡ out.old.items ++ sample_text self.now.part self.now.left self.now.base) }
     {
-        let (left, middle) = (self.left, self.base - 4);
-        match self.part {
-            Part::Soonest => append_bar(out, "a", left, middle, 18),
-            Part::Lasting => append_bar(out, "p", left, middle, 18),
-            Part::Latest => append_mark(out, "k", left + 9, self.base - 12),
-            Part::Fixed => append_bar(out, "f", left, middle, 18),
-            Part::Done => append_bar(out, "d", left, middle, 18),
-            Part::Running => append_bar(out, "r", left, middle, 18),
-            Part::Due => append_bar(out, "l", left, middle, 18),
-            Part::Open => append_fading(out, left, self.base - 7, 18),
-        }
+        let (left, base) = (self.left, self.base);
+        let class = match self.part {
+            Part::Soonest => "a",
+            Part::Lasting => "p",
+            Part::Latest => return append_mark(out, "k", left + 9, base - 12),
+            Part::Fixed => "f",
+            Part::Done => "d",
+            Part::Running => "r",
+            Part::Due => "l",
+            Part::Open => return append_fading(out, left, base - 7, 18),
+        };
+        append_bar(out, class, left, base - 4, 18)
     }
 
     fn append_meaning<A: Allocator>(&self, out: &mut Vec<u8, A>) -> Result<(), Memory>

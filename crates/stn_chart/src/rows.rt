@@ -1,5 +1,5 @@
 //! The rows of the steps.
-ghost use Rattle.std.specs.Prelude.{◌≡◌, ◌++◌, ◌≤◌, ◌<◌, OnOk};
+ghost use Rattle.std.specs.Prelude.{◌≡◌, ◌++◌, ◌%◌, ◌≤◌, ◌<◌, codes, decimal, OnOk};
 ghost use Rattle.stn_chart.specs.Rows as row;
 ghost use Rattle.stn_chart.specs.{Rows.bar_text, Seen.seen_chart};
 
@@ -10,6 +10,7 @@ use crate::tables::{end_of, start_of, window_at};
 use std::alloc::Allocator;
 use std::io::Write;
 use stn_drawing::{Seconds, append_cut, append_shown, in_memory};
+use stn_site::{Piece, append_pieces};
 use stn_time::Memory;
 
 // After an error, a part of a text may stand in the output.
@@ -35,10 +36,8 @@ impl<'a, 'b, A: Allocator> Chart<'a, 'b, A> {
     {
         in_memory(write!(out, "<g><title>{step} "))?;
         self.append_whole_name(out, step)?;
-        out.extend_from_slice(b": starts ")?;
-        self.append_window(out, start_of(step))?;
-        out.extend_from_slice(b", ends ")?;
-        self.append_window(out, end_of(step))?;
+        self.append_window(out, b": starts ", start_of(step))?;
+        self.append_window(out, b", ends ", end_of(step))?;
         out.extend_from_slice(b"</title>")
     }
 
@@ -62,17 +61,19 @@ impl<'a, 'b, A: Allocator> Chart<'a, 'b, A> {
         }
     }
 
-    // Appends the window of an event in words.
-    fn append_window(&self, out: &mut Vec<u8, A>, event: usize) -> Result<(), Memory>
-        ensures { OnOk result (out.new.items ≡ out.old.items ++ row.window_text (seen_chart self.now) event) }
+    // Appends a text and the window of an event in words.
+    fn append_window(&self, out: &mut Vec<u8, A>, before: &[u8], event: usize) -> Result<(), Memory>
+        ensures { OnOk result (out.new.items ≡ out.old.items ++ (before.now ++ row.window_text (seen_chart self.now) event)) }
     {
         let (soonest, latest) = window_at(self.windows, event);
-        soonest.print(out)?;
+        let (before, soonest) = (Piece::Text(before), Piece::Time(soonest));
         if self.is_open(event) {
-            out.extend_from_slice(b" or later")
+            append_pieces(out, &[before, soonest, Piece::Text(b" or later")])
         } else {
-            out.extend_from_slice(b" to ")?;
-            latest.print(out)
+            append_pieces(
+                out,
+                &[before, soonest, Piece::Text(b" to "), Piece::Time(latest)],
+            )
         }
     }
 
@@ -104,22 +105,21 @@ impl<'a, 'b, A: Allocator> Chart<'a, 'b, A> {
         out.extend_from_slice(b"</text>\n")
     }
 
-    // Appends the class of the solid part of a step.
-    fn append_class(&self, out: &mut Vec<u8, A>, step: u16) -> Result<(), Memory>
-        ensures { OnOk result (out.new.items ≡ out.old.items ++ row.class_of (seen_chart self.now) step) }
+    // The class of the solid part of a step.
+    fn class_of(&self, step: u16) -> &'static str
+        ensures { result.now ≡ row.class_of (seen_chart self.now) step }
     {
         let owner = self.owner_of(step);
         if self.is_done(step) {
-            out.extend_from_slice(b"d")
+            "d"
         } else if self.is_running(step) {
-            out.extend_from_slice(b"r")
+            "r"
         } else if self.is_fixed(step) {
-            out.extend_from_slice(b"f")
+            "f"
         } else if owner == 0 {
-            out.extend_from_slice(b"a")
+            "a"
         } else {
-            let colour = owner % 6;
-            in_memory(write!(out, "a o{colour}"))
+            colour_of(owner)
         }
     }
 
@@ -130,10 +130,7 @@ impl<'a, 'b, A: Allocator> Chart<'a, 'b, A> {
         let left = self.place_of(self.soonest(start_of(step)));
         let right = self.place_of(self.soonest(end_of(step)));
         let width = LEAST_WIDTH.max(right.saturating_sub(left));
-        let middle = self.middle_of(step);
-        out.extend_from_slice(b"<path class='")?;
-        self.append_class(out, step)?;
-        in_memory(write!(out, "' d='M{left} {middle}h{width}'/>"))
+        append_bar(out, self.class_of(step), left, self.middle_of(step), width)
     }
 
     // Appends what stands after it.
@@ -211,7 +208,7 @@ impl<'a, 'b, A: Allocator> Chart<'a, 'b, A> {
         ensures { OnOk result (out.new.items ≡ out.old.items ++ row.time_text (seen_chart self.now) step) }
     {
         let latest = window_at(self.windows, end_of(step)).1;
-        let (class, time) = (self.time_class(step), Seconds(latest));
+        let (class, time) = (self.time_class(step), Seconds(latest.get()));
         let (left, base) = (self.behind(step), self.words_base(step));
         in_memory(write!(
             out,
@@ -267,6 +264,14 @@ impl<'a, 'b, A: Allocator> Chart<'a, 'b, A> {
             append_along(out, left, top + 6, right, other + ROW_HEIGHT, "v-6")
         }
     }
+}
+
+// The class of the steps of a site.
+fn colour_of(site: u16) -> &'static str
+    ensures { result.now ≡ codes "a o" ++ decimal (site % 6) }
+{
+    let classes = ["a o0", "a o1", "a o2", "a o3", "a o4", "a o5"];
+    classes[usize::from(site % 6)]
 }
 
 // Appends an arrow down or up, and to its tip.
