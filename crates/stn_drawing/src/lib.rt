@@ -4,6 +4,7 @@
 
 pub use axis::Axis;
 pub use escape::{append_cut, append_shown};
+pub use event::EventName;
 pub use laws::texts_are_escaped;
 pub use memory::in_memory;
 pub use seconds::Seconds;
@@ -11,6 +12,7 @@ pub use sheet::{append_heading, append_opening, append_paper};
 
 mod axis;
 mod escape;
+mod event;
 mod laws;
 mod memory;
 mod seconds;

@@ -1,6 +1,5 @@
 //! What stands around the rows of a conflict.
-ghost use Rattle.std.specs.{Prelude.{◌≡◌, ◌+◌, ◌++◌, ◌<◌, ◌≤◌, ◌^◌, length, unsigned_abs, OnOk, neg_ℤ}, List.{flat_map, range_with_len}};
-ghost use Rattle.stn_time.specs.Text.{printed};
+ghost use Rattle.std.specs.{Prelude.{◌≡◌, ◌++◌, ◌≤◌, length, OnOk, neg_ℤ}, List.{flat_map, range_with_len}};
 ghost use Rattle.stn_walk.specs.Walk as is;
 ghost use Rattle.stn_walk.specs.Seen.{seen_walk};
 
@@ -9,9 +8,8 @@ use crate::style::WALK;
 use crate::walk::Walk;
 use std::alloc::Allocator;
 use std::io::Write;
-use stn_drawing::{append_heading, append_opening, append_paper, in_memory};
-use stn_text::print_event;
-use stn_time::{Memory, print_millis};
+use stn_drawing::{EventName, Seconds, append_heading, append_opening, append_paper, in_memory};
+use stn_time::Memory;
 
 // After an error, a part of a text may stand in the output.
 
@@ -46,11 +44,11 @@ impl<'a, 'b, A: Allocator> Walk<'a, 'b, A> {
         ensures { OnOk result (out.new.items ≡ out.old.items ++ is.before_itself (seen_walk self.now)) }
     {
         let base = top_of(self.links.len()) + 15;
-        in_memory(write!(out, "<text class='h w' x='8' y='{base}'>"))?;
-        print_event(self.begins_at(0), out)?;
-        out.extend_from_slice(b" would be ")?;
-        append_negated(out, self.sum_at(self.links.len()))?;
-        out.extend_from_slice(b" before itself</text>")
+        let (event, early) = (EventName(self.begins_at(0)), self.early());
+        in_memory(write!(
+            out,
+            "<text class='h w' x='8' y='{base}'>{event} would be {early} before itself</text>"
+        ))
     }
 
     // Appends the span from the sum of all links to 0.
@@ -73,9 +71,11 @@ impl<'a, 'b, A: Allocator> Walk<'a, 'b, A> {
     {
         let left = self.left_of(self.links.len()).saturating_sub(8);
         let base = top_of(self.links.len()) + 21;
-        in_memory(write!(out, "<text class='e' x='{left}' y='{base}'>"))?;
-        print_event(self.begins_at(0), out)?;
-        out.extend_from_slice(b"</text>\n")
+        let event = EventName(self.begins_at(0));
+        in_memory(write!(
+            out,
+            "<text class='e' x='{left}' y='{base}'>{event}</text>\n"
+        ))
     }
 
     // Appends what the rows show.
@@ -84,12 +84,11 @@ impl<'a, 'b, A: Allocator> Walk<'a, 'b, A> {
         ensures { OnOk result (out.new.items ≡ out.old.items ++ is.walk_foot (seen_walk self.now)) }
     {
         let base = top_of(self.links.len() + 1) + 24;
+        let event = EventName(self.begins_at(0));
         in_memory(write!(
             out,
-            "<text class='s' x='8' y='{base}'>From row to row: the latest time of the next event, where "
-        ))?;
-        print_event(self.begins_at(0), out)?;
-        out.extend_from_slice(b" is at 0.</text>\n")
+            "<text class='s' x='8' y='{base}'>From row to row: the latest time of the next event, where {event} is at 0.</text>\n"
+        ))
     }
 
     // Appends the lines from each row down to the next one.
@@ -137,21 +136,17 @@ impl<'a, 'b, A: Allocator> Walk<'a, 'b, A> {
     fn append_summary(&self, out: &mut Vec<u8, A>) -> Result<(), Memory>
         ensures { OnOk result (out.new.items ≡ out.old.items ++ is.walk_summary (seen_walk self.now)) }
     {
-        let count = self.links.len();
+        let (count, early) = (self.links.len(), self.early());
         in_memory(write!(
             out,
-            "<text class='s e' x='992' y='20'>{count} bounds contradict each other by "
-        ))?;
-        append_negated(out, self.sum_at(count))?;
-        out.extend_from_slice(b" s</text>\n")
+            "<text class='s e' x='992' y='20'>{count} bounds contradict each other by {early} s</text>\n"
+        ))
     }
-}
 
-// Appends a sum with the other sign.
-fn append_negated<A: Allocator>(out: &mut Vec<u8, A>, sum: i64) -> Result<(), Memory>
-    requires { unsigned_abs sum < 2 ^ 45 }
-    ensures { OnOk result (out.new.items ≡ out.old.items ++ printed (neg_ℤ sum)) }
-{
-    print_millis(-sum, out)?;
-    Ok(())
+    // By how much the first event would come before itself.
+    fn early(&self) -> Seconds
+        ensures { result.0 ≡ neg_ℤ (is.last_sum (seen_walk self.now)) }
+    {
+        Seconds(-self.sum_at(self.links.len()))
+    }
 }

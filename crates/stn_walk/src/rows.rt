@@ -1,5 +1,6 @@
 //! The rows of the links.
 ghost use Rattle.std.specs.Prelude.{◌≡◌, ◌+◌, ◌++◌, ◌<◌, ◌^◌, length, OnOk};
+ghost use Rattle.stn_time.specs.Text.{printed};
 ghost use Rattle.stn_site.specs.Lines as site_lines;
 ghost use Rattle.stn_walk.specs.Walk as is;
 ghost use Rattle.stn_walk.specs.{Walk.leaves_text, Seen.seen_walk};
@@ -9,14 +10,13 @@ use crate::walk::Walk;
 use std::alloc::Allocator;
 use std::io::Write;
 use stn_conflict::Side;
-use stn_drawing::{append_cut, in_memory};
+use stn_drawing::{EventName, Seconds, append_cut, in_memory};
 use stn_lift::step_of;
 use stn_net::{Bound, Event};
 use stn_records::Id;
 use stn_repairs::Repair;
-use stn_site::BoundName;
-use stn_text::print_event;
-use stn_time::Memory;
+use stn_site::{BoundName, Piece, append_pieces};
+use stn_time::{Memory, Ms};
 
 // In the title of a row, a name has at most so many characters.
 const MOST_WHOLE: usize = 200;
@@ -80,9 +80,11 @@ impl<'a, 'b, A: Allocator> Walk<'a, 'b, A> {
             return Ok(());
         }
         let base = top_of(row) + 29;
-        in_memory(write!(out, "<text class='j' x='124' y='{base}'>alone mends it: "))?;
-        append_left(out, self.row_link(row).side, repair)?;
-        out.extend_from_slice(b"</text>\n")
+        let (left, words) = left_by(self.row_link(row).side, repair);
+        in_memory(write!(
+            out,
+            "<text class='j' x='124' y='{base}'>alone mends it: {left}{words}</text>\n"
+        ))
     }
 
     // Appends the event at which the link of a row begins, on the side that the link leaves.
@@ -90,22 +92,14 @@ impl<'a, 'b, A: Allocator> Walk<'a, 'b, A> {
         requires { row < length self.now.links.now }
         ensures { OnOk result (out.new.items ≡ out.old.items ++ is.row_label (seen_walk self.now) row) }
     {
-        self.append_label_opening(out, row)?;
-        print_event(self.begins_at(row), out)?;
-        out.extend_from_slice(b"</text>")
-    }
-
-    fn append_label_opening(&self, out: &mut Vec<u8, A>, row: usize) -> Result<(), Memory>
-        requires { row < length self.now.links.now }
-        ensures { OnOk result (out.new.items ≡ out.old.items ++ is.label_opening (seen_walk self.now) row) }
-    {
         let (left, base) = (self.left_of(row), top_of(row) + 21);
+        let event = EventName(self.begins_at(row));
         if self.left_of(row + 1) < left {
             let place = left + 8;
-            in_memory(write!(out, "<text x='{place}' y='{base}'>"))
+            in_memory(write!(out, "<text x='{place}' y='{base}'>{event}</text>"))
         } else {
             let place = left.saturating_sub(8);
-            in_memory(write!(out, "<text class='e' x='{place}' y='{base}'>"))
+            in_memory(write!(out, "<text class='e' x='{place}' y='{base}'>{event}</text>"))
         }
     }
 
@@ -152,23 +146,35 @@ impl<'a, 'b, A: Allocator> Walk<'a, 'b, A> {
         requires { row < length self.now.links.now }
         ensures { OnOk result (out.new.items ≡ out.old.items ++ is.link_name (seen_walk self.now) row) }
     {
-        self.name_of(row).print(out)?;
-        out.extend_from_slice(b" ")?;
-        out.extend_from_slice(side_text(self.row_link(row).side))
+        append_pieces(
+            out,
+            &[
+                Piece::Bound(self.name_of(row)),
+                Piece::Text(b" "),
+                Piece::Text(side_text(self.row_link(row).side)),
+            ],
+        )
     }
 
     // Appends in words what a link asks.
     fn append_asked(&self, out: &mut Vec<u8, A>, side: Side, bound: Bound) -> Result<(), Memory>
         ensures { OnOk result (out.new.items ≡ out.old.items ++ is.asked_text (seen_walk self.now) side bound) }
     {
+        let (words, limit) = limit_of(side, bound);
         if is_duration(bound) {
             self.append_step_words(out, MOST_SHORT, step_of(bound.to()))?;
-            append_limit(out, side, bound)
+            append_pieces(out, &[Piece::Text(words), Piece::Time(limit)])
         } else {
-            bound.to().print(out)?;
-            append_limit(out, side, bound)?;
-            out.extend_from_slice(b" after ")?;
-            bound.from().print(out)
+            append_pieces(
+                out,
+                &[
+                    Piece::Event(bound.to()),
+                    Piece::Text(words),
+                    Piece::Time(limit),
+                    Piece::Text(b" after "),
+                    Piece::Event(bound.from()),
+                ],
+            )
         }
     }
 
@@ -192,8 +198,7 @@ impl<'a, 'b, A: Allocator> Walk<'a, 'b, A> {
         if event.number() == 0 {
             return Ok(());
         }
-        event.print(out)?;
-        out.extend_from_slice(b": ")?;
+        append_pieces(out, &[Piece::Event(event), Piece::Text(b": ")])?;
         self.append_step_words(out, MOST_WHOLE, step_of(event))?;
         out.extend_from_slice(b"\n")
     }
@@ -203,24 +208,13 @@ impl<'a, 'b, A: Allocator> Walk<'a, 'b, A> {
         requires { row < length self.now.links.now }
         ensures { OnOk result (out.new.items ≡ out.old.items ++ is.walk_words (seen_walk self.now) row) }
     {
-        append_name_opening(out, top_of(row) + 15)?;
+        let base = top_of(row) + 15;
+        in_memory(write!(out, "<text class='h' x='8' y='{base}'>"))?;
         self.append_link_name(out, row)?;
-        append_words_opening(out, top_of(row) + 15)?;
+        in_memory(write!(out, "</text><text class='n' x='124' y='{base}'>"))?;
         self.append_asked(out, self.row_link(row).side, self.bound_of(row))?;
         out.extend_from_slice(b"</text>\n")
     }
-}
-
-fn append_name_opening<A: Allocator>(out: &mut Vec<u8, A>, base: u64) -> Result<(), Memory>
-    ensures { OnOk result (out.new.items ≡ out.old.items ++ is.name_opening base) }
-{
-    in_memory(write!(out, "<text class='h' x='8' y='{base}'>"))
-}
-
-fn append_words_opening<A: Allocator>(out: &mut Vec<u8, A>, base: u64) -> Result<(), Memory>
-    ensures { OnOk result (out.new.items ≡ out.old.items ++ is.words_opening base) }
-{
-    in_memory(write!(out, "</text><text class='n' x='124' y='{base}'>"))
 }
 
 fn side_text(side: Side) -> &'static [u8]
@@ -232,34 +226,22 @@ fn side_text(side: Side) -> &'static [u8]
     }
 }
 
-// Appends the limit that a side asks for.
-fn append_limit<A: Allocator>(out: &mut Vec<u8, A>, side: Side, bound: Bound) -> Result<(), Memory>
-    ensures { OnOk result (out.new.items ≡ out.old.items ++ is.limit_words side bound) }
+// The limit that a side asks for, after words.
+fn limit_of(side: Side, bound: Bound) -> (&'static [u8], Ms)
+    ensures { result.0.now ++ printed result.1 ≡ is.limit_words side bound }
 {
     match side {
-        Side::Upper => {
-            out.extend_from_slice(b" at most ")?;
-            bound.hi().print(out)
-        }
-        Side::Lower => {
-            out.extend_from_slice(b" at least ")?;
-            bound.lo().print(out)
-        }
+        Side::Upper => (b" at most ", bound.hi()),
+        Side::Lower => (b" at least ", bound.lo()),
     }
 }
 
-// Appends what the others leave.
-fn append_left<A: Allocator>(out: &mut Vec<u8, A>, side: Side, repair: Repair) -> Result<(), Memory>
-    ensures { OnOk result (out.new.items ≡ out.old.items ++ leaves_text side repair) }
+// What the others leave, before words.
+fn left_by(side: Side, repair: Repair) -> (Seconds, &'static str)
+    ensures { printed result.0.0 ++ result.1.now ≡ leaves_text side repair }
 {
     match side {
-        Side::Upper => {
-            repair.least.print(out)?;
-            out.extend_from_slice(b" or more")
-        }
-        Side::Lower => {
-            repair.greatest.print(out)?;
-            out.extend_from_slice(b" or less")
-        }
+        Side::Upper => (Seconds(repair.least.get()), " or more"),
+        Side::Lower => (Seconds(repair.greatest.get()), " or less"),
     }
 }
