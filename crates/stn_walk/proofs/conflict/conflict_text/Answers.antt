@@ -1,7 +1,16 @@
-use Rattle.std.proofs.Common.{◌≡◌, ◌++◌, ap, ◌∙◌, arith}
+use Rattle.std.proofs.{Common.{◌≡◌, ◌++◌, ap, ◌∙◌, arith}, lemmas.Grind.common_steps}
 use Rattle.stn_lift.specs.PlanSource.{base_bounds}
 use Rattle.stn_site.specs.Bounds.{all_bounds}
 use Rattle.stn_walk.proofs.conflict.conflict_text.Goals as goal
+
+pub cycle-requires-clause-begins : goal.cycle-requires-clause-begins
+cycle-requires-clause-begins g c = grind (arith, common_steps)
+
+pub cycle-requires-clause-base_named : goal.cycle-requires-clause-base_named
+cycle-requires-clause-base_named g c = grind (arith, common_steps)
+
+pub cycle-requires-clause-extra_named : goal.cycle-requires-clause-extra_named
+cycle-requires-clause-extra_named g c = grind (arith, common_steps)
 
 pub text_along-requires : goal.text_along-requires
 text_along-requires g c =

@@ -7,6 +7,12 @@ use Rattle.stn_walk.proofs.conflict.text_along.Goals as goal
 pub invariant_of-walk : goal.invariant_of-walk
 invariant_of-walk g c = grind (arith, common_steps, length-map)
 
+pub sums_of-requires-clause-places : goal.sums_of-requires-clause-places
+sums_of-requires-clause-places g c = grind (arith, common_steps)
+
+pub append-requires : goal.append-requires
+append-requires g c = omega (arith, c.requires.negative.some)
+
 pub returns : goal.returns
 returns g c =
     let source = c.args.plan.now.source in

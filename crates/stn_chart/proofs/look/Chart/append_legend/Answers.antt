@@ -1,6 +1,9 @@
-use Rattle.std.proofs.{Common.{◌≡◌, ◌+◌, ◌++◌, ap, ◌∙◌, arith}, lemmas.List.get_or_default}
+use Rattle.std.proofs.{Common.{◌≡◌, ◌+◌, ◌++◌, refl, ap, ◌∙◌, arith}, lemmas.{Grind.common_steps, List.get_or_default}}
 use Rattle.stn_chart.{specs.{Frame.{legend_base, legend_text, parts}, Places.row_top, Seen.seen_chart}, proofs.Drawing.legend_step}
 use Rattle.stn_chart.proofs.look.Chart.append_legend.Goals as goal
+
+pub loop-part-init : goal.loop-part-init
+loop-part-init g c = (refl, omega arith)
 
 pub loop-part-preserved : goal.loop-part-preserved
 loop-part-preserved g c =
@@ -11,3 +14,6 @@ loop-part-preserved g c =
           c.append_entry_at.new.out.items base c.loop-part-test.true (get_or_default parts i _ _ c.loop-part-test.true) c.loop-part.invariant.0 c.in_ok-left.ensures.entry c.in_ok-left.ensures.next,
       omega (arith, c.in_ok-left.ensures.near, c.loop-part.invariant.1),
     )
+
+pub returns : goal.returns
+returns g c = grind (arith, common_steps)
