@@ -1,5 +1,5 @@
 -- The gaps of an axis.
-use Rattle.std.{proofs.Common.{rules, ◌≡◌, ℕ, ◌+◌, ◌-◌, ◌<◌, ◌≤◌, nat_lt, Bool, true, ◌&&◌, List, [], ◌∷◌, length, drop, get_or, if◌then◌else◌, drop-cons, add-one, arith}, specs.Prelude.nat_le}
+use Rattle.std.{proofs.Common.{rules, ◌≡◌, ℕ, ◌+◌, ◌<◌, ◌≤◌, nat_lt, Bool, true, ◌&&◌, List, [], ◌∷◌, length, drop, get_or, if◌then◌else◌, drop-cons, add-one, arith}, specs.Prelude.nat_le}
 use Rattle.stn_drawing.specs.Axis.{gaps, gaps_in, fits, first_gap, gap_of}
 
 abbrev pub is_gap : ℕ → Bool
