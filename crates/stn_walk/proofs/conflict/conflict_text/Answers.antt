@@ -9,9 +9,6 @@ cycle-requires-clause-begins g c = grind (arith, common_steps)
 pub cycle-requires-clause-base_named : goal.cycle-requires-clause-base_named
 cycle-requires-clause-base_named g c = grind (arith, common_steps)
 
-pub cycle-requires-clause-extra_named : goal.cycle-requires-clause-extra_named
-cycle-requires-clause-extra_named g c = grind (arith, common_steps)
-
 pub text_along-requires : goal.text_along-requires
 text_along-requires g c =
     let bounds : c.bounds.result.now ++ c.deref.result.now ≡ all_bounds c.args.plan.now.source c.args.plan.now.state =

@@ -10,9 +10,6 @@ invariant_of-walk g c = grind (arith, common_steps, length-map)
 pub sums_of-requires-clause-places : goal.sums_of-requires-clause-places
 sums_of-requires-clause-places g c = grind (arith, common_steps)
 
-pub append-requires : goal.append-requires
-append-requires g c = omega (arith, c.requires.negative.some)
-
 pub returns : goal.returns
 returns g c =
     let source = c.args.plan.now.source in
