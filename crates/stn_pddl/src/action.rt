@@ -109,15 +109,16 @@ impl<'a, A: Allocator + Copy> Action<'a, A> {
     ) -> Result<(), AllocError>
         ensures { IfOk result (λ _. action_schema self.new ≡ with_literal label negated (atom_schema atom.entry) (action_schema self.old)) }
     {
-        match label {
-            Label::StartCondition => self.start_needs.push(atom)?,
-            Label::OverAll => self.all_needs.push(atom)?,
-            Label::EndCondition => self.end_needs.push(atom)?,
-            Label::StartEffect if negated => self.start_deletes.push(atom)?,
-            Label::StartEffect => self.start_adds.push(atom)?,
-            Label::EndEffect if negated => self.end_deletes.push(atom)?,
-            Label::EndEffect => self.end_adds.push(atom)?,
-        }
+        let pushed = match label {
+            Label::StartCondition => self.start_needs.push(atom),
+            Label::OverAll => self.all_needs.push(atom),
+            Label::EndCondition => self.end_needs.push(atom),
+            Label::StartEffect if negated => self.start_deletes.push(atom),
+            Label::StartEffect => self.start_adds.push(atom),
+            Label::EndEffect if negated => self.end_deletes.push(atom),
+            Label::EndEffect => self.end_adds.push(atom),
+        };
+        pushed?;
         Ok(())
     }
 }
