@@ -5,10 +5,10 @@ use Rattle.stn_lift.specs.Plan.Steps.{PlannedStep}
 use Rattle.stn_site.specs.Lines.{line}
 use Rattle.stn_questions.specs.{Durations.least_of, Steps.{step_name_text, name_lines, step_line, step_lines}}
 
--- a line of five parts, one after the other
-pub line_in_parts : (front first second third fourth fifth t1 t2 t3 t4 t5 t6 : List ℕ) → t1 ≡ front ++ first → t2 ≡ t1 ++ second → t3 ≡ t2 ++ third → t4 ≡ t3 ++ fourth
-    → t5 ≡ t4 ++ fifth → t6 ≡ t5 ++ 10 ∷ [] → t6 ≡ front ++ line (first ++ second ++ third ++ fourth ++ fifth)
-line_in_parts front first second third fourth fifth t1 t2 t3 t4 t5 t6 a b c d e f = search (rules, append_assoc)
+-- a line of five parts, of which the last two come at once
+pub line_in_parts : (front first second third fourth fifth t1 t2 t3 : List ℕ) → t1 ≡ front ++ (first ++ second) → t2 ≡ t1 ++ third → t3 ≡ t2 ++ (fourth ++ (fifth ++ 10 ∷ []))
+    → t3 ≡ front ++ line (first ++ second ++ third ++ fourth ++ fifth)
+line_in_parts front first second third fourth fifth t1 t2 t3 a b c = search (rules, append_assoc)
 
 -- the lines of one step more
 pub step_lines-push : (duration : ℕ → ℤ) (before place : ℕ) (steps : List PlannedStep) (step : PlannedStep) → before + length steps ≡ place

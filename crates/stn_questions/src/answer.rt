@@ -27,11 +27,10 @@ pub fn print_answer<A: Allocator + Copy, B: Allocator>(
     ensures kept { OnErr result (out.new.items ≡ out.old.items) }
 {
     match question {
-        Question::Records => print_records(plan, out)?,
-        Question::Steps => print_steps(plan, out)?,
-        Question::Bounds => print_bounds(plan, out)?,
-        Question::Why(event) => print_why(plan, event, out)?,
-        Question::WhyApart(from, to) => print_apart(plan, from, to, out)?,
+        Question::Records => Ok(print_records(plan, out)?),
+        Question::Steps => Ok(print_steps(plan, out)?),
+        Question::Bounds => Ok(print_bounds(plan, out)?),
+        Question::Why(event) => print_why(plan, event, out),
+        Question::WhyApart(from, to) => print_apart(plan, from, to, out),
     }
-    Ok(())
 }

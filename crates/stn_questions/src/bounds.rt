@@ -1,10 +1,11 @@
-ghost use Rattle.std.specs.{Prelude.{◌≡◌, ◌+◌, ◌^◌, ◌<◌, ◌++◌, length, IfOk, OnOk, OnErr}, List.{flat_map, range_with_len}};
-ghost use Rattle.stn_questions.specs.Bounds.{lower_text, upper_text, bound_text, named_line, listed_line, bounds_text};
+ghost use Rattle.std.specs.{Prelude.{◌≡◌, ◌+◌, ◌^◌, ◌<◌, ◌++◌, length, codes, IfOk, OnOk, OnErr}, List.{flat_map, range_with_len}};
+ghost use Rattle.stn_site.specs.{Names.name_text, Pieces.piece_text};
+ghost use Rattle.stn_questions.specs.Bounds.{lower_text, upper_text, bound_text, listed_line, bounds_text};
 
 use std::alloc::Allocator;
 use stn_net::Bound;
 use stn_records::Id;
-use stn_site::{BoundName, SitePlan, bound_at, bound_name};
+use stn_site::{BoundName, Piece, SitePlan, append_pieces, bound_at, bound_name};
 use stn_time::{HORIZON, Memory, Ms};
 
 /// Appends a line for each of all bounds, the plan's own first and then those of the live records: its
@@ -46,54 +47,56 @@ fn append_lines<B: Allocator>(
     for place in 0..base.len() + others.len() {
         let name = bound_name(base, ids, place);
         let bound = bound_at(base, others, place);
-        append_named(out, name, bound)?;
+        append_named(out, name, bound, b"\n")?;
     }
     Ok(())
 }
 
-fn append_named<B: Allocator>(
+/// Appends a bound's name, its events and sides, as an addition reads them, and then the text. If memory
+/// runs out, it appends nothing.
+pub fn append_named<B: Allocator>(
     out: &mut Vec<u8, B>,
     name: BoundName,
     bound: Bound,
+    rest: &[u8],
 ) -> Result<(), Memory>
-    ensures { OnOk result (out.new.items ≡ out.old.items ++ named_line name bound) }
+    ensures { OnOk result (out.new.items ≡ out.old.items ++ (name_text name ++ codes " " ++ bound_text bound ++ rest.now)) }
 {
-    name.print(out)?;
-    out.extend_from_slice(b" ")?;
-    append_bound(out, bound)?;
-    out.extend_from_slice(b"\n")
+    append_pieces(
+        out,
+        &[
+            Piece::Bound(name),
+            Piece::Text(b" "),
+            Piece::Event(bound.from()),
+            Piece::Text(b" "),
+            Piece::Event(bound.to()),
+            Piece::Text(b" "),
+            lower(bound.lo()),
+            Piece::Text(b" "),
+            upper(bound.hi()),
+            Piece::Text(rest),
+        ],
+    )
 }
 
-/// Appends a bound as an addition reads it: its events and its sides. After an error a part of it may
-/// stand there.
-pub fn append_bound<B: Allocator>(out: &mut Vec<u8, B>, bound: Bound) -> Result<(), Memory>
-    ensures { OnOk result (out.new.items ≡ out.old.items ++ bound_text bound) }
-{
-    bound.from().print(out)?;
-    out.extend_from_slice(b" ")?;
-    bound.to().print(out)?;
-    out.extend_from_slice(b" ")?;
-    append_lower(out, bound.lo())?;
-    out.extend_from_slice(b" ")?;
-    append_upper(out, bound.hi())
-}
-
-fn append_lower<B: Allocator>(out: &mut Vec<u8, B>, lo: Ms) -> Result<(), Memory>
-    ensures { OnOk result (out.new.items ≡ out.old.items ++ lower_text lo) }
+// The lower side.
+fn lower(lo: Ms) -> Piece<'static>
+    ensures { piece_text result ≡ lower_text lo }
 {
     if lo == Ms::new(-HORIZON).unwrap() {
-        out.extend_from_slice(b"*")
+        Piece::Text(b"*")
     } else {
-        lo.print(out)
+        Piece::Time(lo)
     }
 }
 
-fn append_upper<B: Allocator>(out: &mut Vec<u8, B>, hi: Ms) -> Result<(), Memory>
-    ensures { OnOk result (out.new.items ≡ out.old.items ++ upper_text hi) }
+// The upper side.
+fn upper(hi: Ms) -> Piece<'static>
+    ensures { piece_text result ≡ upper_text hi }
 {
     if hi == Ms::new(HORIZON).unwrap() {
-        out.extend_from_slice(b"*")
+        Piece::Text(b"*")
     } else {
-        hi.print(out)
+        Piece::Time(hi)
     }
 }

@@ -9,7 +9,7 @@ use crate::ready_event::ReadyEvent;
 use std::alloc::Allocator;
 use stn_conflict::{earliest_and_latest, soonest};
 use stn_net::{Event, Next, is_left};
-use stn_site::SitePlan;
+use stn_site::{Piece, SitePlan, append_pieces, append_window_line};
 use stn_time::{Memory, Ms};
 
 /// Appends which events may run from now on, where these count as done, the origin's test first: a line
@@ -30,15 +30,30 @@ pub fn print_ready_with<A: Allocator + Copy, B: Allocator>(
     ensures kept { OnErr result (out.new.items ≡ out.old.items) }
 {
     let mut text = Vec::new(plan.alloc());
+    append_ready(plan, done, now, &mut text)?;
+    out.extend_from_slice(&text)
+}
+
+// The same; if memory runs out, a part of it may stand there.
+fn append_ready<A: Allocator + Copy>(
+    plan: &SitePlan<A>,
+    done: &[bool],
+    now: Ms,
+    out: &mut Vec<u8, A>,
+) -> Result<(), Memory>
+    requires { length done.now ≡ events_of plan.now.source + 1 }
+    ensures { OnOk result ((text : List ℕ)
+        × IsReadyWith (all_bounds plan.now.source plan.now.state) done.now now text
+        × (out.new.items ≡ out.old.items ++ text)) }
+{
     match next_with(plan, done, now)? {
         Some(answer) => match answer {
-            Next::Run(_, _) => append_lines(&ready_events(plan, done, now)?, &mut text)?,
-            Next::AllDone => text.extend_from_slice(b"all done\n")?,
-            Next::Overdue(event) => append_event_line(&mut text, b"overdue ", event)?,
+            Next::Run(_, _) => append_lines(&ready_events(plan, done, now)?, out),
+            Next::AllDone => out.extend_from_slice(b"all done\n"),
+            Next::Overdue(event) => append_event_line(out, b"overdue ", event),
         },
-        None => text.extend_from_slice(b"conflict\n")?,
+        None => out.extend_from_slice(b"conflict\n"),
     }
-    out.extend_from_slice(&text)
 }
 
 /// Appends a line of these words and an event. If memory runs out, a part of it may stand there.
@@ -49,9 +64,10 @@ pub fn append_event_line<B: Allocator>(
 ) -> Result<(), Memory>
     ensures { OnOk result (out.new.items ≡ out.old.items ++ line (words.now ++ event_text event)) }
 {
-    out.extend_from_slice(words)?;
-    event.print(out)?;
-    out.extend_from_slice(b"\n")
+    append_pieces(
+        out,
+        &[Piece::Text(words), Piece::Event(event), Piece::Text(b"\n")],
+    )
 }
 
 // The events that are ready from now on, in the order in which they are printed. None is ready after the
@@ -142,18 +158,7 @@ fn append_lines<B: Allocator>(ready: &[ReadyEvent], out: &mut Vec<u8, B>) -> Res
     ensures { OnOk result (out.new.items ≡ out.old.items ++ flat_map ready_line ready.now) }
 {
     for one in ready {
-        append_line(*one, out)?;
+        append_window_line(out, one.event, one.first, one.last, false)?;
     }
     Ok(())
-}
-
-fn append_line<B: Allocator>(one: ReadyEvent, out: &mut Vec<u8, B>) -> Result<(), Memory>
-    ensures { OnOk result (out.new.items ≡ out.old.items ++ ready_line one) }
-{
-    one.event.print(out)?;
-    out.extend_from_slice(b" ")?;
-    one.first.print(out)?;
-    out.extend_from_slice(b" ")?;
-    one.last.print(out)?;
-    out.extend_from_slice(b"\n")
 }

@@ -1,10 +1,11 @@
 ghost use Rattle.std.specs.{Prelude.{◌≡◌, ◌++◌, ℕ, List, map, Option, IfOk, OnOk, OnErr}, List.flat_map};
+ghost use Rattle.stn_records.specs.Id.{id_text};
 ghost use Rattle.stn_questions.specs.{Records.{AreKnown, IsRecordsText, amends_text, held_text, word_where, record_line}, Replaced.AreReplaced};
 
-use crate::bounds::append_bound;
+use crate::bounds::append_named;
 use std::alloc::Allocator;
 use stn_records::{Id, Mark, Record, Records};
-use stn_site::SitePlan;
+use stn_site::{BoundName, Piece, SitePlan, append_pieces};
 use stn_time::Memory;
 
 /// Appends a line for each known id, in order: the id; its record's bound, where the record is known,
@@ -105,25 +106,32 @@ fn append_line<A: Allocator + Copy, B: Allocator>(
     ensures { OnOk result (out.new.items ≡ out.old.items ++ record_line records.now id) }
 {
     let state = records.state();
-    id.print(out)?;
-    append_held(state.additions().get(id), out)?;
+    append_held(id, state.additions().get(id), out)?;
     append_amended(state.replacements().get(id), out)?;
-    append_word(state.tombstones().contains(id), b" withdrawn", out)?;
-    append_word(replaced.binary_search(&id).is_ok(), b" replaced", out)?;
-    out.extend_from_slice(b"\n")
+    append_pieces(
+        out,
+        &[
+            Piece::Text(word_where(state.tombstones().contains(id), b" withdrawn")),
+            Piece::Text(word_where(replaced.binary_search(&id).is_ok(), b" replaced")),
+            Piece::Text(b"\n"),
+        ],
+    )
 }
 
-// Appends the record of an id, where it is known.
-fn append_held<B: Allocator>(held: Option<Record>, out: &mut Vec<u8, B>) -> Result<(), Memory>
-    ensures { OnOk result (out.new.items ≡ out.old.items ++ held_text held) }
+// Appends an id, and its record where that is known.
+fn append_held<B: Allocator>(
+    id: Id,
+    held: Option<Record>,
+    out: &mut Vec<u8, B>,
+) -> Result<(), Memory>
+    ensures { OnOk result (out.new.items ≡ out.old.items ++ (id_text id ++ held_text held)) }
 {
     match held {
         Some(record) => {
-            out.extend_from_slice(b" ")?;
-            append_bound(out, record.bound)?;
-            append_word(record.mark == Mark::Done, b" done", out)
+            let done = word_where(record.mark == Mark::Done, b" done");
+            append_named(out, BoundName::Record(id), record.bound, done)
         }
-        None => Ok(()),
+        None => id.print(out),
     }
 }
 
@@ -132,21 +140,20 @@ fn append_amended<B: Allocator>(old: Option<Id>, out: &mut Vec<u8, B>) -> Result
     ensures { OnOk result (out.new.items ≡ out.old.items ++ amends_text old) }
 {
     match old {
-        Some(id) => {
-            out.extend_from_slice(b" amends ")?;
-            id.print(out)
-        }
+        Some(id) => append_pieces(
+            out,
+            &[
+                Piece::Text(b" amends "),
+                Piece::Bound(BoundName::Record(id)),
+            ],
+        ),
         None => Ok(()),
     }
 }
 
-// Appends the word where it is so.
-fn append_word<B: Allocator>(so: bool, word: &[u8], out: &mut Vec<u8, B>) -> Result<(), Memory>
-    ensures { OnOk result (out.new.items ≡ out.old.items ++ word_where so word.now) }
+// The word, where it is so.
+fn word_where(so: bool, word: &[u8]) -> &[u8]
+    ensures { result.now ≡ word_where so word.now }
 {
-    if so {
-        out.extend_from_slice(word)
-    } else {
-        Ok(())
-    }
+    if so { word } else { b"" }
 }

@@ -7,8 +7,7 @@ ghost use Rattle.stn_questions.specs.{Durations.{least_of, AreDurations}, Steps.
 use std::alloc::{AllocError, Allocator};
 use stn_lift::{Base, Plan, PlanFault, Source, Step};
 use stn_net::Bound;
-use stn_site::SitePlan;
-use stn_text::append_decimal;
+use stn_site::{Piece, SitePlan, append_pieces};
 use stn_time::{Memory, Ms};
 
 /// Appends a line for each step, from 1 on: its number; of a plan of files also its action and the
@@ -54,8 +53,7 @@ fn append_numbers<B: Allocator>(out: &mut Vec<u8, B>, steps: u16) -> Result<(), 
     ensures { OnOk result (out.new.items ≡ out.old.items ++ flat_map (λ number. line (decimal number)) (range_with_len 1 steps)) }
 {
     for before in 0..steps {
-        append_decimal(out, b"", before + 1)?;
-        out.extend_from_slice(b"\n")?;
+        append_pieces(out, &[Piece::Number(before + 1), Piece::Text(b"\n")])?;
     }
     Ok(())
 }
@@ -114,11 +112,16 @@ fn append_step_line<'a, A: Allocator, B: Allocator>(
     ensures { OnOk result (out.new.items ≡ out.old.items ++ step_line number (planned_step step.now) duration) }
 {
     append_name(number, step, out)?;
-    out.extend_from_slice(b" ")?;
-    step.time.print(out)?;
-    out.extend_from_slice(b" ")?;
-    duration.print(out)?;
-    out.extend_from_slice(b"\n")
+    append_pieces(
+        out,
+        &[
+            Piece::Text(b" "),
+            Piece::Time(step.time),
+            Piece::Text(b" "),
+            Piece::Time(duration),
+            Piece::Text(b"\n"),
+        ],
+    )
 }
 
 /// The names of the steps of a plan: for each, from 1 on, a line with its number, its action and the arguments as the
@@ -153,8 +156,7 @@ fn append_name<'a, A: Allocator, B: Allocator>(
 ) -> Result<(), Memory>
     ensures { OnOk result (out.new.items ≡ out.old.items ++ step_name_text number (planned_step step.now)) }
 {
-    append_decimal(out, b"", number)?;
-    out.extend_from_slice(b" ")?;
+    append_pieces(out, &[Piece::Number(number), Piece::Text(b" ")])?;
     append_words(step.action, &step.args, out)
 }
 
@@ -168,8 +170,7 @@ pub fn append_words<B: Allocator>(
 {
     out.extend_from_slice(action)?;
     for argument in arguments {
-        out.extend_from_slice(b" ")?;
-        out.extend_from_slice(argument)?;
+        append_pieces(out, &[Piece::Text(b" "), Piece::Text(argument)])?;
     }
     Ok(())
 }
