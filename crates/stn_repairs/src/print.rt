@@ -3,7 +3,7 @@ ghost use Rattle.stn_lift.specs.PlanSource.{base_bounds};
 ghost use Rattle.stn_conflict.specs.Arcs.{IsNegativeCycle};
 ghost use Rattle.stn_records.specs.Content.{live_of};
 ghost use Rattle.stn_site.specs.Bounds.{all_bounds};
-ghost use Rattle.stn_repairs.specs.{Repairs.AreRepairs, Text.{listed_id, repair_line, drop_line, IsRepairsText}};
+ghost use Rattle.stn_repairs.specs.{Repairs.AreRepairs, Text.{repair_line, drop_line, IsRepairsText}};
 
 use crate::dropped::dropped_ids;
 use crate::live::{bounds_of, live_records};
@@ -12,7 +12,7 @@ use crate::repairs::repairs_on;
 use std::alloc::Allocator;
 use stn_conflict::{Link, cycle};
 use stn_records::Id;
-use stn_site::{SitePlan, append_range_line};
+use stn_site::{BoundName, Piece, SitePlan, append_pieces, append_range_line};
 use stn_time::Memory;
 
 /// Appends what mends a conflict: `ok` where all bounds have a schedule. Else a line for each live record
@@ -76,8 +76,13 @@ fn append_repairs<B: Allocator>(repairs: &[Repair], out: &mut Vec<u8, B>) -> Res
 fn append_repair<B: Allocator>(repair: Repair, out: &mut Vec<u8, B>) -> Result<(), Memory>
     ensures { OnOk result (out.new.items ≡ out.old.items ++ repair_line repair) }
 {
-    repair.id.print(out)?;
-    out.extend_from_slice(b" ")?;
+    append_pieces(
+        out,
+        &[
+            Piece::Bound(BoundName::Record(repair.id)),
+            Piece::Text(b" "),
+        ],
+    )?;
     append_range_line(out, repair.from, repair.to, repair.least, repair.greatest)
 }
 
@@ -86,16 +91,11 @@ fn append_dropped<B: Allocator>(ids: &[Id], out: &mut Vec<u8, B>) -> Result<(), 
     ensures { OnOk result (out.new.items ≡ out.old.items ++ drop_line ids.now) }
 {
     out.extend_from_slice(b"drop")?;
-    append_ids(ids, out)?;
-    out.extend_from_slice(b"\n")
-}
-
-fn append_ids<B: Allocator>(ids: &[Id], out: &mut Vec<u8, B>) -> Result<(), Memory>
-    ensures { OnOk result (out.new.items ≡ out.old.items ++ flat_map listed_id ids.now) }
-{
     for id in ids {
-        out.extend_from_slice(b" ")?;
-        id.print(out)?;
+        append_pieces(
+            out,
+            &[Piece::Text(b" "), Piece::Bound(BoundName::Record(*id))],
+        )?;
     }
-    Ok(())
+    out.extend_from_slice(b"\n")
 }
