@@ -1,4 +1,4 @@
-use Rattle.std.proofs.{Common.{◌≡◌, ℕ, ◌+◌, ◌<◌, List, [], ◌∷◌, ◌++◌, length, map, take, get_or, arith}, lemmas.Grind.common_steps}
+use Rattle.std.proofs.{Common.{◌≡◌, ℕ, ◌+◌, ◌<◌, List, [], ◌∷◌, ◌++◌, length, map, take, get_or, arith}, lemmas.{Grind.common_steps, Result.err_from_is_err_and}}
 use Rattle.stn_lift.specs.Plan.{Steps.PlannedStep, Views.planned_step}
 use Rattle.stn_questions.specs.Steps.{step_name}
 use Rattle.stn_questions.proofs.names.names_among.Goals as goal
@@ -15,4 +15,4 @@ loop-step-preserved g c =
     (cc (rw c.new-name.ensures.items at c.in_ok-append_words.ensures))
 
 pub returns-in_err-append_words : goal.returns-in_err-append_words
-returns-in_err-append_words g c = grind (arith, common_steps)
+returns-in_err-append_words g c = let p = err_from_is_err_and c.from_residual.result c.from_residual.ensures.1 in rw (p.1) tt

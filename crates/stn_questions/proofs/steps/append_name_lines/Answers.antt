@@ -1,4 +1,4 @@
-use Rattle.std.proofs.{Common.{[], ◌∷◌, ◌+◌, ◌++◌, ◌∙◌, ap, append_assoc, arith}, lemmas.Grind.common_steps}
+use Rattle.std.proofs.{Common.{[], ◌∷◌, ◌+◌, ◌++◌, ◌∙◌, ap, append_assoc, arith}, lemmas.Result.err_from_is_err_and}
 use Rattle.stn_lift.specs.Plan.Views.{planned_step}
 use Rattle.stn_questions.{specs.Steps.step_name_text, proofs.Listing.names_grown}
 use Rattle.stn_questions.proofs.steps.append_name_lines.Goals as goal
@@ -13,7 +13,8 @@ loop-before-preserved g c =
     ∙ append_assoc c.loop-before.out.items (step_name_text (place + 1) (planned_step step)) (10 ∷ []))
 
 pub returns-in_err-append_name : goal.returns-in_err-append_name
-returns-in_err-append_name g c = grind (arith, common_steps)
+returns-in_err-append_name g c = let p = err_from_is_err_and c.from_residual.result c.from_residual.ensures.1 in rw (p.1) tt
 
 pub returns-in_err-extend_from_slice : goal.returns-in_err-extend_from_slice
-returns-in_err-extend_from_slice g c = grind (arith, common_steps)
+returns-in_err-extend_from_slice g c =
+    let p = err_from_is_err_and c.from_residual-in_err-extend_from_slice.result c.from_residual-in_err-extend_from_slice.ensures.1 in rw (p.1) tt

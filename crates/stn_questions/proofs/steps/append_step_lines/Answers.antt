@@ -1,4 +1,4 @@
-use Rattle.std.proofs.{Common.{◌<◌, length, arith}, lemmas.Grind.elements}
+use Rattle.std.proofs.{Common.{◌<◌, length, arith}, lemmas.Result.err_from_is_err_and}
 use Rattle.stn_lift.specs.Plan.Views.{planned_step}
 use Rattle.stn_questions.proofs.Listing.{steps_grown}
 use Rattle.stn_questions.proofs.steps.append_step_lines.Goals as goal
@@ -12,4 +12,4 @@ loop-before-preserved g c =
     there c.index-steps-before.is (omega arith) c.index-durations-before.is c.lo-duration.ensures.value c.loop-before.invariant c.in_ok-append_step_line.ensures
 
 pub returns-in_err-append_step_line : goal.returns-in_err-append_step_line
-returns-in_err-append_step_line g c = grind (arith, elements)
+returns-in_err-append_step_line g c = let p = err_from_is_err_and c.from_residual.result c.from_residual.ensures.1 in rw (p.1) tt
