@@ -1,9 +1,10 @@
 -- The bounds on starts, one after the other, and the lines of their links.
-use Rattle.std.proofs.{lemmas.{Grind.common_steps, List.{get_or_read, take_at, get_or-map, Elements.All-append}}, Common.{rules, ◌≡◌, inl, inr, ℕ, ◌+◌, ◌*◌, ◌<◌, ◌≤◌, List, [], ◌∷◌, ◌++◌, length, map, take, get_or, codes, refl, arith, append_assoc, length-append, All}}
-use Rattle.stn_net.{specs.{Difference.{Difference, NamesEvents}, Horizon.horizon_bounds, Schedule.{Meets, HasSchedule}}, proofs.{Horizons.length-horizon_bounds, Schedules.met_behind, Widest.{horizon_each, horizon_named}}}
+use Rattle.std.proofs.{lemmas.{Grind.common_steps, List.{append-nil, get_or_read, take_at, get_or-map, Elements.All-append}}, Common.{rules, ◌≡◌, inl, inr, ℕ, ◌+◌, ◌*◌, ◌<◌, ◌≤◌, List, [], ◌∷◌, ◌++◌, length, map, take, get_or, codes, refl, arith, append_assoc, length-append, All}}
+use Rattle.stn_net.{specs.{Difference.{Difference, NamesEvents}, Event.event_text, Horizon.horizon_bounds, Schedule.{Meets, HasSchedule}}, proofs.{Horizons.length-horizon_bounds, Schedules.met_behind, Widest.{horizon_each, horizon_named}}}
 use Rattle.stn_lift.specs.PlanSource.{PlanSource, events_of, IsSoundSource}
-use Rattle.stn_conflict.specs.{declared.links.{Link.Link}, Arcs.bound_at}
-use Rattle.stn_site.specs.{declared.names.BoundName.TheVariants.Plan, Names.name_text, Lines.{line, side_text, limit_text}}
+use Rattle.stn_time.specs.Text.{printed}
+use Rattle.stn_conflict.specs.{declared.links.{Link.Link, Side.{Side, TheVariants.{Upper, Lower}}}, Arcs.bound_at}
+use Rattle.stn_site.specs.{declared.names.BoundName.TheVariants.Plan, Names.name_text, Lines.{line, side_text, side_limit, limit_text}}
 use Rattle.stn_loosen.{specs.{declared.span.Span.Span, Slack.{Slack, IsSlack}, Moved.{moved_upper, moved_lower, moved_bounds}, Loosened.loose_durations, Robust.{loose_bounds, HasPromise}, Stepped.{as_bound, IsWithinReach, IsHalfOpen}, Starting.IsStart, Fragile.{start_bounds, origin_place, mover_text, with_sides, start_line}}, proofs.{Steps.source_steps, Looser.all_between, Settings.{moved_all, moved_each}, Sides.sides_named, Robustness.{starts_met, promise_iff}}}
 
 -- the bound at a place of spans
@@ -66,14 +67,19 @@ pub origin_at : (events : ℕ) (bounds : List Difference) (place at : ℕ) (boun
     → bound ≡ get_or bounds at bound → bound ≡ bound_at bounds (origin_place events place)
 origin_at events bounds place at bound some there is here = search (rules, get_or_read)
 
+-- a side of a bound with the sides of another
+moved_limit : (bound moved : Difference) (side : Side) → side_limit (with_sides bound moved) side ≡ side_limit moved side
+moved_limit bound moved Upper = refl
+moved_limit bound moved Lower = refl
+
 module _ (events : ℕ) (durations bounds starts : List Difference) (link : Link) where
   abbrev made_line : ℕ → Difference → Difference → List ℕ
   made_line number bound moved =
       line (name_text (Plan number) ++ (codes " " ++ (side_text link.side ++ (codes " "
       ++ (limit_text (with_sides bound moved) link.side ++ mover_text durations events link.place bound)))))
 
-  pub line_made : (number : ℕ) (bound moved : Difference) (out first second third fourth fifth : List ℕ) → number ≡ origin_place events link.place + 1
-      → bound ≡ bound_at bounds (origin_place events link.place) → moved ≡ bound_at starts link.place → first ≡ out ++ name_text (Plan number)
-      → second ≡ first ++ (codes " " ++ (side_text link.side ++ codes " ")) → third ≡ second ++ limit_text (with_sides bound moved) link.side
-      → fourth ≡ third ++ mover_text durations events link.place bound → fifth ≡ fourth ++ 10 ∷ [] → fifth ≡ out ++ start_line events durations bounds starts link
-  line_made number bound moved out first second third fourth fifth number_is bound_is moved_is one two three four five = search (rules, append_assoc)
+  pub line_made : (number : ℕ) (bound moved : Difference) (out first second third : List ℕ) → number ≡ origin_place events link.place + 1
+      → bound ≡ bound_at bounds (origin_place events link.place) → moved ≡ bound_at starts link.place
+      → first ≡ out ++ (name_text (Plan number) ++ ((codes " " ++ (side_text link.side ++ codes " ")) ++ (event_text bound.from ++ (codes " " ++ (event_text bound.to ++ (codes " " ++ (printed (side_limit moved link.side) ++ [])))))))
+      → second ≡ first ++ mover_text durations events link.place bound → third ≡ second ++ 10 ∷ [] → third ≡ out ++ start_line events durations bounds starts link
+  line_made number bound moved out first second third number_is bound_is moved_is one two three = search (rules, append_assoc, append-nil, moved_limit bound moved link.side)

@@ -1,7 +1,7 @@
 //! What is not robust of a plan.
 
 ghost use Rattle.std.specs.{Prelude.{◌≡◌, ◌+◌, ◌*◌, ◌<◌, ◌≤◌, ◌^◌, ◌++◌, codes, length, map, All, IfOk, OnOk}, List.flat_map};
-ghost use Rattle.stn_site.specs.Lines.{side_text, limit_text};
+ghost use Rattle.stn_site.specs.Lines.{side_text, side_limit};
 ghost use Rattle.stn_loosen.specs.Fragile as spec;
 ghost use Rattle.stn_loosen.specs.{Fragile.TellsFragile, Stepped.{as_bound, AreSteps}};
 
@@ -14,9 +14,9 @@ use std::alloc::Allocator;
 use stn_conflict::{Link, Side};
 use stn_lift::{Base, step_of};
 use stn_net::{Bound, Event};
-use stn_site::BoundName;
+use stn_site::{BoundName, Piece, append_pieces};
 use stn_text::append_decimal;
-use stn_time::{Memory, print_millis};
+use stn_time::Memory;
 
 /// What is not robust of a plan with a tolerance: the lines of a closed chain of bounds on starts that no times of the starts meet;
 /// nothing, where there is a promise. A line is that of a conflict, of the plan's bound that a bound on starts comes from, but with its
@@ -79,12 +79,20 @@ fn append_line<A: Allocator>(
     let events = usize::from(events);
     let place = origin_place(events, link.place);
     let bound = &bounds[place];
-    BoundName::Plan(place as u32 + 1).print(out)?;
-    out.extend_from_slice(side_text(link.side))?;
-    append_limit(bound, &starts[link.place], link.side, out)?;
+    append_pieces(
+        out,
+        &[
+            Piece::Bound(BoundName::Plan(place as u32 + 1)),
+            Piece::Text(side_text(link.side)),
+            Piece::Event(bound.from()),
+            Piece::Text(b" "),
+            Piece::Event(bound.to()),
+            Piece::Text(b" "),
+            Piece::Sum(limit_of(&starts[link.place], link.side)),
+        ],
+    )?;
     append_movers(events, durations, link.place, bound, out)?;
-    out.extend_from_slice(b"\n")?;
-    Ok(())
+    out.extend_from_slice(b"\n")
 }
 
 // The place of the plan's bound that a bound on starts comes from.
@@ -107,22 +115,12 @@ fn side_text(side: Side) -> &'static [u8]
     }
 }
 
-// Appends the events of a bound, and a side as it was moved.
-fn append_limit<A: Allocator>(
-    bound: &Bound,
-    moved: &Span,
-    side: Side,
-    out: &mut Vec<u8, A>,
-) -> Result<(), Memory>
-    ensures { OnOk result (out.new.items ≡ out.old.items ++ limit_text (spec.with_sides bound.now (as_bound moved.now)) side) }
+fn limit_of(moved: &Span, side: Side) -> i64
+    ensures { result ≡ side_limit (as_bound moved.now) side }
 {
-    bound.from().print(out)?;
-    out.extend_from_slice(b" ")?;
-    bound.to().print(out)?;
-    out.extend_from_slice(b" ")?;
     match side {
-        Side::Upper => print_millis(moved.hi, out),
-        Side::Lower => print_millis(moved.lo, out),
+        Side::Upper => moved.hi,
+        Side::Lower => moved.lo,
     }
 }
 
