@@ -4,7 +4,7 @@ use Rattle.stn_net.{specs.{Difference.{Difference, NamesEvents}, Event.event_tex
 use Rattle.stn_lift.specs.PlanSource.{PlanSource, events_of, IsSoundSource}
 use Rattle.stn_time.specs.Text.{printed}
 use Rattle.stn_conflict.specs.{declared.links.{Link.Link, Side.{Side, TheVariants.{Upper, Lower}}}, Arcs.bound_at}
-use Rattle.stn_site.specs.{declared.names.BoundName.TheVariants.Plan, Names.name_text, Lines.{line, side_text, side_limit, limit_text}}
+use Rattle.stn_site.specs.{declared.names.BoundName.TheVariants.Plan, Names.name_text, Lines.{side_text, side_limit}}
 use Rattle.stn_loosen.{specs.{declared.span.Span.Span, Slack.{Slack, IsSlack}, Moved.{moved_upper, moved_lower, moved_bounds}, Loosened.loose_durations, Robust.{loose_bounds, HasPromise}, Stepped.{as_bound, IsWithinReach, IsHalfOpen}, Starting.IsStart, Fragile.{start_bounds, origin_place, mover_text, with_sides, start_line}}, proofs.{Steps.source_steps, Looser.all_between, Settings.{moved_all, moved_each}, Sides.sides_named, Robustness.{starts_met, promise_iff}}}
 
 -- the bound at a place of spans
@@ -73,11 +73,6 @@ moved_limit bound moved Upper = refl
 moved_limit bound moved Lower = refl
 
 module _ (events : ℕ) (durations bounds starts : List Difference) (link : Link) where
-  abbrev made_line : ℕ → Difference → Difference → List ℕ
-  made_line number bound moved =
-      line (name_text (Plan number) ++ (codes " " ++ (side_text link.side ++ (codes " "
-      ++ (limit_text (with_sides bound moved) link.side ++ mover_text durations events link.place bound)))))
-
   pub line_made : (number : ℕ) (bound moved : Difference) (out first second third : List ℕ) → number ≡ origin_place events link.place + 1
       → bound ≡ bound_at bounds (origin_place events link.place) → moved ≡ bound_at starts link.place
       → first ≡ out ++ (name_text (Plan number) ++ ((codes " " ++ (side_text link.side ++ codes " ")) ++ (event_text bound.from ++ (codes " " ++ (event_text bound.to ++ (codes " " ++ (printed (side_limit moved link.side) ++ [])))))))
