@@ -140,13 +140,10 @@ fn append_amended<B: Allocator>(old: Option<Id>, out: &mut Vec<u8, B>) -> Result
     ensures { OnOk result (out.new.items ≡ out.old.items ++ amends_text old) }
 {
     match old {
-        Some(id) => append_pieces(
-            out,
-            &[
-                Piece::Text(b" amends "),
-                Piece::Bound(BoundName::Record(id)),
-            ],
-        ),
+        Some(id) => {
+            out.extend_from_slice(b" amends ")?;
+            id.print(out)
+        }
         None => Ok(()),
     }
 }
