@@ -44,7 +44,7 @@ returns-in_err-turn-in-Frame-clause-served g c =
 pub frames-smaller : goal.frames-smaller
 frames-smaller g c =
     let gave = rw c.in-Frame.is at c.in_ok-frame.ensures.gives in
-    measure_falls (pending c.frames.frames) gave.bytes (pending c.next.new.self) (content c.in-Frame.frame) gave.next.1 c.frames.frames.count c.next.new.self.count gave.counted.0 gave.counted.1
+    omega (arith, measure_falls (pending c.frames.frames) gave.bytes (pending c.next.new.self) (content c.in-Frame.frame) gave.next.1 c.frames.frames.count c.next.new.self.count gave.counted.0 gave.counted.1)
 
 pub frames-preserved : goal.frames-preserved
 frames-preserved g c =
