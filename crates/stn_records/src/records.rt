@@ -309,9 +309,8 @@ impl<A: Allocator + Copy> Records<A> {
     pub fn copy(&self) -> Result<Records<A>, Memory>
         ensures { IfOk result (λ copy. copy ≡ self.now) }
     {
-        Ok(Records {
-            state: self.state.copy()?,
-        })
+        let state = self.state.copy()?;
+        Ok(Records { state })
     }
 
     /// The live records, in order of id, one after another.
