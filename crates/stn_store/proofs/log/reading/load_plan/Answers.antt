@@ -1,4 +1,4 @@
-use Rattle.std.proofs.Common.{refl, ap, Ok, Err, option_map, ◌∙◌}
+use Rattle.std.proofs.Common.{refl, ap, arith, Ok, Err, option_map, ◌∙◌}
 use Rattle.stn_wire.{specs.{Frame.content, Stream.{pending, Held.Stream}}, proofs.Streams.measure_falls}
 use Rattle.stn_device.{specs.declared.whole.ReadFault.ReadFault, proofs.Known.{fails_more, fault_or, not_err}}
 use Rattle.stn_device.specs.declared.whole.ReadFault.TheVariants as stream
@@ -42,7 +42,7 @@ returns-in_err-taken-in-Frame g c =
 pub frames-smaller : goal.frames-smaller
 frames-smaller g c =
     let gave = rw c.in-Frame.is at c.in_ok-frame.ensures.gives in
-    measure_falls (pending c.frames.frames) gave.bytes (pending c.next.new.self) (content c.in-Frame.frame) gave.next.1 c.frames.frames.count c.next.new.self.count gave.counted.0 gave.counted.1
+    omega (arith, measure_falls (pending c.frames.frames) gave.bytes (pending c.next.new.self) (content c.in-Frame.frame) gave.next.1 c.frames.frames.count c.next.new.self.count gave.counted.0 gave.counted.1)
 
 pub frames-preserved : goal.frames-preserved
 frames-preserved g c =
