@@ -3,7 +3,6 @@ use Rattle.std.proofs.Common.{rules, ◌≡◌, Option, sym, ◌∙◌}
 use Rattle.stn_refusal.specs.{declared.failure.Failure.Failure}
 use Rattle.stn_site.specs.{Held.Held}
 use Rattle.stn_command.specs.Query.{Query, report, check, foresee, ask, repairs, draw, IsQueryRefusal}
-use Rattle.stn_questions.specs.declared.words.Outlook.TheVariants as outlook
 
 pub one_refusal : (query : Query) (held : Held) (cause other : Option Failure) → IsQueryRefusal query held cause → IsQueryRefusal query held other → cause ≡ other
 one_refusal report held cause other p q = p ∙ sym q

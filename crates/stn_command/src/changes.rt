@@ -1,14 +1,13 @@
 //! What is told of changes of what a site holds.
 
-ghost use Rattle.std.specs.Prelude.{◌≡◌, ◌++◌, take, vec_len, OnOk, OnErr};
+ghost use Rattle.std.specs.Prelude.{◌≡◌, ◌++◌, OnOk, OnErr};
 ghost use Rattle.stn_site.specs.Lines.{line};
 ghost use Rattle.stn_records.specs.Id.{id_text};
 ghost use Rattle.stn_command.specs.Change.{made_by, made_text};
 
 use std::alloc::Allocator;
 use stn_records::Id;
-use stn_site::Change;
-use stn_text::all_or_nothing;
+use stn_site::{BoundName, Change, Piece, append_pieces};
 use stn_time::Memory;
 
 /// What a change made.
@@ -52,20 +51,12 @@ fn append_id_line<A: Allocator>(out: &mut Vec<u8, A>, words: &[u8], id: Id) -> R
     ensures printed { OnOk result (out.new.items ≡ out.old.items ++ line (words.now ++ id_text id)) }
     ensures kept { OnErr result (out.new.items ≡ out.old.items) }
 {
-    let before = out.len();
-    let outcome = append_words_and_id(out, words, id);
-    all_or_nothing(out, before, outcome)
-}
-
-fn append_words_and_id<A: Allocator>(
-    out: &mut Vec<u8, A>,
-    words: &[u8],
-    id: Id,
-) -> Result<(), Memory>
-    ensures printed { OnOk result (out.new.items ≡ out.old.items ++ line (words.now ++ id_text id)) }
-    ensures behind { take (vec_len out.old) out.new.items ≡ out.old.items }
-{
-    out.extend_from_slice(words)?;
-    id.print(out)?;
-    out.extend_from_slice(b"\n")
+    append_pieces(
+        out,
+        &[
+            Piece::Text(words),
+            Piece::Bound(BoundName::Record(id)),
+            Piece::Text(b"\n"),
+        ],
+    )
 }

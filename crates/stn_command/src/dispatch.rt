@@ -9,7 +9,7 @@ ghost use Rattle.stn_command.specs.Dispatch.{check_text, run_line, runs_text, ne
 use std::alloc::Allocator;
 use stn_net::{Event, Next, RehearseFault};
 use stn_questions::{append_event_line, next_with, rehearse_with};
-use stn_site::{BoundName, SitePlan};
+use stn_site::{BoundName, Piece, SitePlan, append_pieces};
 use stn_time::{Memory, Ms};
 
 /// Appends the name of the first bound that times break, or that they are a schedule. After an error a part of it may stand
@@ -21,11 +21,14 @@ pub fn append_check<B: Allocator>(
     ensures { OnOk result (out.new.items ≡ out.old.items ++ check_text broken) }
 {
     match broken {
-        Some(name) => {
-            out.extend_from_slice(b"broken ")?;
-            name.print(out)?;
-            out.extend_from_slice(b"\n")
-        }
+        Some(name) => append_pieces(
+            out,
+            &[
+                Piece::Text(b"broken "),
+                Piece::Bound(name),
+                Piece::Text(b"\n"),
+            ],
+        ),
         None => out.extend_from_slice(b"schedule\n"),
     }
 }
@@ -101,7 +104,14 @@ fn append_runs<B: Allocator>(out: &mut Vec<u8, B>, runs: &[(Ms, Event)]) -> Resu
 fn append_run_line<B: Allocator>(out: &mut Vec<u8, B>, time: Ms, event: Event) -> Result<(), Memory>
     ensures { OnOk result (out.new.items ≡ out.old.items ++ run_line time event) }
 {
-    out.extend_from_slice(b"run ")?;
-    time.print(out)?;
-    append_event_line(out, b" ", event)
+    append_pieces(
+        out,
+        &[
+            Piece::Text(b"run "),
+            Piece::Time(time),
+            Piece::Text(b" "),
+            Piece::Event(event),
+            Piece::Text(b"\n"),
+        ],
+    )
 }

@@ -2,7 +2,6 @@ use Rattle.std.{proofs.Common.{rules, ◌≡◌, ℤ, Vec, Result, true, inl, re
 use Rattle.stn_refusal.specs.declared.failure.Failure.{Failure}
 use Rattle.stn_lift.specs.PlanSource.{steps_of}
 use Rattle.stn_site.specs.Held.{Held}
-use Rattle.stn_questions.specs.declared.words.Outlook.TheVariants as outlook
 use Rattle.stn_questions.specs.declared.words.Outlook.{Outlook}
 use Rattle.stn_command.{specs.{Dispatch.{Choice, done_or_not_chosen}, Query.{Foresees, Says, has_steps, seen_choice, foresee}}, proofs.Chosen.chosen_own}
 use Rattle.stn_command.proofs.queries.foresee.Goals as goal
