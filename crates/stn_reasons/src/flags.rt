@@ -7,6 +7,7 @@ ghost use Rattle.stn_reasons.specs.Flags as spec;
 use std::alloc::Allocator;
 use stn_lift::{Base, Source};
 use stn_line::{Line, LogChange, LogQuestion, NameWords};
+use stn_site::{Piece, append_pieces};
 use stn_text::append_decimal;
 use stn_time::Memory;
 
@@ -89,11 +90,13 @@ pub fn append_names_count<A: Allocator>(
 ) -> Result<(), Memory>
     ensures { OnOk result (out.new.items ≡ out.old.items ++ spec.names_count_text steps name.now) }
 {
-    out.extend_from_slice(name.as_bytes())?;
-    append_decimal(
+    append_pieces(
         out,
-        b": its plan has another number of steps than the log's (",
-        steps,
-    )?;
-    out.extend_from_slice(b")\n")
+        &[
+            Piece::Text(name.as_bytes()),
+            Piece::Text(b": its plan has another number of steps than the log's ("),
+            Piece::Number(steps),
+            Piece::Text(b")\n"),
+        ],
+    )
 }

@@ -16,7 +16,7 @@ use crate::absent::absent_event;
 use crate::file::{append_file, is_of_plan, log_of, refused_file};
 use crate::flags::{append_flag, append_names_count, names_file, refused_names, steps_flag};
 use crate::fragile::fragile_text;
-use crate::telling::{append_absent, append_counts, append_refused_word};
+use crate::telling::{append_absent, append_counts, append_refused_word, text_of};
 use itoa::Buffer;
 use std::alloc::Allocator;
 use stn_asked::{RefusedWord, refused_word};
@@ -25,6 +25,7 @@ use stn_lift::Base;
 use stn_line::{Line, LogChange, LogQuestion, NewLog, SiteLog, meaning_of};
 use stn_records::Site;
 use stn_refusal::{Code, Failure, Fault, Refusal};
+use stn_site::{Piece, append_pieces};
 use stn_store::{Store, Trouble};
 use stn_time::Memory;
 
@@ -187,14 +188,18 @@ impl<'c, 'l, S: Store<A>, A: Allocator + Copy> RefusedCommand<'c, 'l, S, A> {
     fn about_code(&self) -> Result<Vec<u8, A>, Memory>
         ensures { IfOk result (λ text. text.items ≡ spec.code_told self.now.line.now) }
     {
-        let mut text = Vec::new(self.alloc);
-        if let Line::Explain { code: Some(word) } = self.line {
-            text.extend_from_slice(word.as_bytes())?;
-            text.extend_from_slice(
-                b": no number of a refusal, and no word of a fault (explain lists them)\n",
-            )?;
+        match self.line {
+            Line::Explain { code: Some(word) } => text_of(
+                self.alloc,
+                &[
+                    Piece::Text(word.as_bytes()),
+                    Piece::Text(
+                        b": no number of a refusal, and no word of a fault (explain lists them)\n",
+                    ),
+                ],
+            ),
+            _ => Ok(Vec::new(self.alloc)),
         }
-        Ok(text)
     }
 
     // What is not robust of the plan that the command loosens, where that can be found out.
@@ -306,19 +311,12 @@ impl<'c, 'l, S: Store<A>, A: Allocator + Copy> RefusedCommand<'c, 'l, S, A> {
         ensures { IfOk result (λ text. text.items ≡ spec.form_told base.now self.now.line.now) }
     {
         match refused_names(self.line, base) {
-            Some(told) => self.line_of(told),
+            Some(told) => text_of(
+                self.alloc,
+                &[Piece::Text(told.as_bytes()), Piece::Text(b"\n")],
+            ),
             None => self.about_counts(base.steps()),
         }
-    }
-
-    // A line of its own.
-    fn line_of(&self, told: &str) -> Result<Vec<u8, A>, Memory>
-        ensures { IfOk result (λ text. text.items ≡ told.now ++ line_feed ∷ []) }
-    {
-        let mut text = Vec::new(self.alloc);
-        text.extend_from_slice(told.as_bytes())?;
-        text.extend_from_slice(b"\n")?;
-        Ok(text)
     }
 
     // The line for times of which there are too many or too few, or for a file with names of other steps.
@@ -353,8 +351,7 @@ fn continued<A: Allocator>(line: Vec<u8, A>, other: &[u8]) -> Result<Vec<u8, A>,
     let mut text = line;
     let end = text.len().saturating_sub(1);
     text.truncate(end);
-    text.extend_from_slice(b"; ")?;
-    text.extend_from_slice(other)?;
+    append_pieces(&mut text, &[Piece::Text(b"; "), Piece::Text(other)])?;
     Ok(text)
 }
 

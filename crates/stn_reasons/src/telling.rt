@@ -1,4 +1,5 @@
-ghost use Rattle.std.specs.Prelude.{◌≡◌, ◌++◌, OnOk, OnErr, decimal};
+ghost use Rattle.std.specs.Prelude.{◌≡◌, ◌++◌, IfOk, OnOk, OnErr, decimal};
+ghost use Rattle.stn_site.specs.Pieces.{pieces_text};
 ghost use Rattle.stn_reasons.specs.Reasons.{absent_text, missing_text, no_event_of};
 ghost use Rattle.stn_reasons.specs.Told as spec;
 
@@ -6,6 +7,7 @@ use itoa::Buffer;
 use std::alloc::Allocator;
 use stn_asked::{Form, RefusedWord};
 use stn_refusal::{Code, Failure};
+use stn_site::{Piece, append_pieces};
 use stn_text::append_decimal;
 use stn_time::Memory;
 
@@ -76,11 +78,17 @@ pub fn append_counts<A: Allocator + Copy>(
     ensures told { OnOk result (out.new.items ≡ out.old.items ++ spec.times_count_text times events) }
     ensures kept { OnErr result (out.new.items ≡ out.old.items) }
 {
-    let mut line = Vec::new(alloc);
-    append_number(times, &mut line)?;
-    line.extend_from_slice(b" times for ")?;
-    append_number(events, &mut line)?;
-    line.extend_from_slice(b" events\n")?;
+    let mut of_times = Buffer::new();
+    let mut of_events = Buffer::new();
+    let line = text_of(
+        alloc,
+        &[
+            Piece::Text(of_times.format(times).as_bytes()),
+            Piece::Text(b" times for "),
+            Piece::Text(of_events.format(events).as_bytes()),
+            Piece::Text(b" events\n"),
+        ],
+    )?;
     out.extend_from_slice(&line)
 }
 
@@ -165,4 +173,13 @@ pub fn append_number<A: Allocator>(number: usize, out: &mut Vec<u8, A>) -> Resul
 {
     let mut buffer = Buffer::new();
     out.extend_from_slice(buffer.format(number).as_bytes())
+}
+
+/// A text of these pieces.
+pub fn text_of<A: Allocator>(alloc: A, pieces: &[Piece<'_>]) -> Result<Vec<u8, A>, Memory>
+    ensures { IfOk result (λ text. text.items ≡ pieces_text pieces.now) }
+{
+    let mut text = Vec::new(alloc);
+    append_pieces(&mut text, pieces)?;
+    Ok(text)
 }

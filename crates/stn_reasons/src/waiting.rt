@@ -4,9 +4,11 @@ ghost use Rattle.std.specs.Prelude.{◌≡◌, IfOk, option_map};
 ghost use Rattle.stn_reasons.specs.Waiting as spec;
 ghost use Rattle.stn_reasons.specs.Waiting.{TellsWaiting};
 
+use crate::telling::text_of;
 use std::alloc::Allocator;
 use stn_asked::refused_word;
 use stn_line::Line;
+use stn_site::Piece;
 use stn_store::Store;
 use stn_time::Memory;
 
@@ -45,8 +47,11 @@ fn changed_log<'a, A: Allocator + Copy>(
 fn waiting_text<A: Allocator>(alloc: A, name: &str) -> Result<Vec<u8, A>, Memory>
     ensures { IfOk result (λ text. text.items ≡ spec.waiting_text name.now) }
 {
-    let mut text = Vec::new(alloc);
-    text.extend_from_slice(name.as_bytes())?;
-    text.extend_from_slice(b": another program holds it, waiting\n")?;
-    Ok(text)
+    text_of(
+        alloc,
+        &[
+            Piece::Text(name.as_bytes()),
+            Piece::Text(b": another program holds it, waiting\n"),
+        ],
+    )
 }
