@@ -12,7 +12,6 @@ pub mod Printing
 pub mod Refused
 pub mod Values
 pub mod Windowing
-pub mod Behind
 pub mod Live
 pub mod Changes
 pub mod AllOwn

@@ -1,11 +1,8 @@
-use Rattle.std.proofs.Common.{rules, ◌≡◌, ◌++◌, sym, ◌∙◌, append_assoc}
+use Rattle.std.proofs.Common.{◌≡◌, ◌++◌, sym, ◌∙◌, append_assoc}
 use Rattle.stn_lift.specs.PlanSource.{events_of, base_bounds}
 use Rattle.stn_site.specs.Bounds.{all_bounds, live_bounds}
 use Rattle.stn_chart.specs.Chart.{floors}
 use Rattle.stn_chart.proofs.floors.windows_from.Goals as goal
-
-pub windows_with-requires : goal.windows_with-requires
-windows_with-requires g c = search rules
 
 pub returns : goal.returns
 returns g c =

@@ -1,4 +1,4 @@
-use Rattle.std.proofs.{Common.{rules, sym, ◌∙◌}, lemmas.Bool.false≢true}
+use Rattle.std.proofs.{Common.{sym, ◌∙◌}, lemmas.Bool.false≢true}
 use Rattle.stn_conflict.{specs.{declared.outgoing.Look.Look, Relaxation.IsRow, Named.IsLevelStep, Search.across}, proofs.Steps.{first_in_row, none_in_row, passed_more}}
 use Rattle.stn_conflict.proofs.levels.first_step.Goals as goal
 
@@ -14,9 +14,6 @@ returns-then-is_step g c =
     let into = c.across-into.ensures in
     let step : IsLevelStep searched.bounds start (across look.link) = rw into at (c.is_step.ensures.0 c.if-is_step.true) in
     rw into (first_in_row searched start c.args.event index looks c.requires.whole is c.loop-look-test.true (sym c.look-item.is) c.loop-look.invariant step)
-
-pub is_step-requires-clause-there : goal.is_step-requires-clause-there
-is_step-requires-clause-there g c = search rules
 
 pub loop-look-preserved : goal.loop-look-preserved
 loop-look-preserved g c =

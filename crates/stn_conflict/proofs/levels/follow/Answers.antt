@@ -1,4 +1,4 @@
-use Rattle.std.proofs.{Common.{rules, ◌≡◌, ℕ, Some, ◌<◌, ◌∷◌, ◌++◌, [], None, length, take, refl, sym, ap, ◌+◌, ◌∙◌, arith}, lemmas.{Bool.false≢true, List.{get_or_read, take_more, take_all}}}
+use Rattle.std.proofs.{Common.{◌≡◌, ℕ, Some, ◌<◌, ◌∷◌, ◌++◌, [], None, length, take, refl, sym, ap, ◌+◌, ◌∙◌, arith}, lemmas.{Bool.false≢true, List.{get_or_read, take_more, take_all}}}
 use Rattle.stn_conflict.{specs.{declared.levels.Walk.Walk, Arcs.arc_of, Relaxation.IsLook, Search.{event_at, level_at, LeadsOn}}, proofs.{Tightness.link_among, levels.follow.{Given.Over, Goals.{After-from-event, After-look-item, then-leads_on+in_ok-push, else-leads_on}}, Walks.{reached_at, level_low, following_begins, following_reaches, following_passes, following_ends}}}
 use Rattle.stn_conflict.proofs.levels.follow.Goals as goal
 
@@ -43,12 +43,6 @@ overflow_add-level g c = omega (arith, level_low)
 -- the look whose turn it is
 looked : (g : Over) (c : After-look-item g) → IsLook c.args.graph.now.bounds c.from-event.result c.look-item.result
 looked g c = search rules
-
-pub leads_on-requires : goal.leads_on-requires
-leads_on-requires g c = search rules
-
-pub index_mut-requires : goal.index_mut-requires
-index_mut-requires g c = search rules
 
 pub loop-look-preserved : goal.loop-look-preserved
 loop-look-preserved g c =

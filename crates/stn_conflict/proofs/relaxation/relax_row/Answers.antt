@@ -3,9 +3,6 @@ use Rattle.stn_net.specs.Schedule.{times_of}
 use Rattle.stn_conflict.{specs.{declared.outgoing.Look.Look, Relaxation.{IsLook, IsRelaxedOf, is_fresh}}, proofs.{Lowering.{freshens_on, lowers_on, still_relaxed}, Trying.{begun_on, tried, tried_refused}, relaxation.relax_row.{Given.Over, Goals.After-relax}}}
 use Rattle.stn_conflict.proofs.relaxation.relax_row.Goals as goal
 
-pub relax-requires : goal.relax-requires
-relax-requires g c = search rules
-
 -- the next link begins at the event, whose estimate was read before
 abbrev Begins : (g : Over) → After-relax g → Type 0
 Begins g c = IsLook c.args.graph.now.bounds c.args.event c.look-item.result × (times_of c.loop-look.far c.args.event ≤ℤ c.index-far-event.result)

@@ -1,4 +1,4 @@
-use Rattle.std.proofs.{Common.{rules, ◌≡◌, ◌+◌, ◌-◌, ◌/◌, ◌∙◌, length, ap, refl, sym, arith}, lemmas.{Bool.false≢true, List.Elements.All-take}}
+use Rattle.std.proofs.{Common.{◌≡◌, ◌+◌, ◌-◌, ◌/◌, ◌∙◌, length, ap, refl, sym, arith}, lemmas.{Bool.false≢true, List.Elements.All-take}}
 use Rattle.stn_conflict.{specs.Relaxation.NamesAmong, proofs.{Relaxing.{among_events, estimates_more, network_before}, Tightness.schedule_earlier}}
 use Rattle.stn_conflict.proofs.search.first_between.Goals as goal
 
@@ -33,6 +33,3 @@ loop-high-preserved g c =
       has = h.has;
       none = λ has. false≢true (sym c.if-settle.false ∙ c.settle.ensures.possible.1 (rw c.before-in-loop-high.ensures has));
     }
-
-pub returns-clause-first : goal.returns-clause-first
-returns-clause-first g c = search rules

@@ -1,4 +1,4 @@
-use Rattle.std.{proofs.{Common.{rules, ◌≡◌, ◌∷◌, [], arith, ap, length, ◌∙◌}, lemmas.{Int.ints, List.{reverse-append, length-reverse, get_or_read}}}, specs.Prelude.{pos, reverse}}
+use Rattle.std.{proofs.{Common.{◌≡◌, ◌∷◌, [], arith, ap, length, ◌∙◌}, lemmas.{Int.ints, List.{reverse-append, length-reverse, get_or_read}}}, specs.Prelude.{pos, reverse}}
 use Rattle.stn_net.specs.Schedule.{times_of}
 use Rattle.stn_conflict.{specs.{declared.links.Link.Link, Arcs.arc_of, Culprit.IsCulprit}, proofs.{CycleSums.cycle_of_way, Tightness.link_among, Relaxing.{among_events, network_before}}}
 use Rattle.stn_conflict.proofs.search.named.Goals as goal
@@ -14,9 +14,6 @@ refused_side-side-requires g c =
       named = c.requires.named c.args.place _ first.there;
       possible = first.before;
     }
-
-pub way_back-requires : goal.way_back-requires
-way_back-requires g c = search rules
 
 pub returns : goal.returns
 returns g c =

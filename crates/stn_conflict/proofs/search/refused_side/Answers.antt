@@ -1,13 +1,7 @@
-use Rattle.std.{proofs.{Common.{rules, ◌≡◌, ◌<◌, ◌∙◌, List, ap, length, take, arith}, lemmas.{Int.ints, List.get_or_read}}, specs.Prelude.{ℤ, pos, ◌+ℤ◌, ◌≤ℤ◌, ◌<ℤ◌}}
+use Rattle.std.{proofs.{Common.{◌≡◌, ◌<◌, ◌∙◌, List, ap, length, take, arith}, lemmas.{Int.ints, List.get_or_read}}, specs.Prelude.{ℤ, pos, ◌+ℤ◌, ◌≤ℤ◌, ◌<ℤ◌}}
 use Rattle.stn_net.specs.{Difference.Difference, Schedule.{HasSchedule, times_of}}
 use Rattle.stn_conflict.{specs.{Arcs.bound_at, Relaxation.{AreDistances, Searched}}, proofs.search.refused_side.{Given.Over, Goals.After-get}}
 use Rattle.stn_conflict.proofs.search.refused_side.Goals as goal
-
-pub find-requires : goal.find-requires
-find-requires g c = search rules
-
-pub find-requires-2 : goal.find-requires-2
-find-requires-2 g c = search rules
 
 -- the distance that is read is that to the event at which the upper side's link begins
 record Found (bounds : List Difference) (bound : Difference) (far : List ℤ) (read : ℤ) : Type 0 where

@@ -1,10 +1,7 @@
-use Rattle.std.proofs.Common.{rules, ◌≡◌, ◌<◌, ◌∙◌, arith}
+use Rattle.std.proofs.Common.{◌≡◌, ◌<◌, ◌∙◌, arith}
 use Rattle.stn_exchanges.{specs.Connections.{ServesSite, WithNext}, proofs.Served.{leads_more, leads_all, leads_out}}
 use Rattle.stn_store.proofs.Lacks.{passed_on}
 use Rattle.stn_exchanges.proofs.connections.serve_each.Goals as goal
-
-pub sites-init : goal.sites-init
-sites-init g c = search rules
 
 pub returns-in_err-_session : goal.returns-in_err-_session
 returns-in_err-_session g c =

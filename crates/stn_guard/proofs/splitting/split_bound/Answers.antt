@@ -2,12 +2,6 @@ use Rattle.std.{proofs.Common.{◌≡◌, true, sym, subst, rules}, specs.Prelud
 use Rattle.stn_guard.{specs.{Owners.{owner_of, is_shared}, Splitting.Splits}, proofs.Steps.arcs_of_one}
 use Rattle.stn_guard.proofs.splitting.split_bound.Goals as goal
 
-pub returns-then-not-is_shared : goal.returns-then-not-is_shared
-returns-then-not-is_shared g c = search rules
-
-pub split_sides-requires : goal.split_sides-requires
-split_sides-requires g c = search rules
-
 pub returns : goal.returns
 returns g c =
     let shared : is_shared (owner_of c.args.owners.now) c.args.bound.now ≡ true = first_of (cc, search rules) in

@@ -1,10 +1,6 @@
-use Rattle.std.proofs.Common.{rules}
 use Rattle.stn_effects.proofs.Endings.{makes_of}
 use Rattle.stn_logs.specs.Commands.{seen_outcome, IsGuarded, IsUnguarded}
 use Rattle.stn_logs.proofs.changes.make_update.Goals as goal
-
-pub returns-in-Change : goal.returns-in-Change
-returns-in-Change g c = search rules
 
 pub returns-in-Merge : goal.returns-in-Merge
 returns-in-Merge g c = rw c.in-Merge.is c.merge_log.ensures

@@ -1,9 +1,5 @@
-use Rattle.std.proofs.Common.{rules}
 use Rattle.stn_logs.proofs.Made.{save_ended}
 use Rattle.stn_logs.proofs.commands.save_new.Goals as goal
-
-pub returns-in_err-held : goal.returns-in_err-held
-returns-in_err-held g c = search rules
 
 pub returns : goal.returns
 returns g c =

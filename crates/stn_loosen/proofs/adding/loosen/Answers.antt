@@ -1,14 +1,8 @@
-use Rattle.std.proofs.Common.{rules, ◌≡◌, Ok, inr, sym, ap, ◌∙◌, subst}
+use Rattle.std.proofs.Common.{◌≡◌, Ok, inr, sym, ap, ◌∙◌, subst}
 use Rattle.stn_lift.specs.PlanSource.{PlanSource, base_of}
 use Rattle.stn_site.specs.{Bounds.all_bounds, Held.Held}
 use Rattle.stn_loosen.{specs.Asked.{Keep}, proofs.Refused.not_refused}
 use Rattle.stn_loosen.proofs.adding.loosen.Goals as goal
-
-pub plan_with-requires-clause-named : goal.plan_with-requires-clause-named
-plan_with-requires-clause-named g c = search rules
-
-pub plan_with-requires-clause-few : goal.plan_with-requires-clause-few
-plan_with-requires-clause-few g c = search rules
 
 pub returns : goal.returns
 returns g c =

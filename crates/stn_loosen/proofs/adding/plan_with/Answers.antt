@@ -11,9 +11,6 @@ loop-bound-init g c = record {
   holds = holds_none c.args.site c.in_ok-plan.plan.state c.in_ok-plan.ensures.empty;
 }
 
-pub add_bound-requires-clause-named : goal.add_bound-requires-clause-named
-add_bound-requires-clause-named g c = search rules
-
 pub add_bound-requires-clause-room : goal.add_bound-requires-clause-room
 add_bound-requires-clause-room g c = search (rules, next_passes)
 

@@ -2,9 +2,6 @@ use Rattle.std.proofs.Common.{rules}
 use Rattle.stn_loosen.{specs.Slack.IsSlack, proofs.Looser.keeps_plan}
 use Rattle.stn_loosen.proofs.plan.loosened.Goals as goal
 
-pub returns-in_err-making-clause-refused : goal.returns-in_err-making-clause-refused
-returns-in_err-making-clause-refused g c = search rules
-
 pub returns-then-robust : goal.returns-then-robust
 returns-then-robust g c = rw c.if-robust.true c.make_robust.ensures
 

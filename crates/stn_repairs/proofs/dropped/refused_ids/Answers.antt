@@ -4,9 +4,6 @@ use Rattle.stn_lift.specs.PlanSource.{base_bounds}
 use Rattle.stn_repairs.proofs.{Listing.named_at, Refusing.{IsRefusedSoFar, keeps_one, refuses_one, all_refused}, dropped.refused_ids.Goals.{then-not-branch+in_ok-push, else-not-branch}}
 use Rattle.stn_repairs.proofs.dropped.refused_ids.Goals as goal
 
-pub loop-id-init : goal.loop-id-init
-loop-id-init g c = search rules
-
 pub take-requires : goal.take-requires
 take-requires g c = search (rules, named_at)
 

@@ -6,12 +6,6 @@ use Rattle.stn_site.specs.Bounds.{bounds_of}
 use Rattle.stn_repairs.specs.Text.{repair_line, drop_line}
 use Rattle.stn_repairs.proofs.print.text_of.Goals as goal
 
-pub repairs_on-requires : goal.repairs_on-requires
-repairs_on-requires g c = search rules
-
-pub dropped_ids-requires : goal.dropped_ids-requires
-dropped_ids-requires g c = search rules
-
 pub returns : goal.returns
 returns g c =
     let all : c.bounds.result.now ++ c.deref-2.result.now ≡ base_bounds c.args.plan.now.source ++ bounds_of (live_of c.args.plan.now.state) = search rules in

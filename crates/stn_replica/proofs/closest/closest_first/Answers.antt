@@ -2,9 +2,6 @@ use Rattle.std.{proofs.{Common.{rules, sym, subst, ◌∙◌, arith}, lemmas.Lis
 use Rattle.stn_replica.{specs.Rows.in_turn, proofs.Rows.{in_rows_next, named_of}}
 use Rattle.stn_replica.proofs.closest.closest_first.Goals as goal
 
-pub loop-bound-init : goal.loop-bound-init
-loop-bound-init g c = search rules
-
 pub planned-requires : goal.planned-requires
 planned-requires g c =
     let named = named_of

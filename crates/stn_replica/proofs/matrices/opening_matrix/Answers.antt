@@ -18,9 +18,6 @@ tighten-fits-requires g c =
     c.bounds.ensures.value (c.from.ensures ∙ c.events-events.ensures.value) c.deref-bound-items.ensures.value c.in_ok-closest_first.ensures in
     search (rules, other_named)
 
-pub loop-bound-init : goal.loop-bound-init
-loop-bound-init g c = search rules
-
 pub loop-bound-preserved : goal.loop-bound-preserved
 loop-bound-preserved g c =
     let moved = others_are c.args.base.now

@@ -3,9 +3,6 @@ use Rattle.stn_net.specs.Difference.{NamesEvents}
 use Rattle.stn_site.proofs.Places.{walked_are, seen_with}
 use Rattle.stn_site.proofs.site_plan.all_name_events.Goals as goal
 
-pub returns-then-not-names_events : goal.returns-then-not-names_events
-returns-then-not-names_events g c = search rules
-
 pub loop-record-preserved : goal.loop-record-preserved
 loop-record-preserved g c =
     let items = walked_are c.args.records.now c.state.result.now c.additions.result.now c.entries-record-items.result.now c.entries-record-items.ensures.value c.additions.ensures c.state.ensures.value in

@@ -1,9 +1,6 @@
 use Rattle.std.proofs.{Common.{rules, refl}, lemmas.List.with_items_is}
 use Rattle.stn_conflict.proofs.relaxation.Search.relax_from.Goals as goal
 
-pub relax_row-requires : goal.relax_row-requires
-relax_row-requires g c = search rules
-
 pub returns : goal.returns
 returns g c =
     let e = rw (c.deref_mut.ensures.value, c.deref_mut-3.ensures.value) at c.relax_row.ensures in

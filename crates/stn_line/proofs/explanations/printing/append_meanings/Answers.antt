@@ -1,12 +1,5 @@
-use Rattle.std.proofs.Common.{rules}
 use Rattle.stn_line.proofs.explanations.Entries.{one_more, whole_list}
 use Rattle.stn_line.proofs.explanations.printing.append_meanings.Goals as goal
-
-pub loop-entry-init : goal.loop-entry-init
-loop-entry-init g c = search rules
-
-pub append_meaning-requires : goal.append_meaning-requires
-append_meaning-requires g c = search rules
 
 pub loop-entry-preserved : goal.loop-entry-preserved
 loop-entry-preserved g c =

@@ -13,9 +13,6 @@ all g c = search (rules, take_all)
 pub loop-bound-init : goal.loop-bound-init
 loop-bound-init g c = none_made c.args.self
 
-pub with_sides-requires-clause-named : goal.with_sides-requires-clause-named
-with_sides-requires-clause-named g c = search rules
-
 pub returns-in_err-moving-clause-fault : goal.returns-in_err-moving-clause-fault
 returns-in_err-moving-clause-fault g c =
     let returned = err_from_is_err_and c.from_residual.result c.from_residual.ensures.1 in
@@ -32,9 +29,6 @@ pub returns-clause-made : goal.returns-clause-made
 returns-clause-made g c =
     let made = all g (goal.at.returns-clause-made g c).After-loop-bound in
     IfOk-weaker c.possible_records.result _ _ (λ records is. (made.0, ap (λ l. record c.args.self { records = l }) (is ∙ ap (λ (m : Loosening). m.records) made.1), made.2)) c.possible_records.ensures.value
-
-pub returns-clause-possible : goal.returns-clause-possible
-returns-clause-possible g c = search rules
 
 pub returns-clause-fault : goal.returns-clause-fault
 returns-clause-fault g c =

@@ -1,4 +1,4 @@
-use Rattle.std.{proofs.{Common.{rules, ◌≡◌, ℕ, ◌<◌, ◌≤◌, ◌+ℤ◌, ◌≤ℤ◌, sym, ◌∙◌, arith, inl, inr}, lemmas.{Int.ints, Bool.cases_eq, List.Sorted.{All-permutation, IsPermutation-trans}}}, specs.Prelude.slice_index_or}
+use Rattle.std.{proofs.{Common.{◌≡◌, ℕ, ◌<◌, ◌≤◌, ◌+ℤ◌, ◌≤ℤ◌, sym, ◌∙◌, arith, inl, inr}, lemmas.{Int.ints, Bool.cases_eq, List.Sorted.{All-permutation, IsPermutation-trans}}}, specs.Prelude.slice_index_or}
 use Rattle.stn_net.{specs.Matrix.Table.entry, proofs.Closure.closed_within}
 use Rattle.stn_matrix.proofs.matrix.runs.gather.Goals.{then-far-onward, else-far-onward}
 use Rattle.stn_matrix.proofs.matrix.runs.gather.Goals as goal
@@ -74,6 +74,3 @@ loop-place-preserved g c =
         beyond = so_far.beyond;
       })
     ]
-
-pub returns-clause-beyond : goal.returns-clause-beyond
-returns-clause-beyond g c = search rules

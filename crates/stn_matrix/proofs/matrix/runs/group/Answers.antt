@@ -1,4 +1,4 @@
-use Rattle.std.proofs.Common.{rules, ◌≡◌, length, arith}
+use Rattle.std.proofs.Common.{◌≡◌, length, arith}
 use Rattle.stn_net.specs.Matrix.Table.{entry}
 use Rattle.stn_matrix.proofs.{Passing.{nearer_moved, runs_more}, matrix.runs.group.Goals.{then-begin-columns, else-begin-columns}}
 use Rattle.stn_matrix.proofs.matrix.runs.group.Goals as goal
@@ -19,6 +19,3 @@ loop-hub-preserved g c =
           rw (w.columns-is, w.ends-is, w.begin-is) (record { nearer = nearer; runs = runs }))
       | else-begin-columns w ↦ rw (w.columns-is, w.ends-is, w.begin-is) so_far
     ]
-
-pub returns-clause-runs : goal.returns-clause-runs
-returns-clause-runs g c = search rules

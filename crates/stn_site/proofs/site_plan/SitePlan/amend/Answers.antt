@@ -1,12 +1,9 @@
-use Rattle.std.proofs.{lemmas.Grind.common_steps, Common.{arith, rules, sym, ap, subst, ◌∙◌}}
+use Rattle.std.proofs.{lemmas.Grind.common_steps, Common.{arith, sym, ap, subst, ◌∙◌}}
 use Rattle.stn_net.specs.Difference.{IsBoundWithin}
 use Rattle.stn_lift.specs.PlanSource.{events_of}
 use Rattle.stn_records.specs.Content.{is_known}
 use Rattle.stn_site.{specs.Held.{Held, difference}, proofs.Refused.amend_known}
 use Rattle.stn_site.proofs.site_plan.SitePlan.amend.Goals as goal
-
-pub returns-in_err-bound-clause-fault : goal.returns-in_err-bound-clause-fault
-returns-in_err-bound-clause-fault g c = search rules
 
 pub returns-then-not-is_known-clause-fault : goal.returns-then-not-is_known-clause-fault
 returns-then-not-is_known-clause-fault g c = grind (arith, common_steps)

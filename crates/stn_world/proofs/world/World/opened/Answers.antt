@@ -3,9 +3,6 @@ use Rattle.stn_records.specs.Content.{Content}
 use Rattle.stn_world.{specs.Whole.IsSoundWorld, proofs.{Sites.{started_more, started_source, started_sound}, Copies.got}}
 use Rattle.stn_world.proofs.world.World.opened.Goals as goal
 
-pub loop-before-init : goal.loop-before-init
-loop-before-init g c = search rules
-
 pub index-requires : goal.index-requires
 index-requires g c = search (rules, length-map)
 

@@ -1,8 +1,5 @@
-use Rattle.std.proofs.Common.{rules, arith}
+use Rattle.std.proofs.Common.{arith}
 use Rattle.stn_matrix.proofs.matrix.square.Square.widen.Goals as goal
-
-pub loop-event-init : goal.loop-event-init
-loop-event-init g c = search rules
 
 pub returns : goal.returns
 returns g c =
