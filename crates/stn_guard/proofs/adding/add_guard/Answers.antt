@@ -13,6 +13,9 @@ made g c =
 within : (g : Over) (c : In-Some g) → are_within (steps_of c.args.plan.now.source) c.args.owned.now ≡ true
 within g c = cc
 
+pub add_each-requires : goal.add_each-requires
+add_each-requires g c = rw c.deref.ensures.value (made g (goal.at.add_each-requires g c).In-Some).named
+
 pub returns-in_err-add_each-in-Some-clause-fault : goal.returns-in_err-add_each-in-Some-clause-fault
 returns-in_err-add_each-in-Some-clause-fault g c =
     let at = (goal.at.returns-in_err-add_each-in-Some-clause-fault g c).In-Some in
