@@ -1,10 +1,9 @@
-ghost use Rattle.std.specs.Prelude.{◌≡◌, ◌++◌, OnOk, OnErr, decimal};
-ghost use Rattle.stn_site.specs.Lines.{line};
+ghost use Rattle.std.specs.Prelude.{◌≡◌, ◌++◌, OnOk, OnErr};
 ghost use Rattle.stn_exec.specs.Answer.{answer_text};
 
 use std::alloc::Allocator;
 use stn_command::Made;
-use stn_text::{all_or_nothing, append_decimal};
+use stn_site::{Piece, append_pieces};
 use stn_time::Memory;
 
 /// What a command that is no query answers.
@@ -29,19 +28,15 @@ impl Answer {
         match self {
             Answer::Changed(made) => made.print(out),
             Answer::Merged => out.extend_from_slice(b"merged\n"),
-            Answer::Sent(number) => append_line(out, b"packet ", *number),
+            Answer::Sent(number) => append_pieces(
+                out,
+                &[
+                    Piece::Text(b"packet "),
+                    Piece::Number(*number),
+                    Piece::Text(b"\n"),
+                ],
+            ),
             Answer::Delivered => out.extend_from_slice(b"delivered\n"),
         }
     }
-}
-
-// Appends a line of these words and the number's decimal form; nothing if memory runs out.
-fn append_line<A: Allocator>(out: &mut Vec<u8, A>, words: &[u8], number: u16) -> Result<(), Memory>
-    ensures printed { OnOk result (out.new.items ≡ out.old.items ++ line (words.now ++ decimal number)) }
-    ensures kept { OnErr result (out.new.items ≡ out.old.items) }
-{
-    let before = out.len();
-    append_decimal(out, words, number)?;
-    let outcome = out.extend_from_slice(b"\n");
-    all_or_nothing(out, before, outcome)
 }
