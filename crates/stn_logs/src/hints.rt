@@ -11,7 +11,7 @@ use stn_command::{read_event, read_id};
 use stn_line::{Line, LogChange};
 use stn_records::{Mark, Record, Records};
 use stn_refusal::Failure;
-use stn_site::SitePlan;
+use stn_site::{Piece, SitePlan, append_pieces};
 use stn_store::Store;
 use stn_time::Memory;
 
@@ -204,8 +204,7 @@ fn append_hints<A: Allocator>(hints: &[Hint<'_>], out: &mut Vec<u8, A>) -> Resul
 {
     match hints.split_first() {
         Some((first, more)) => {
-            out.extend_from_slice(b"hint: ")?;
-            append_hint(*first, out)?;
+            append_hint(b"hint: ", *first, out)?;
             append_more(more, out)?;
             out.extend_from_slice(b"\n")
         }
@@ -218,26 +217,37 @@ fn append_more<A: Allocator>(hints: &[Hint<'_>], out: &mut Vec<u8, A>) -> Result
     ensures { OnOk result (out.new.items ≡ out.old.items ++ spec.more_text hints.now) }
 {
     for hint in hints {
-        out.extend_from_slice(b"; ")?;
-        append_hint(*hint, out)?;
+        append_hint(b"; ", *hint, out)?;
     }
     Ok(())
 }
 
-// Appends what a hint says.
-fn append_hint<A: Allocator>(hint: Hint<'_>, out: &mut Vec<u8, A>) -> Result<(), Memory>
-    ensures { OnOk result (out.new.items ≡ out.old.items ++ spec.hint_text hint.entry) }
+// Appends a front and what a hint says.
+fn append_hint<A: Allocator>(
+    front: &[u8],
+    hint: Hint<'_>,
+    out: &mut Vec<u8, A>,
+) -> Result<(), Memory>
+    ensures { OnOk result (out.new.items ≡ out.old.items ++ (front.now ++ spec.hint_text hint.entry)) }
+{
+    let (word, rest) = hint_parts(hint);
+    append_pieces(
+        out,
+        &[Piece::Text(front), Piece::Text(word), Piece::Text(rest)],
+    )
+}
+
+// What a hint says: the word that it begins with, and the rest.
+fn hint_parts(hint: Hint<'_>) -> (&[u8], &[u8])
+    ensures { result.0.now ++ result.1.now ≡ spec.hint_text hint.entry }
 {
     match hint {
-        Hint::NoSide => out.extend_from_slice(b"the bound has no side, so it demands nothing"),
-        Hint::NotDone(id) => {
-            out.extend_from_slice(id.as_bytes())?;
-            out.extend_from_slice(b" said that an event was done, which no longer counts")
-        }
-        Hint::DoneTwice(event) => {
-            out.extend_from_slice(event.as_bytes())?;
-            out.extend_from_slice(b" is recorded as done twice")
-        }
-        Hint::NoSchedule => out.extend_from_slice(b"no schedule is left (see repairs)"),
+        Hint::NoSide => (b"", b"the bound has no side, so it demands nothing"),
+        Hint::NotDone(id) => (
+            id.as_bytes(),
+            b" said that an event was done, which no longer counts",
+        ),
+        Hint::DoneTwice(event) => (event.as_bytes(), b" is recorded as done twice"),
+        Hint::NoSchedule => (b"", b"no schedule is left (see repairs)"),
     }
 }
