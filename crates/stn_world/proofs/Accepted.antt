@@ -1,6 +1,6 @@
 -- What refuses a step, and what an accepted step tells.
 use Rattle.std.{proofs.Common.{rules, ◌≡◌, ◌≢◌, ℕ, ◌≤◌, true, ◌&&◌, leb, Option, Some, None, arith}, specs.{Prelude.{unwrap_or, option_map}, Bool.Decides, Option.option_or}}
-use Rattle.stn_refusal.specs.{declared.{code.Code.TheVariants.NoSite, failure.Failure.Failure}, Refusals.{refused, out_of_memory}}
+use Rattle.stn_refusal.specs.{declared.{code.Code.TheVariants.{NoSite, NoPacket}, failure.Failure.Failure}, Refusals.{refused, out_of_memory}}
 use Rattle.stn_records.specs.Content.{Content}
 use Rattle.stn_site.specs.{declared.{faults.ReplicaFault.ReplicaFault, change.Change.Change}, Change.change_refusal, Failures.replica_failure, Refusals.take_refusal}
 use Rattle.stn_site.specs.declared.faults.ReplicaFault.TheVariants as replica_fault
@@ -61,6 +61,10 @@ sending_free there inside = search (rules, part_decides)
 pub accepted_delivery : (world : World) (site number : ℕ) → IsAccepted world (delivered site number)
     → HasSite world site × (HasPacket world number × (take_refusal (held_at world site) (packet_at world number) ≡ None))
 accepted_delivery world site number e = search rules
+
+pub packet_missing : {world : World} {site number : ℕ} {failure : Failure} → HasSite world site → failure ≡ refused NoPacket → ¬ HasPacket world number
+    → failure ≡ unwrap_or (step_refusal world (delivered site number)) out_of_memory
+packet_missing there is gone = search rules
 
 pub delivery_refusal : (world : World) (site number : ℕ) → HasSite world site → HasPacket world number
     → step_refusal world (delivered site number) ≡ option_map replica_failure (take_refusal (held_at world site) (packet_at world number))

@@ -1,15 +1,19 @@
 -- The copies of a world's sites, each seen as what it holds.
-use Rattle.std.{proofs.{Common.{rules, ◌≡◌, ◌≢◌, ℕ, zero, suc, ◌+◌, ◌-◌, ◌<◌, List, [], ◌∷◌, length, map, set, get_or, refl, sym, subst, arith}, lemmas.List.{map-set, Edits.{get_or-remove_below, get_or-remove_above}}, Math.ListN.get_or-map}, specs.{List.{insert, remove}, Prelude.Result}}
+use Rattle.std.{proofs.{Common.{rules, ◌≡◌, ◌≢◌, ℕ, zero, suc, ◌+◌, ◌-◌, ◌<◌, List, [], ◌∷◌, length, map, set, get_or, refl, sym, subst, arith}, lemmas.List.{length-map, map-set, Edits.{get_or-remove_below, get_or-remove_above}}, Math.ListN.get_or-map}, specs.{List.{insert, remove}, Prelude.Result}}
 use Rattle.stn_lift.specs.PlanSource.{PlanSource}
 use Rattle.stn_records.specs.Content.{Content}
 use Rattle.stn_site.specs.Held.{Held}
 use Rattle.stn_refusal.specs.declared.failure.Failure.{Failure}
-use Rattle.stn_world.{specs.{Sites.world_of, Whole.IsSoundWorld, World.{World, HasSite}, Steps.Step}, proofs.Calls.{IsPlaced, IsTaken, world_stayed}}
+use Rattle.stn_world.{specs.{Sites.world_of, Whole.IsSoundWorld, World.{World, HasSite}, Steps.Step}, proofs.{Sites.place_within, Calls.{IsPlaced, IsTaken, world_stayed}}}
 
 module _ {C : Type 0} (held : C → Held) where
   -- ---- a copy at a place
   pub got : (copies : List C) (place : ℕ) (one : C) → one ≡ get_or copies place one → held one ≡ get_or (map held copies) place (held one)
   got copies place one same = cc (get_or-map held copies place one)
+
+  pub within : {world : World} {source : PlanSource} {packets : List Content} {place : ℕ} (copies : List C) → world_of source (map held copies) packets ≡ world
+      → place < length world.sites → place < length copies
+  within copies is there = omega (arith, place_within (map held copies) is there, length-map copies held)
 
   pub placed : {world : World} {source : PlanSource} {packets : List Content} {place site : ℕ} (copies : List C) (one : C)
       → world_of source (map held copies) packets ≡ world → IsSoundWorld source (map held copies) packets → place ≡ site - 1 → HasSite world site → one ≡ get_or copies place one

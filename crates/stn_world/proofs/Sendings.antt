@@ -1,6 +1,6 @@
 -- What refuses a call that sends, and what it leaves.
-use Rattle.std.{proofs.{Common.{rules, ◌≡◌, ◌≢◌, ◌↔◌, ℕ, ◌<◌, Bool, true, false, List, None, Result, Ok, Err, length}, lemmas.{Bool.false≢true, Result.err_from_is_err_and}}, specs.{Prelude.{unwrap_or, MatchResult}, Result.IsErrAnd}}
-use Rattle.stn_refusal.specs.{declared.{code.Code.TheVariants.Unknown, failure.Failure.Failure}, Refusals.{refused, out_of_memory}}
+use Rattle.std.{proofs.{Common.{rules, ◌≡◌, ◌≢◌, ◌↔◌, ℕ, ◌<◌, ◌≤◌, Bool, true, false, List, None, Result, Ok, Err, length}, lemmas.{Bool.false≢true, Result.err_from_is_err_and}}, specs.{Prelude.{unwrap_or, MatchResult}, Result.IsErrAnd}}
+use Rattle.stn_refusal.specs.{declared.{code.Code.TheVariants.{Unknown, TooManyPackets}, failure.Failure.Failure}, Refusals.{refused, out_of_memory}}
 use Rattle.stn_records.specs.{Id.SiteCounter, Content.{Content, AllHeld, part_of}, declared.faults.PartFault.PartFault}
 use Rattle.stn_records.specs.declared.faults.PartFault.TheVariants as part_fault
 use Rattle.stn_world.{specs.{Faults.part_failure, Parts.holds_all, World.{World, most_packets, HasSite, content_at}, Steps.{sent, IsAccepted, send_refusal}, Whole.IsCoherent}, proofs.{Accepted.sending_free, Parts.{part_sent, holds_all-decides}}}
@@ -13,6 +13,10 @@ failed A fault = Err fault
 pub part_made : {A : Type 0} {part : Result A PartFault} {given : Result A Failure} {one : A} → MatchResult part (λ x. given ≡ Ok x) (λ fault. IsErrAnd given (λ made. made ≡ part_failure fault))
     → given ≡ Ok one → part ≡ Ok one
 part_made cases was = search rules
+
+pub send_full : {world : World} {site : ℕ} (held : Bool) {failure : Failure} → HasSite world site → failure ≡ refused TooManyPackets → most_packets ≤ length world.packets
+    → failure ≡ unwrap_or (send_refusal world site held) out_of_memory
+send_full held there is full = search rules
 
 module _ (world : World) (site : ℕ) (there : HasSite world site) (room : length world.packets < most_packets) where
   -- nothing stands against a site that sends what it holds

@@ -1,9 +1,12 @@
-use Rattle.std.{proofs.{Common.{◌≡◌, set, sym, subst, ◌∙◌, map, ap}, lemmas.Result.on_err_weaker}, specs.{Prelude.IfOk, Rc.rc_value}}
+use Rattle.std.{proofs.{Common.{arith, ◌≡◌, set, sym, subst, ◌∙◌, map, ap}, lemmas.Result.on_err_weaker}, specs.{Prelude.IfOk, Rc.rc_value}}
 use Rattle.stn_records.specs.Id.{SiteCounter}
 use Rattle.stn_site.specs.Change.{change_id, IsAgain}
 use Rattle.stn_world.{specs.{Steps.changed, World.next_id_at}, proofs.{Sites.next_id_at-held, Calls.{IsPlaced, IsTaken, held, change_taken}, world.World.change.Given.Over}}
 use Rattle.stn_world.proofs.Copies as copy
 use Rattle.stn_world.proofs.world.World.change.Goals as goal
+
+pub index_mut-copy-requires : goal.index_mut-copy-requires
+index_mut-copy-requires g c = omega (arith, copy.within g.C.SiteCopy.held c.self.inside.copies.items c.self.view_is c.in_ok-place.ensures.within)
 
 placed : (g : Over) (c : goal.After-map_err g) → IsPlaced c.args.self.now (rc_value c.self.inside.base) (map g.C.SiteCopy.held c.self.inside.copies.items) c.self.inside.packets.items c.in_ok-place.place c.args.site (g.C.SiteCopy.held c.index_mut-copy.result.now)
 placed g c = copy.placed g.C.SiteCopy.held c.self.inside.copies.items c.index_mut-copy.result.now c.self.view_is c.self.invariant c.in_ok-place.ensures.place c.in_ok-place.ensures.there c.index_mut-copy.ensures.value

@@ -1,8 +1,16 @@
-use Rattle.std.{proofs.{Common.{rules, ◌≡◌, Result, refl, set, ◌∙◌, map, ap}, lemmas.Result.on_err_weaker}, specs.{Prelude.{⊤, IfOk}, Rc.rc_value}}
+use Rattle.std.{proofs.{Common.{rules, arith, ◌≡◌, Result, refl, set, ◌∙◌, map, ap}, lemmas.Result.{err_from_is_err_and, on_err_weaker}}, specs.{Prelude.{⊤, IfOk}, Rc.rc_value}}
 use Rattle.stn_site.specs.{Calls.took, Refusals.take_refusal}
-use Rattle.stn_world.{specs.{Steps.{delivered, IsDeliveryFailure}, World.packet_at}, proofs.{Accepted.delivery_refusal, Merges.delivery_agrees, Sites.{part_there, packet_there}, Calls.{IsPlaced, IsAnswer, IsTaken, held, take_taken, take_agreed}, world.World.deliver.Given.Over}}
+use Rattle.stn_world.{specs.{Steps.{delivered, IsDeliveryFailure}, World.packet_at}, proofs.{Accepted.{delivery_refusal, packet_missing}, Merges.delivery_agrees, Sites.{part_there, packet_there}, Calls.{IsPlaced, IsAnswer, IsTaken, held, take_taken, take_agreed}, world.World.deliver.Given.Over}}
 use Rattle.stn_world.proofs.Copies as copy
 use Rattle.stn_world.proofs.world.World.deliver.Goals as goal
+
+pub index_mut-requires : goal.index_mut-requires
+index_mut-requires g c = omega (arith, copy.within g.C.SiteCopy.held c.self.inside.copies.items c.self.view_is c.in_ok-place.ensures.within)
+
+pub returns-in_err-from-clause-step : goal.returns-in_err-from-clause-step
+returns-in_err-from-clause-step g c =
+    let p = err_from_is_err_and c.from_residual-in_err-from.result c.from_residual-in_err-from.ensures.1 in
+    rw (p.1, p.2) (packet_missing c.in_ok-place.ensures.there c.in_err-from.ensures.missing c.in_err-from.ensures.refused, refl)
 
 placed : (g : Over) (c : goal.After-map_err g) → IsPlaced c.args.self.now (rc_value c.self.inside.base) (map g.C.SiteCopy.held c.self.inside.copies.items) c.self.inside.packets.items c.in_ok-place.place c.args.site (g.C.SiteCopy.held c.index_mut.result.now)
 placed g c = copy.placed g.C.SiteCopy.held c.self.inside.copies.items c.index_mut.result.now c.self.view_is c.self.invariant c.in_ok-place.ensures.place c.in_ok-place.ensures.there c.index_mut.ensures.value

@@ -1,6 +1,6 @@
-use Rattle.std.{proofs.{Common.{rules, inl, ◌≡◌, ◌<◌, get_or, Result, set, length, map, refl, sym, ap, subst, ◌∙◌, arith}, lemmas.{List.length-map, Result.{err_from_is_err_and, on_err_weaker}}}, specs.{Prelude.{⊤, IfOk, IsOk, if◌then◌else◌, option_map}, List.insert, Rc.rc_value}}
+use Rattle.std.{proofs.{Common.{rules, inl, ◌≡◌, ◌<◌, get_or, Result, set, length, map, refl, sym, ap, subst, ◌∙◌, arith}, lemmas.Result.{err_from_is_err_and, on_err_weaker}}, specs.{Prelude.{⊤, IfOk, IsOk, if◌then◌else◌, option_map}, List.insert, Rc.rc_value}}
 use Rattle.stn_site.specs.{Calls.took, Failures.replica_failure, Refusals.take_refusal}
-use Rattle.stn_world.{specs.{Steps.{step_refusal, merged, IsMergeFailure}, World.{HasSite, held_at, content_at}}, proofs.{Accepted.{site_missing, merge_itself, merge_refusal, other_missing}, Sites.{place_within, part_there, held_there}, Calls.{IsPlaced, IsAnswer, IsTaken, held, take_taken, take_agreed}, Merges.{one_site, other_site, merged_itself, merge_agrees}, world.World.merge.{Given.Over, Goals.After-map_err}}}
+use Rattle.stn_world.{specs.{Steps.{step_refusal, merged, IsMergeFailure}, World.{HasSite, held_at, content_at}}, proofs.{Accepted.{site_missing, merge_itself, merge_refusal, other_missing}, Sites.{part_there, held_there}, Calls.{IsPlaced, IsAnswer, IsTaken, held, take_taken, take_agreed}, Merges.{one_site, other_site, merged_itself, merge_agrees}, world.World.merge.{Given.Over, Goals.After-map_err}}}
 use Rattle.stn_world.proofs.Copies as copy
 use Rattle.stn_world.proofs.world.World.merge.Goals as goal
 
@@ -36,9 +36,11 @@ returns-then-ours-theirs g c =
       agreed = tt;
     }
 
+pub remove-copy-requires : goal.remove-copy-requires
+remove-copy-requires g c = omega (arith, copy.within g.C.SiteCopy.held c.self.inside.copies.items c.self.view_is c.in_ok-ours.ensures.within)
+
 ours_within : (g : Over) (c : After-map_err g) → c.in_ok-ours.ours < length c.self.inside.copies.items
-ours_within g c =
-    omega (arith, place_within (map g.C.SiteCopy.held c.self.inside.copies.items) c.self.view_is c.in_ok-ours.ensures.within, length-map c.self.inside.copies.items g.C.SiteCopy.held)
+ours_within g c = copy.within g.C.SiteCopy.held c.self.inside.copies.items c.self.view_is c.in_ok-ours.ensures.within
 
 -- the copies with the one that took put back
 back : (g : Over) (c : After-map_err g) → c.insert-back.new.self.items ≡ set c.self.inside.copies.items c.in_ok-ours.ours c.take-outcome.new.self

@@ -1,9 +1,17 @@
-use Rattle.std.{proofs.{Common.{◌≡◌, List, Ok, refl, sym, subst, ap, ◌∙◌, map}, lemmas.Result.err_from_is_err_and}, specs.{Prelude.IfOk, Rc.rc_value}}
+use Rattle.std.{proofs.{Common.{arith, ◌≡◌, List, Ok, refl, sym, subst, ap, ◌∙◌, map}, lemmas.Result.err_from_is_err_and}, specs.{Prelude.IfOk, Rc.rc_value}}
 use Rattle.stn_records.specs.Content.{Content, part_of}
 use Rattle.stn_site.proofs.Values.{ok_not_err}
-use Rattle.stn_world.{specs.{Sites.world_of, World.content_at}, proofs.{Sites.held_there, Calls.{held, sent_sound, sent_taken}, Sendings.{send_memory, part_made, part_refused, holds_there, part_free}, world.World.send.{Given.Over, Goals.In_ok-part}}}
+use Rattle.stn_world.{specs.{Sites.world_of, World.content_at}, proofs.{Sites.held_there, Calls.{held, sent_sound, sent_taken}, Sendings.{send_full, send_memory, part_made, part_refused, holds_there, part_free}, world.World.send.{Given.Over, Goals.In_ok-part}}}
 use Rattle.stn_world.proofs.Copies as copy
 use Rattle.stn_world.proofs.world.World.send.Goals as goal
+
+pub index-requires : goal.index-requires
+index-requires g c = omega (arith, copy.within g.C.SiteCopy.held c.self.inside.copies.items c.self.view_is c.in_ok-place.ensures.within)
+
+pub returns-in_err-number : goal.returns-in_err-number
+returns-in_err-number g c =
+    let p = err_from_is_err_and c.from_residual-in_err-number.result c.from_residual-in_err-number.ensures.1 in
+    rw (p.1, p.2) (record { step = (send_full _ c.in_ok-place.ensures.there c.in_err-number.ensures.full c.in_err-number.ensures.refused, refl) })
 
 -- the part that was made
 made : (g : Over) (c : In_ok-part g) → c.part.result ≡ Ok c.in_ok-part.part

@@ -1,8 +1,16 @@
-use Rattle.std.{proofs.{Common.{rules, List, refl, ap, ◌∙◌, map}, lemmas.Result.err_from_is_err_and}, specs.Rc.rc_value}
+use Rattle.std.{proofs.{Common.{rules, arith, true, List, refl, ap, ◌∙◌, map}, lemmas.Result.err_from_is_err_and}, specs.Rc.rc_value}
 use Rattle.stn_records.specs.Content.{Content}
-use Rattle.stn_world.{specs.Sites.world_of, proofs.{Calls.{held, sent_sound, sent_taken}, Sendings.{send_memory, all_free}}}
+use Rattle.stn_world.{specs.Sites.world_of, proofs.{Calls.{held, sent_sound, sent_taken}, Sendings.{send_full, send_memory, all_free}}}
 use Rattle.stn_world.proofs.Copies as copy
 use Rattle.stn_world.proofs.world.World.send_all.Goals as goal
+
+pub index-requires : goal.index-requires
+index-requires g c = omega (arith, copy.within g.C.SiteCopy.held c.self.inside.copies.items c.self.view_is c.in_ok-place.ensures.within)
+
+pub returns-in_err-number : goal.returns-in_err-number
+returns-in_err-number g c =
+    let p = err_from_is_err_and c.from_residual-in_err-number.result c.from_residual-in_err-number.ensures.1 in
+    rw (p.1, p.2) (record { step = (send_full true c.in_ok-place.ensures.there c.in_err-number.ensures.full c.in_err-number.ensures.refused, refl) })
 
 pub returns-in_err-whole : goal.returns-in_err-whole
 returns-in_err-whole g c = search (rules, err_from_is_err_and)
