@@ -11,3 +11,6 @@ returns-clause-step g c = c.in_ok-change.ensures.step
 
 pub returns-clause-again : goal.returns-clause-again
 returns-clause-again g c = c.in_ok-change.ensures.again
+
+pub returns-in_err-change-clause-again : goal.returns-in_err-change-clause-again
+returns-in_err-change-clause-again g c = rw (err_from_is_err_and c.from_residual.result c.from_residual.ensures.1).1 c.in_err-change.ensures.again
