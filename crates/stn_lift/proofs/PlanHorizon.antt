@@ -1,6 +1,5 @@
 -- The bounds of the horizon, with which a plan's bounds begin.
-use Rattle.std.proofs.lemmas.Grind.{common_steps}
-use Rattle.std.proofs.Common.{◌≤◌, length, arith}
+use Rattle.std.proofs.{lemmas.Grind.common_steps, Common.{◌≤◌, length, arith}}
 use Rattle.stn_net.proofs.Horizons.{length-horizon_bounds}
 use Rattle.stn_lift.specs.PlanSource.{PlanSource, base_bounds, events_of, IsSoundSource}
 

@@ -1,6 +1,5 @@
 -- A source that has a base is sound.
-use Rattle.std.proofs.lemmas.Grind.{common_steps}
-use Rattle.std.{proofs.{Common.{rules, ◌≡◌, ℕ, ℤ, pos, ◌+◌, ◌*◌, ◌<◌, ◌≤◌, ◌+ℤ◌, ◌≤ℤ◌, zero, suc, Bool, false, cond, nat_lt, int_lt, List, [], ◌∷◌, length, find, Option, Some, None, Result, Ok, Err, All, refl, ap, subst, ◌∙◌, arith}, lemmas.{Int.ints, List.Elements.{All-head, All-tail}}}, specs.{Prelude.slice_index_or, List.AllByRecursion, Result.result_unwrap_or}}
+use Rattle.std.{proofs.{lemmas.{Grind.common_steps, Int.ints, List.Elements.{All-head, All-tail}}, Common.{rules, ◌≡◌, ℕ, ℤ, pos, ◌+◌, ◌*◌, ◌<◌, ◌≤◌, ◌+ℤ◌, ◌≤ℤ◌, zero, suc, Bool, false, cond, nat_lt, int_lt, List, [], ◌∷◌, length, find, Option, Some, None, Result, Ok, Err, All, refl, ap, subst, ◌∙◌, arith}}, specs.{Prelude.slice_index_or, List.AllByRecursion, Result.result_unwrap_or}}
 use Rattle.stn_text.{proofs.Readings.bind_ok}
 use Rattle.stn_time.specs.Time.{horizon}
 use Rattle.stn_pddl.{specs.{Tree.{Names.is_same_word, Scan.most_text}, declared.fault.DomainFault.DomainFault, Schemas.ActionSchema, Domains.{domain_of, action_named}, Sound.IsSound}, proofs.SoundActions.{domain-sound, domain-short, found-sound}}

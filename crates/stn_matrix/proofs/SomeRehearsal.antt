@@ -1,6 +1,5 @@
 -- The rest of a plan can be rehearsed, or an event is overdue.
-use Rattle.std.proofs.lemmas.Grind.{common_steps}
-use Rattle.std.{proofs.{Common.{rules, ◌≡◌, ◌≢◌, ◌⊎◌, inl, inr, ℕ, ℤ, zero, suc, ◌+◌, ◌≤◌, Bool, true, not, List, [], ◌∷◌, ◌++◌, refl, subst, arith, length-set}, lemmas.List.Sums.sum_by-set}, specs.Prelude.{count_by, slice_set}}
+use Rattle.std.{proofs.{lemmas.{Grind.common_steps, List.Sums.sum_by-set}, Common.{rules, ◌≡◌, ◌≢◌, ◌⊎◌, inl, inr, ℕ, ℤ, zero, suc, ◌+◌, ◌≤◌, Bool, true, not, List, [], ◌∷◌, ◌++◌, refl, subst, arith, length-set}}, specs.Prelude.{count_by, slice_set}}
 use Rattle.stn_net.{specs.{Difference.Difference, Matrix.Table.Table, declared.windows.answers.Next.{Next, TheVariants.{Run, AllDone, Overdue}}, Windows.{Dispatch.{IsLeft, IsNext}, Rehearsal.{fixed_at, IsRehearsal, IsRehearseFault}}}, proofs.Readiness.left_within}
 use Rattle.stn_matrix.proofs.{Rehearsals.{ready_can_be_fixed, none_overdue_after, overdue_cannot_wait}, Fixed.exact_fixed, SomeNext.{AreFlagged, some_next}}
 use Rattle.stn_net.specs.declared.windows.answers.RehearseFault.TheVariants as fault

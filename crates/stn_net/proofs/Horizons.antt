@@ -1,5 +1,4 @@
-use Rattle.std.proofs.lemmas.Grind.{common_steps}
-use Rattle.std.proofs.{Common.{rules, ◌≡◌, ℕ, ◌≤◌, zero, suc, List, [], ◌∷◌, ◌++◌, length, take, refl, arith, length-append}, lemmas.List.take-append-le}
+use Rattle.std.proofs.{lemmas.{Grind.common_steps, List.take-append-le}, Common.{rules, ◌≡◌, ℕ, ◌≤◌, zero, suc, List, [], ◌∷◌, ◌++◌, length, take, refl, arith, length-append}}
 use Rattle.stn_net.specs.{Difference.Difference, Horizon.{horizon_bound, horizon_bounds}}
 
 -- there is one horizon bound for each event

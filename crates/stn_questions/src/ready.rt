@@ -30,16 +30,16 @@ pub fn print_ready_with<A: Allocator + Copy, B: Allocator>(
     ensures kept { OnErr result (out.new.items ≡ out.old.items) }
 {
     let mut text = Vec::new(plan.alloc());
-    append_ready(plan, done, now, &mut text)?;
+    append_ready(&mut text, plan, done, now)?;
     out.extend_from_slice(&text)
 }
 
 // The same; if memory runs out, a part of it may stand there.
 fn append_ready<A: Allocator + Copy>(
+    out: &mut Vec<u8, A>,
     plan: &SitePlan<A>,
     done: &[bool],
     now: Ms,
-    out: &mut Vec<u8, A>,
 ) -> Result<(), Memory>
     requires { length done.now ≡ events_of plan.now.source + 1 }
     ensures { OnOk result ((text : List ℕ)

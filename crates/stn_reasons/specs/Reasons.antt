@@ -10,9 +10,8 @@ use Rattle.stn_refusal.specs.{Codes.number_of, declared.{failure.{Failure.{Failu
 use Rattle.stn_refusal.specs.declared.code.Code.TheVariants as code
 use Rattle.stn_refusal.specs.declared.failure.Fault.TheVariants as fault
 use Rattle.stn_asked.specs.{Words.{slack_read, word_refused}, declared.words.RefusedWord.RefusedWord}
-use Rattle.stn_reasons.specs.Loosening.{SaysFragile}
+use Rattle.stn_reasons.specs.{Loosening.SaysFragile, Absent.absent_event, Flags.{flag_text, names_count_text, names_file, names_refused, steps_flag}, Told.{events_text, times_count_text, word_text}}
 use Rattle.stn_store.specs.{Steps.Entries, Store.{IsUnopened, Opens}, declared.trouble.Trouble.Trouble}
-use Rattle.stn_reasons.specs.{Absent.absent_event, Flags.{flag_text, names_count_text, names_file, names_refused, steps_flag}, Told.{events_text, times_count_text, word_text}}
 
 -- ---- what a refusal is about
 -- the log of a command

@@ -5,8 +5,7 @@ use Rattle.stn_effects.specs.{Effects.{Effect, Then, Finds, Gives}, Printing.Wri
 use Rattle.stn_records.specs.Content.{Content}
 use Rattle.stn_site.specs.Held.{Held}
 use Rattle.stn_exec.specs.Runs.{RunsScript}
-use Rattle.stn_logs.specs.Commands.{DoesLine}
-use Rattle.stn_logs.specs.Hints.{IsHinted}
+use Rattle.stn_logs.specs.{Commands.DoesLine, Hints.IsHinted}
 use Rattle.stn_reasons.specs.Waiting.{TellsWaiting}
 use Rattle.stn_exchanges.specs.{Connections.{meeting, ServesSites, SendsTo}, Joining.shared, Peer.strangers}
 use Rattle.stn_shell.specs.{Coprocess.RunsShell, Outside.{Outside, InStore, InStreams, OnStandardOutput, Mentions}}

@@ -6,8 +6,7 @@ use Rattle.stn_device.specs.Bytes.{most_bytes}
 use Rattle.stn_effects.specs.{Effects.{Effect, Then, Repeats, Catches, Gives, seen}, Printing.{Device, Writes, TellsText}}
 use Rattle.stn_exec.specs.Script.{is_skipped}
 use Rattle.stn_line.specs.{Commands.stn, declared.words.{SiteLog.SiteLog, Line.{Line, TheVariants.{Run, Make, Change, Ask, Explain, Shell, Serve, Send}}}}
-use Rattle.stn_logs.specs.Commands.{DoesLine}
-use Rattle.stn_logs.specs.Hints.{IsHinted}
+use Rattle.stn_logs.specs.{Commands.DoesLine, Hints.IsHinted}
 use Rattle.stn_reasons.specs.{Reasons.IsReasonInLine, Waiting.TellsWaiting}
 use Rattle.stn_shell.specs.{Asking.{AskFor, no_text, not_of_shell}, Lines.TakesLine, Outside.{Outside, outside, InStore, Mentions, OnStandardOutput, OnError, TellsOnly}}
 use Rattle.stn_store.specs.Steps.{LoadsLog}

@@ -1,6 +1,5 @@
 -- Numbers with one more, and texts that grow by the text of one element.
-use Rattle.std.proofs.lemmas.Grind.{common_steps}
-use Rattle.std.{proofs.{Common.{rules, ◌≡◌, ℕ, zero, suc, ◌+◌, List, [], ◌∷◌, ◌++◌, length, take, get_or, ◌<◌, ap, arith, append_assoc}, lemmas.List.{append-nil, take_more, Concat.flat_map-append}}, specs.List.{flat_map, range_with_len}}
+use Rattle.std.{proofs.{lemmas.{Grind.common_steps, List.{append-nil, take_more, Concat.flat_map-append}}, Common.{rules, ◌≡◌, ℕ, zero, suc, ◌+◌, List, [], ◌∷◌, ◌++◌, length, take, get_or, ◌<◌, ap, arith, append_assoc}}, specs.List.{flat_map, range_with_len}}
 
 -- the numbers with one more
 pub range_push : (a n next : ℕ) → a + n ≡ next → range_with_len a (suc n) ≡ range_with_len a n ++ next ∷ []

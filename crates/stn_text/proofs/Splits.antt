@@ -1,6 +1,5 @@
 -- The first line of a text and the first word of a line.
-use Rattle.std.proofs.lemmas.Grind.{common_steps}
-use Rattle.std.{proofs.{Common.{rules, ◌≡◌, ℕ, ◌+◌, ◌<◌, Bool, true, false, List, [], ◌∷◌, ◌++◌, length, take, drop, take-append-drop, Some, None, arith, position}, lemmas.{Bool.eqb-true, List.{drop_more, Quantifiers.position-Some, Sums.fails_before_first, Splits.{length-slice_split, slice_split_none, slice_split_first}}}}, specs.List.slice_split}
+use Rattle.std.{proofs.{lemmas.{Grind.common_steps, Bool.eqb-true, List.{drop_more, Quantifiers.position-Some, Sums.fails_before_first, Splits.{length-slice_split, slice_split_none, slice_split_first}}}, Common.{rules, ◌≡◌, ℕ, ◌+◌, ◌<◌, Bool, true, false, List, [], ◌∷◌, ◌++◌, length, take, drop, take-append-drop, Some, None, arith, position}}, specs.List.slice_split}
 use Rattle.stn_text.specs.Lines.{is_line_end, is_gap, without_empty_last, lines_of, words_of, begins_with_gap}
 
 -- where no byte passes, the text is one part

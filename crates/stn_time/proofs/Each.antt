@@ -1,6 +1,5 @@
 -- What holds of each element of a list holds of the elements of its parts, and of one list after another.
-use Rattle.std.proofs.lemmas.Grind.{common_steps}
-use Rattle.std.{proofs.{Common.{rules, arith, List, [], ◌∷◌, ◌++◌}, lemmas.List.Elements.{All-from_recursion, recursion_from_All}}, specs.List.{All, AllByRecursion}}
+use Rattle.std.{proofs.{lemmas.{Grind.common_steps, List.Elements.{All-from_recursion, recursion_from_All}}, Common.{rules, arith, List, [], ◌∷◌, ◌++◌}}, specs.List.{All, AllByRecursion}}
 
 module _ {X : Type 0} (P : X → Type 0) where
   pub each_joined : (xs ys : List X) → AllByRecursion P xs → AllByRecursion P ys → AllByRecursion P (xs ++ ys)

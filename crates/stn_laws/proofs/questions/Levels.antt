@@ -1,6 +1,5 @@
 -- Where there are tightest differences along which chains lead, each event has its level and its way.
-use Rattle.std.proofs.lemmas.Grind.{common_steps}
-use Rattle.std.{proofs.{Common.{rules, ◌≡◌, inl, inr, ℕ, zero, suc, ◌+◌, ◌<◌, ◌≤◌, List, [], ◌∷◌, ◌++◌, length, refl, sym, subst, ap, ◌∙◌, arith}, lemmas.{Bool.{cases_lt, cases_eq}, Int.ints, List.length_push}}, specs.{Prelude.{ℤ, ◌+ℤ◌, ◌≤ℤ◌}, List.AllByRecursion}}
+use Rattle.std.{proofs.{lemmas.{Grind.common_steps, Bool.{cases_lt, cases_eq}, Int.ints, List.length_push}, Common.{rules, ◌≡◌, inl, inr, ℕ, zero, suc, ◌+◌, ◌<◌, ◌≤◌, List, [], ◌∷◌, ◌++◌, length, refl, sym, subst, ap, ◌∙◌, arith}}, specs.{Prelude.{ℤ, ◌+ℤ◌, ◌≤ℤ◌}, List.AllByRecursion}}
 use Rattle.stn_time.proofs.Each.{each_parted, each_pushed}
 use Rattle.stn_net.specs.Difference.{Difference, NamesEvents}
 use Rattle.stn_matrix.proofs.Told.{Told, both_told, told_as, same_told, least_below}

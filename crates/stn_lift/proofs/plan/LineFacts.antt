@@ -1,6 +1,5 @@
 -- How the first line of a text is taken off.
-use Rattle.std.proofs.lemmas.Grind.{common_steps}
-use Rattle.std.proofs.Common.{arith, ◌≡◌, ℕ, ◌+◌, List, [], ◌∷◌, length, refl}
+use Rattle.std.proofs.{lemmas.Grind.common_steps, Common.{arith, ◌≡◌, ℕ, ◌+◌, List, [], ◌∷◌, length, refl}}
 use Rattle.stn_text.specs.Lines as text
 use Rattle.stn_lift.specs.Plan.Lines.{lines_from}
 

@@ -8,9 +8,6 @@ told : (early late : Option (Bor (List ℕ))) (first second less more : ℤ) →
 unfolding slack_read
 told early late first second less more h5 h6 h7 h8 = search rules
 
-pub unwrap-requires : goal.unwrap-requires
-unwrap-requires c = search rules
-
 pub returns : goal.returns
 returns c =
     rw (rw c.unwrap.ensures at c.new.ensures.value)

@@ -1,6 +1,5 @@
 use Rattle.std.proofs.{Common.{map, subst, arith}, lemmas.List.take_all}
-use Rattle.stn_line.specs.{Commands.command, Table.{ReadsByShape, read_rule}}
-use Rattle.stn_line.proofs.Shapes.{grows}
+use Rattle.stn_line.{specs.{Commands.command, Table.{ReadsByShape, read_rule}}, proofs.Shapes.grows}
 use Rattle.stn_line.proofs.commands.command.Goals as goal
 
 pub words-preserved : goal.words-preserved

@@ -1,5 +1,4 @@
-use Rattle.std.proofs.Common.{rules}
-use Rattle.std.{proofs.Common.refl, specs.Prelude.{Result, OnOk, OnErr}}
+use Rattle.std.{proofs.Common.{rules, refl}, specs.Prelude.{Result, OnOk, OnErr}}
 use Rattle.stn_text.proofs.appending.all_or_nothing.Goals as goal
 
 on_err : {X E P : Type 0} (outcome : Result X E) → P → OnErr outcome P

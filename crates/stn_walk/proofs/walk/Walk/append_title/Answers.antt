@@ -1,6 +1,6 @@
 use Rattle.std.{proofs.{Common.{◌≡◌, ◌++◌, ◌==◌, false, codes, length, ap, sym, ◌∙◌}, lemmas.List.length-map}}
 use Rattle.stn_drawing.proofs.Grown.{then, last}
-use Rattle.stn_walk.specs.{Walk.{event_words, walk_bound}, Seen.seen_walk}
+use Rattle.stn_walk.specs.{Walk.event_words, Seen.seen_walk}
 use Rattle.stn_walk.proofs.walk.Walk.append_title.Goals as goal
 
 pub returns : goal.returns
