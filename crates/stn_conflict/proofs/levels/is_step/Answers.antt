@@ -1,4 +1,4 @@
-use Rattle.std.proofs.Common.{◌≡◌, ◌∙◌, ℕ, List, Option, Some, eqb-true, refl, sym, ap, arith}
+use Rattle.std.proofs.Common.{rules, ◌≡◌, ◌∙◌, ℕ, List, Option, Some, eqb-true, refl, sym, ap, arith}
 use Rattle.stn_net.specs.Difference.{Difference}
 use Rattle.stn_conflict.{specs.{declared.links.Link.Link, Arcs.arc_of, Search.level_at}, proofs.{Tightness.link_among, Steps.step_told, levels.is_step.{Given.Over, Goals.After-from-2}}}
 use Rattle.stn_conflict.proofs.levels.is_step.Goals as goal
