@@ -4,6 +4,7 @@ ghost use Rattle.stn_text.specs.Names.{event_text};
 use std::fmt;
 
 /// An event, by its number, as its name is printed.
+#[derive(Drop)]
 pub struct EventName(pub u16);
 
 impl fmt::Display for EventName {
