@@ -1,4 +1,4 @@
-use Rattle.std.proofs.{Common.{rules, inr, refl}, lemmas.Result.err_from_is_err_and}
+use Rattle.std.proofs.{Common.{inr, refl}, lemmas.Result.err_from_is_err_and}
 use Rattle.stn_effects.proofs.printing.print.Goals as goal
 
 pub returns-in_err-write_whole-clause-failed : goal.returns-in_err-write_whole-clause-failed
@@ -7,4 +7,4 @@ returns-in_err-write_whole-clause-failed g c =
     rw (p.1, p.2) (inr (refl, (c.in_err-write_whole.ensures.part, c.in_err-write_whole.ensures.failed)))
 
 pub returns-clause-printed : goal.returns-clause-printed
-returns-clause-printed g c = search rules
+returns-clause-printed g c = (c.in_ok-write_whole.ensures.written, c.in_ok-write_whole.ensures.kept)

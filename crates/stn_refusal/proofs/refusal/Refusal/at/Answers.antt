@@ -1,5 +1,4 @@
-use Rattle.std.proofs.Common.{rules}
 use Rattle.stn_refusal.proofs.refusal.Refusal.at.Goals as goal
 
 pub returns : goal.returns
-returns c = search rules
+returns c = c.placed.ensures
