@@ -1,5 +1,5 @@
-use Rattle.std.proofs.Common.{rules}
+use Rattle.std.proofs.Common.{◌*◌, ap}
 use Rattle.stn_lift.proofs.base.Base.events.Goals as goal
 
 pub returns-clause-value : goal.returns-clause-value
-returns-clause-value g c = search rules
+returns-clause-value g c = ap (λ steps. 2 * steps) c.steps.ensures.value

@@ -1,5 +1,4 @@
-use Rattle.std.proofs.Common.{rules}
 use Rattle.stn_lift.proofs.fault.FailureFromBaseFault.from.Goals as goal
 
 pub returns-in-TooManySteps : goal.returns-in-TooManySteps
-returns-in-TooManySteps c = search rules
+returns-in-TooManySteps c = rw c.in-TooManySteps.is c.refused.ensures
