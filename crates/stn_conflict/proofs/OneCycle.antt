@@ -1,4 +1,4 @@
-use Rattle.std.proofs.{Common.{rules, ◌≡◌, inl, inr, ℕ, zero, suc, ◌+◌, ◌≤◌, List, [], ◌∷◌, ◌++◌, length, take, sym, ap, refl, ◌∙◌, arith}, lemmas.{Bool.cases_order, List.length_push}}
+use Rattle.std.proofs.{Common.{rules, ◌≡◌, inl, inr, ℕ, zero, suc, ◌≤◌, List, [], ◌∷◌, ◌++◌, length, take, sym, ap, refl, ◌∙◌, arith}, lemmas.{Bool.cases_order, List.length_push}}
 use Rattle.stn_time.proofs.Each.{each_parted}
 use Rattle.stn_net.specs.{Difference.Difference, Schedule.HasSchedule}
 use Rattle.stn_conflict.{specs.{declared.links.{Link.Link, Side.Side}, Arcs.{arc_of, bound_at, rank, side_rank}, Culprit.{IsRefusedSide, IsCulprit}, Named.{IsLevel, IsLevelStep, IsFirstStep, IsWay, IsNamedCycle}}, proofs.{Tightness.schedule_earlier, Chains.{IsPushedChain, chain-unpush, last_of}}}

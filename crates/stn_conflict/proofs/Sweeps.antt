@@ -1,6 +1,6 @@
 -- Each sweep that lowers anything leaves fewer estimates above the highest times that are a floor: else all that are above these could be raised by one,
 -- and be a floor still.
-use Rattle.std.{proofs.{lemmas.{Grind.common_steps, Int.{ints, clamps, by_lt_z}, Bool.cases_eq}, Common.{rules, ◌≡◌, ℕ, zero, suc, ◌+◌, ◌<◌, ◌≤◌, inl, inr, Bool, false, List, length, refl, arith}}, specs.{Prelude.{ℤ, pos, negsuc, ◌+ℤ◌, ◌-ℤ◌, ◌≤ℤ◌, ◌<ℤ◌, All}, Int.{int_min, int_max}}}
+use Rattle.std.{proofs.{lemmas.{Grind.common_steps, Int.{ints, clamps, by_lt_z}, Bool.cases_eq}, Common.{rules, ◌≡◌, ℕ, zero, suc, ◌<◌, ◌≤◌, inl, inr, Bool, false, List, length, refl, arith}}, specs.{Prelude.{ℤ, pos, negsuc, ◌+ℤ◌, ◌-ℤ◌, ◌≤ℤ◌, ◌<ℤ◌, All}, Int.{int_min, int_max}}}
 use Rattle.stn_net.specs.{Difference.Difference, Schedule.times_of}
 use Rattle.stn_conflict.{specs.{Arcs.arc_of, Relaxation.{AreLimited, HasFallen, IsFloor, IsNetwork, IsRelaxedBut, Lowers, NamesAmong, is_fresh}}, proofs.{Relaxing.{all_relaxed, listed_more}, Tightness.link_among}}
 

@@ -1,4 +1,4 @@
-use Rattle.std.{proofs.{Common.{◌≡◌, ◌<◌, ◌∙◌, length, ap, arith}, lemmas.{Int.ints, List.{length-reverse, get_or_read}}}, specs.Prelude.{pos, reverse}}
+use Rattle.std.{proofs.{Common.{◌≡◌, ◌<◌, ◌∙◌, length, ap, arith}, lemmas.{Int.ints, List.{length-reverse, get_or_read}}}, specs.Prelude.{pos}}
 use Rattle.stn_net.specs.Schedule.{times_of}
 use Rattle.stn_conflict.proofs.CycleSums.{told_of_way}
 use Rattle.stn_conflict.proofs.ways.way_to.Goals as goal

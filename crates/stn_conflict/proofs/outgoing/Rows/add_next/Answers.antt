@@ -1,7 +1,7 @@
 use Rattle.std.{proofs.{lemmas.{Grind.common_steps, Int.ints, Bool.false≢true}, Common.{rules, ◌≡◌, ℕ, ℤ, ◌+◌, ◌*◌, ◌<◌, ◌≤◌, false, List, length, sym, ◌∙◌, arith}}, specs.Prelude.{◌||◌, ◌≤ℤ◌, nat_lt, int_lt}}
 use Rattle.stn_time.specs.Time.{horizon}
 use Rattle.stn_net.specs.Difference.{Difference}
-use Rattle.stn_conflict.{specs.{declared.{links.Link.Link, outgoing.Look.Look}, Arcs.{arc, arc_of, bound_at}, Directions.{faced, facing}, Relaxation.{IsListed, IsLook}}, proofs.{Rows.{rows_kept, rows_over, rows_push}, Steps.rank_within, outgoing.Rows.add_next.{Given.Over, Goals.{After-side_of-arc, then-link-self+in_ok-push, else-link-self+else-weight-lt-HORIZON}}}}
+use Rattle.stn_conflict.{specs.{declared.{links.Link.Link, outgoing.Look.Look}, Arcs.{arc_of, bound_at}, Directions.{facing}, Relaxation.{IsListed, IsLook}}, proofs.{Rows.{rows_kept, rows_over, rows_push}, Steps.rank_within, outgoing.Rows.add_next.{Given.Over, Goals.{After-side_of-arc, then-link-self+in_ok-push, else-link-self+else-weight-lt-HORIZON}}}}
 use Rattle.stn_conflict.proofs.outgoing.Rows.add_next.Goals as goal
 
 -- the link begins at one of the events

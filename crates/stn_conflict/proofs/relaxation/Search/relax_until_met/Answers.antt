@@ -1,4 +1,4 @@
-use Rattle.std.{proofs.{Common.{rules, ◌≡◌, ◌+◌, ◌<◌, length, refl, ap, sym, ◌∙◌, arith}, lemmas.Int.ints}, specs.Prelude.{pos, ◌<ℤ◌, All}}
+use Rattle.std.{proofs.{Common.{rules, ◌≡◌, ◌+◌, length, refl, ap, sym, ◌∙◌, arith}, lemmas.Int.ints}, specs.Prelude.{pos, ◌<ℤ◌, All}}
 use Rattle.stn_net.specs.{Schedule.times_of}
 use Rattle.stn_conflict.{specs.Relaxation.{Lowers, NamesAmong}, proofs.{Lowering.{fallen_fresh, lowers_none, lowers_on}, Relaxing.all_met, Sweeps.{above, above_least, above_most, fewer_above, some_highest}, relaxation.Search.relax_until_met.{Given.Over, Goals.{After-sweep, then-self-count-via-then-self-count, then-self-count-via-else-self-count+then-goes_round}}}}
 use Rattle.stn_conflict.proofs.relaxation.Search.relax_until_met.Goals as goal
