@@ -1,5 +1,5 @@
 -- The count of the ids of four lists in order, by the least first id.
-use Rattle.std.{proofs.{lemmas.{Grind.common_steps, Bool.{false≢true, and_right, not_from_true, and_parts}}, Common.{rules, ◌≡◌, suc, ◌+◌, ◌⊎◌, Bool, true, false, cond, not, ◌&&◌, ◌||◌, List, [], ◌∷◌, ◌++◌, Option, Some, None, is_some, slice_get, Less, Equal, Greater, is_eq, is_lt, sym, refl, ap, subst, ◌∙◌, inl, inr, ⊎_elim, arith}}, specs.{Cmp.{Equal-is, tied_itself}, Set.{distinct_count, is_member}, FinMap.{is_sorted, Entries.below_all}, Map.keys_of}}
+use Rattle.std.{proofs.{lemmas.{Grind.common_steps, Bool.{false≢true, and_right, not_from_true, and_parts}}, Common.{rules, ◌≡◌, suc, ◌⊎◌, Bool, true, false, cond, not, ◌&&◌, ◌||◌, List, [], ◌∷◌, ◌++◌, Option, Some, None, is_some, slice_get, Less, Equal, Greater, is_eq, is_lt, sym, refl, ap, subst, ◌∙◌, inl, inr, ⊎_elim, arith}}, specs.{Cmp.{Equal-is, tied_itself}, Set.{distinct_count, is_member}, FinMap.{is_sorted, Entries.below_all}, Map.keys_of}}
 use Rattle.stn_records.{specs.{Id.{SiteCounter, id_cmp, lesser_of}, Sorted.{first_key, past_id}, Content.same_ids, ContentLaws.{ids_total, ids_exact, lesser_none}}, proofs.{Entries.{less_is, greater_back, below_less}, KnownIds.{same_count, one_more, member-append}}}
 
 -- the id is not above the first id
