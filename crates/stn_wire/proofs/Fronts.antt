@@ -1,5 +1,5 @@
 -- Bytes have one front, and more bytes don't change a whole frame or a fault.
-use Rattle.std.proofs.{lemmas.{List.{take-append-le, get_or_append_left, get_or-take, get_or_past, take-take, drop-take}, Nat.{from_be_bytes-to_be_bytes_4, be_bytes_4}, Bool.cases_lt}, Common.{rules, ◌≡◌, ℕ, ◌+◌, ◌-◌, ◌<◌, ◌≤◌, List, ◌++◌, length, take, drop, get_or, ◌⊎◌, sym, ap, ◌∙◌, ⊎_elim, arith, length-append, length-take, length-drop, take-append-drop}}
+use Rattle.std.proofs.{lemmas.{List.{take-append-le, get_or_append_left, get_or-take, get_or_past, take-take, drop-take}, Nat.{from_be_bytes-to_be_bytes_4, be_bytes_4}, Bool.cases_lt}, Common.{rules, ◌≡◌, ℕ, ◌+◌, ◌-◌, ◌<◌, ◌≤◌, List, ◌++◌, length, take, drop, get_or, sym, ap, ◌∙◌, ⊎_elim, arith, length-append, length-take, length-drop, take-append-drop}}
 use Rattle.stn_wire.specs.{Spelling.four, declared.fault.WireFault.WireFault, Reading.IsWanted, Frame.{FrameContent, body_of, HasSpelling}, Front.{whole, faulty, announced, IsLength, IsKind, IsFront}}
 
 -- the first four bytes alone say what is announced

@@ -8,11 +8,6 @@ pub record IsWithin (side : ℤ) : Type 0 where
   pub least : neg_ℤ old_horizon ≤ℤ side
   pub greatest : side ≤ℤ old_horizon
 
--- a side that a layout spells as it was written
-pub record IsSideRead (Valid : ℤ → Type 0) (written read : ℤ) : Type 0 where
-  pub valid : Valid read
-  pub spelled : side_bytes Old read ≡ written_side written
-
 kept : (side : ℤ) → IsWithin side → side_bytes Old side ≡ written_side side
 kept side within = cc (gap_within Old side within.greatest)
 

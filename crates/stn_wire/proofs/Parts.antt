@@ -1,5 +1,5 @@
 -- Fields that are read and written one after the other.
-use Rattle.std.{proofs.Common.{rules, ◌≡◌, ℕ, ℤ, ◌≤◌, List, ◌++◌, take, drop, Option, Result, Ok, Err, OnOk, IfOk, IfErr, sym, ap, subst, ◌∙◌, append_assoc, take-append-drop}, specs.Result.result_ok}
+use Rattle.std.{proofs.Common.{rules, ◌≡◌, ℕ, ℤ, ◌≤◌, List, ◌++◌, take, drop, Option, Result, OnOk, IfOk, IfErr, append_assoc, take-append-drop}, specs.Result.result_ok}
 use Rattle.stn_net.specs.{Event.most_events, Difference.{Difference, IsBoundWithin, IsFaultOf}, declared.bound.BoundFault.BoundFault}
 use Rattle.stn_records.specs.declared.record.Mark.{Mark}
 use Rattle.stn_wire.specs.{declared.layout.Layout.Layout, Reading.IsReadFrom, Spelling.{two, side_bytes, IsLow, IsHigh, bound_bytes, IsBound}}
@@ -24,8 +24,4 @@ module _ (layout : Layout) (mark : Mark) (bytes first second third fourth : List
   -- a bound is read from its four fields
   pub bound_read : (r : Result Difference BoundFault) (o : Option Difference) → IfOk r (λ bound. bound ≡ made) → IfOk r (λ bound. IsBoundWithin most_events bound) → IfErr r (λ fault. IsFaultOf most_events made fault) → o ≡ result_ok r
       → IsReadFrom (IsBound layout mark) (bound_bytes layout) bytes o
-  bound_read (Ok bound) o is sound fault e = subst (IsReadFrom (IsBound layout mark) (bound_bytes layout) bytes) (sym e) (
-    record { sound = sound; lo = subst (λ (b : Difference). IsLow layout mark b.lo) (sym is) lo_known; hi = subst (λ (b : Difference). IsHigh layout mark b.hi) (sym is) hi_known },
-    spelled ∙ ap (bound_bytes layout) (sym is),
-  )
-  bound_read (Err found) o is sound fault e = search rules
+  bound_read r o is sound fault e = search rules
