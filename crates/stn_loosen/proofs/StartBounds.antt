@@ -3,7 +3,7 @@ use Rattle.std.proofs.{lemmas.{Grind.common_steps, List.{append-nil, get_or_read
 use Rattle.stn_net.{specs.{Difference.{Difference, NamesEvents}, Event.event_text, Horizon.horizon_bounds, Schedule.{Meets, HasSchedule}}, proofs.{Horizons.length-horizon_bounds, Schedules.met_behind, Widest.{horizon_each, horizon_named}}}
 use Rattle.stn_lift.specs.PlanSource.{PlanSource, events_of, IsSoundSource}
 use Rattle.stn_time.specs.Text.{printed}
-use Rattle.stn_conflict.specs.{declared.links.{Link.Link, Side.{Side, TheVariants.{Upper, Lower}}}, Arcs.bound_at}
+use Rattle.stn_conflict.specs.{declared.links.{Link.Link, Side.Side}, Arcs.bound_at}
 use Rattle.stn_site.specs.{declared.names.BoundName.TheVariants.Plan, Names.name_text, Lines.{side_text, side_limit}}
 use Rattle.stn_loosen.{specs.{declared.span.Span.Span, Slack.{Slack, IsSlack}, Moved.{moved_upper, moved_lower, moved_bounds}, Loosened.loose_durations, Robust.{loose_bounds, HasPromise}, Stepped.{as_bound, IsWithinReach, IsHalfOpen}, Starting.IsStart, Fragile.{start_bounds, origin_place, mover_text, with_sides, start_line}}, proofs.{Steps.source_steps, Looser.all_between, Settings.{moved_all, moved_each}, Sides.sides_named, Robustness.{starts_met, promise_iff}}}
 
@@ -69,8 +69,7 @@ origin_at events bounds place at bound some there is here = search (rules, get_o
 
 -- a side of a bound with the sides of another
 moved_limit : (bound moved : Difference) (side : Side) → side_limit (with_sides bound moved) side ≡ side_limit moved side
-moved_limit bound moved Upper = refl
-moved_limit bound moved Lower = refl
+moved_limit bound moved side = cc
 
 module _ (events : ℕ) (durations bounds starts : List Difference) (link : Link) where
   pub line_made : (number : ℕ) (bound moved : Difference) (out first second third : List ℕ) → number ≡ origin_place events link.place + 1
