@@ -6,13 +6,13 @@ use Rattle.stn_site.{specs.{Bounds.live_bounds, Names.live_ids, Lines.{conflict_
 use Rattle.stn_site.proofs.site_plan.SitePlan.append_conflict.Goals as goal
 
 ids_is : (g : Over) (c : After-bounds-base g) → c.as_slice-ids.result.now ≡ live_ids c.args.self.now.state
-ids_is g c = cc (c.in_ok-all_ids.ensures)
+ids_is g c = c.as_slice-ids.ensures.value ∙ c.in_ok-all_ids.ensures
 
 others_is : (g : Over) (c : After-bounds-base g) → c.as_slice-others.result.now ≡ live_bounds c.args.self.now.state
-others_is g c = cc (c.in_ok-all_others.ensures.value)
+others_is g c = c.as_slice-others.ensures.value ∙ c.in_ok-all_others.ensures.value
 
 base_is : (g : Over) (c : After-bounds-base g) → c.bounds-base.result.now ≡ base_bounds c.args.self.now.source
-base_is g c = cc
+base_is g c = c.bounds-base.ensures.value ∙ ap base_bounds c.base.ensures
 
 pub cycle-requires-clause-extra_named : goal.cycle-requires-clause-extra_named
 cycle-requires-clause-extra_named g c =
