@@ -1,5 +1,5 @@
 -- Something comes next, whichever events are left.
-use Rattle.std.proofs.{Common.{rules, ◌≡◌, ◌⊎◌, inl, inr, ℕ, ℤ, zero, suc, pos, ◌+◌, ◌<◌, ◌≤◌, ◌<ℤ◌, Bool, List, length, Option, Some, None, refl, sym, arith}, lemmas.{Bool.cases_lt, Int.{ints, by_lt_z}}}
+use Rattle.std.proofs.{Common.{rules, ◌≡◌, ◌⊎◌, inl, inr, ℕ, ℤ, zero, suc, pos, ◌+◌, ◌≤◌, ◌<ℤ◌, Bool, List, length, Option, Some, None, refl, sym, arith}, lemmas.{Bool.cases_lt, Int.{ints, by_lt_z}}}
 use Rattle.stn_net.{specs.{Difference.Difference, Matrix.{Table.{Table, far_of}, Tightest.IsExact}, declared.windows.answers.Next.{Next, TheVariants.{Run, AllDone, Overdue}}, Windows.{Dispatch.{IsLeft, IsNext}, Leading.{earliest, MayLead, NonePast, CanLead, IsFirstPast, IsLeastLatest, IsLeastLeader, IsEarliestSoFar, earlier_of}}}, proofs.{Readiness.left_within, Ends.{latest_of_exact, past_is_overdue}}}
 use Rattle.stn_matrix.proofs.{Told.{Told, both_told, less_told, least_below}, Coming.{leader_is_first, earliest_is_first, one_more_run, same_first}}
 

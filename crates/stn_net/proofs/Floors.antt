@@ -1,5 +1,5 @@
 -- Floors: bounds that let no event that is left come before now.
-use Rattle.std.{proofs.{lemmas.{Int.ints, Bool.cases_lt, List.Elements.{All-append, All-contains, All-push, Contains-append_left, Contains-push}}, Common.{◌≡◌, inl, inr, ℕ, ℤ, ◌+◌, ◌≤◌, ◌≤ℤ◌, ◌↔◌, Bool, List, [], ◌∷◌, ◌++◌, length, get_or, refl, subst, arith}}, specs.{Prelude.All, List.Contains}}
+use Rattle.std.{proofs.{lemmas.{Int.ints, Bool.cases_lt, List.Elements.{All-append, All-contains, All-push, Contains-append_left, Contains-push}}, Common.{◌≡◌, inl, inr, ℕ, ℤ, ◌+◌, ◌≤ℤ◌, ◌↔◌, Bool, List, [], ◌∷◌, ◌++◌, length, get_or, refl, subst, arith}}, specs.{Prelude.All, List.Contains}}
 use Rattle.stn_time.{proofs.Each.All-right, specs.Time.horizon}
 use Rattle.stn_net.{specs.{Difference.{Difference, NamesEvents}, Schedule.{IsSchedule, HasSchedule, Meets}, Windows.{Dispatch.{IsLeft, LeavesNoneBefore, CanWaitUntil}, Leading.{floor_at, AreFloorsBelow}, Soonest.{AreEarliest, AreSoonest}}}, proofs.{Closure.schedule_before, Readiness.left_within, Ends.earliest_schedule}}
 

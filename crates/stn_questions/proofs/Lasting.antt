@@ -1,5 +1,5 @@
 -- How long the steps of a plan last, by its bounds.
-use Rattle.std.{proofs.{Common.{rules, ◌≡◌, ℕ, ◌+◌, ◌*◌, ◌<◌, ◌≤◌, List, [], ◌++◌, length, drop, get_or, Result, Ok, length-append, length-drop}, lemmas.List.{get_or-drop, get_or_append_left, get_or-append_right}}, specs.Result.result_unwrap_or}
+use Rattle.std.{proofs.{Common.{rules, ◌≡◌, ℕ, ◌*◌, ◌<◌, ◌≤◌, List, [], ◌++◌, length, drop, get_or, Result, Ok, length-append, length-drop}, lemmas.List.{get_or-drop, get_or_append_left, get_or-append_right}}, specs.Result.result_unwrap_or}
 use Rattle.stn_lift.{proofs.{FewBounds.{length-duration_bounds, duration_at}, Steps.length-activities}, specs.{declared.{plan.fault.PlanFault.PlanFault, fault.BaseFault.BaseFault}, Plan.Steps.{PlannedStep, plan_of}, Activities.Activity, BaseBounds.{duration_of, lifted_bounds}, PlanSource.{files, steps_in, lifted, activities_of, source_with, base_of, base_bounds, events_of, IsSoundSource}}}
 use Rattle.stn_net.{specs.Difference.Difference, proofs.Horizons.length-horizon_bounds}
 use Rattle.stn_pddl.specs.{declared.fault.DomainFault.DomainFault, Schemas.ActionSchema, Domains.domain_of}

@@ -1,5 +1,5 @@
 -- The numbers that digits write, as the code adds them up.
-use Rattle.std.{proofs.Common.{rules, ◌≡◌, ℕ, suc, ◌+◌, ◌-◌, ◌*◌, ◌<◌, min, Bool, cond, ◌&&◌, List, [], ◌∷◌, length, ℤ, pos, neg_ℤ, refl, eqb}, specs.{Char.is_ascii_digit, List.prefix_len, Str.all_ascii_digits}}
+use Rattle.std.{proofs.Common.{rules, ◌≡◌, ℕ, suc, ◌+◌, ◌*◌, ◌<◌, min, Bool, cond, ◌&&◌, List, [], ◌∷◌, length, ℤ, pos, neg_ℤ, refl, eqb}, specs.{Char.is_ascii_digit, List.prefix_len, Str.all_ascii_digits}}
 use Rattle.stn_time.specs.{Near.IsNear, TimeOf.is_numeral, declared.reading.TheConstants.BEYOND}
 
 -- the digits reach to the end exactly where there is nothing else
