@@ -4,10 +4,9 @@ of crates, and whether the gate keeps to its budget.
 
 usage: bench/gate.py [JOBS]    so many proofs at once, or as many as RT_JOBS says, or else as many as there are processors
 
-Once a second it asks the system how long each process of the prover has run. The first check of a crate's edits proves the
-whole crate, and later ones begin with what it proved: this is the base, with which the check of the unchanged crate after
-the last edit is counted. So a crate's first edit has no time of its own. A process that begins and ends within a second is
-missed; the line `in all` counts everything.
+Once a second it asks the system how long each process of the prover has run. Edits begin with what a check of the unchanged
+crate proved: this is the base, with which another such check after the last edit is counted. A process that begins and ends
+within a second is missed; the line `in all` counts everything.
 
 - Machines differ, and so does one from hour to hour. So it says how long rt selftest, which is the same work everywhere, took before
   and after the gate.
@@ -68,7 +67,7 @@ class Gate:
     """The run of a gate, as far as it was seen."""
 
     def __init__(self, process):
-        self.process, self.seen, self.checks, self.begun = process, {}, {}, set()
+        self.process, self.seen, self.checks = process, {}, {}
         self.edits = {}
         for folder in os.listdir(f"{TOP}/crates"):
             edits = f"{TOP}/crates/{folder}/must-fail"
@@ -82,14 +81,10 @@ class Gate:
                 return name
         return ""
 
-    def part_of_edit(self, folder, crate, words):
-        """Returns the part to which the check in such a folder belongs: the base if it is the first that keeps its work in
-        its place, or if nothing is edited."""
+    def part_of_edit(self, folder, crate):
+        """Returns the part to which the check in such a folder belongs: the base if nothing is edited."""
         if folder not in self.checks:
-            kept = words[words.index("--incremental") + 1] if "--incremental" in words else ""
-            is_first = kept != "" and kept not in self.begun
-            self.begun.add(kept)
-            name = "" if is_first or os.path.basename(kept) == "seed" else self.edit_in(folder, crate)
+            name = self.edit_in(folder, crate)
             self.checks[folder] = ("edits", crate, name) if name else ("base", crate, "")
         return self.checks[folder]
 
@@ -104,7 +99,7 @@ class Gate:
         except OSError:
             return None
         if os.path.basename(folder).startswith("rt-edit-"):
-            return self.part_of_edit(folder, crate, words)
+            return self.part_of_edit(folder, crate)
         return ("tests" if "--test" in words else "proof"), crate, ""
 
     def sample(self):
