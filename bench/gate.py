@@ -15,7 +15,7 @@ within a second is missed; the line `in all` counts everything.
 - A library with more than one edit is proved once more, as the base. With one edit it has no base: the edit is tried from
   nothing, which costs what the base alone would.
 - Each edit costs a check of its crate, which reads all libraries below: 5 seconds of one processor in stn_refusal, 9 to 14 in most
-  crates, and 5 to 10 more for the functions that it and the edit before it changed.
+  crates, and 5 to 10 more for the functions that it changes and their callers.
 - A program of tests is proved once and compiled twice. One with a single line over stn_shell takes one and a half to four minutes
   of one processor. So cases are a module of another program. A program has one stored run: stn shows that a process ends with 0,
   answers with 1, command_lines with 2.
